@@ -6,6 +6,7 @@ pub mod PutsInRow
 pub mod TurnsLemmas
 pub mod FrameStack
 pub mod HoldingLemmas
+pub mod TextLemmas
 pub mod OpenLists
 pub mod OwedHeld
 pub mod ScopeSizes

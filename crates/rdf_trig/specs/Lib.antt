@@ -5,6 +5,7 @@ pub mod Quads
 pub mod Events
 pub mod Documents
 pub mod Owed
+pub mod Texts
 pub mod Refusals
 pub mod Language
 pub mod ReadWhole

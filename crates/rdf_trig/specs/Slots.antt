@@ -1,18 +1,28 @@
 -- What a text that is used again stands for, by its kind.
-use Rattle.std.specs.Prelude.{ℕ, List, Some, ⊤}
+use Rattle.std.specs.Prelude.{ℕ, List, [], ◌∷◌, Option, Some, None, ⊤}
 use Rattle.rdf_terms.specs.Terms.{IsIri, IsLabel, Label, Anon, Blank}
 use Rattle.rdf_terms.specs.Terms as term
 use Rattle.rdf_trig.specs.declared.slots.SubjectKind.{SubjectKind}
 use Rattle.rdf_trig.specs.declared.slots.SubjectKind.TheVariants as kind
-use Rattle.rdf_trig.specs.Machine.{Topic, sized, unsized, cell, nil}
+use Rattle.rdf_iri.specs.Texts.{byte_len}
+use Rattle.rdf_trig.specs.Machine.{Topic, cell, nil}
 
--- the subject of this kind and text, as the machine has it
+-- the term of this kind and text
+abbrev pub term_at : SubjectKind → List ℕ → Option term.Subject
+term_at kind.Iri w = Some (term.Iri w)
+term_at kind.Label w = Some (Blank (Label w))
+term_at (kind.Anon n) w = Some (Blank (Anon n))
+term_at (kind.Cell n) w = cell n
+term_at kind.Nil w = Some nil
+
+-- the subject of this kind and text, as the machine has it, with the bytes of the text, whatever its kind is
 abbrev pub topic_at : SubjectKind → List ℕ → Topic
-topic_at kind.Iri w = sized (Some (term.Iri w))
-topic_at kind.Label w = sized (Some (Blank (Label w)))
-topic_at (kind.Anon n) w = sized (Some (Blank (Anon n)))
-topic_at (kind.Cell n) w = unsized (cell n)
-topic_at kind.Nil w = unsized (Some nil)
+topic_at k w = record { term = term_at k w; size = byte_len w }
+
+-- a text, or none where it is empty
+abbrev pub text_at : List ℕ → Option (List ℕ)
+text_at [] = None
+text_at (c ∷ w) = Some (c ∷ w)
 
 -- the text is one of this kind
 abbrev pub IsOfKind : SubjectKind → List ℕ → Type 0

@@ -87,13 +87,14 @@ DepthMay k n = ⊤
 abbrev pub answer_to : {A : Type 0} → DocForm → InForce → State A → Given → M.Answer
 answer_to form s r t = M.accept form (state_of form s r) t.kind (leaf t)
 
--- what each step keeps: the brackets are counted and no more than the limit, a prefix is no longer than a token, each text fits, and no more frames are
--- open than brackets
+-- what each step keeps: the brackets are counted and no more than the limit, a prefix is no longer than a token, each text fits, that of the name is
+-- empty, and no more frames are open than brackets
 pub record Keeps {A : Type 0} (form : DocForm) (sizes : Sizes) (r : State A) : Type 0 where
   pub depth : r.depth ≡ M.depth (mode_in form r)
   pub short : PrefixFits (4 * sizes.token) r r.mode
   pub deep : r.depth ≤ sizes.depth
   pub fits : Fits (most_text sizes) r
+  pub name : r.name ≡ None
   pub stack : length r.frames.items ≤ r.depth
 
 -- the machine accepts: its quads were put, and its state is the reader's, in a scope that agrees with the reader's

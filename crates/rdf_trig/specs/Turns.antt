@@ -1,6 +1,6 @@
 -- What a turn does, in the words of the machine: its reply, the tokens that it takes, and the texts that it needs.
-use Rattle.std.specs.List.{AllByRecursion}
-use Rattle.std.specs.Prelude.{◌≡◌, ℕ, ◌+◌, ◌-◌, ◌≤◌, true, List, codes, Option, Some, None, is_some, ⊤, MatchOption, length}
+use Rattle.std.specs.Prelude.{◌≡◌, ℕ, ◌+◌, ◌-◌, ◌≤◌, true, List, [], codes, Option, Some, None, is_some, ⊤, MatchOption, length}
+use Rattle.std.specs.String.{string_bytes}
 use Rattle.rdf_terms.specs.declared.kind.Kind.{Kind}
 use Rattle.rdf_terms.specs.declared.kind.Kind.TheVariants.{LabelNode, ShortString, LongString, True, False}
 use Rattle.rdf_terms.specs.Terms.{Cell, Anon, Blank, Quad}
@@ -18,6 +18,7 @@ use Rattle.rdf_trig.specs.declared.state.Level.TheVariants as level
 use Rattle.rdf_trig.specs.declared.state.Mode.{Mode}
 use Rattle.rdf_trig.specs.declared.state.Mode.TheVariants as mode
 use Rattle.rdf_trig.specs.declared.state.Outer.{Outer}
+use Rattle.rdf_trig.specs.declared.state.Outer.TheVariants as outer
 use Rattle.rdf_trig.specs.declared.state.State.{State}
 use Rattle.rdf_trig.specs.declared.turn.SubjectStart.{SubjectStart}
 use Rattle.rdf_trig.specs.declared.turn.SubjectStart.TheVariants as subject
@@ -35,7 +36,7 @@ use Rattle.rdf_trig.specs.Machine.{Reply, No, Go, nil, quad_at}
 use Rattle.rdf_trig.specs.States.{level_of, graph_of, outer_of, outer_graph, spelling_of, first_of, cell_of, after_semicolon_at, up_in, place_in, around_in, text_in, mode_at, graph_at, setting, setting_in, rest_of}
 use Rattle.rdf_trig.specs.States.{name_at, use_at, use_in, scope_in, IsNamed, IsNamedIn, NameIn, moved}
 use Rattle.rdf_trig.specs.Spelled.{SpellsTag}
-use Rattle.rdf_trig.specs.Holding.{text_bytes, level_bytes, outer_bytes, TextFits, NameFits, FrameFits, OpenFits, Fits, Closes, frames_most}
+use Rattle.rdf_trig.specs.Holding.{TextFits, NameFits, Fits, frames_most}
 
 -- where the reader stands after the first token of a subject, with the IRI that the token stands for, if for one
 abbrev pub subject_mode : DocForm → M.Level → SubjectStart → Option (List ℕ) → Leaf → M.Mode
@@ -147,18 +148,6 @@ frames_after turn.EmptyCollection m = m - 1
 frames_after turn.EndCollection m = m - 1
 frames_after t m = m
 
--- the bytes of the texts that are there already and that a turn needs beside those of the frames
-abbrev pub turn_bytes : {A : Type 0} → State A → Turn → ℕ
-turn_bytes r (turn.Lead o) = outer_bytes o (text_bytes r) r.graph
-turn_bytes r (turn.Subject v b) = level_bytes v r.graph
-turn_bytes r turn.SubjectBlock = r.frame.subject.size
-turn_bytes r (turn.Verb a v) = r.frame.subject.size
-turn_bytes r turn.Tag = text_bytes r
-turn_bytes r turn.DatatypeMark = text_bytes r
-turn_bytes r turn.Datatype = text_bytes r
-turn_bytes r turn.EndPropertyList = r.frame.subject.size
-turn_bytes r t = 0
-
 -- a subject begins so with each token of the kind, or with none
 abbrev pub BeginsSubject : Kind → Option SubjectStart → Type 0
 BeginsSubject k x =
@@ -212,12 +201,12 @@ abbrev pub Takes : {A : Type 0} → State A → Turn → Leaf → State A → Ty
 Takes old t l new = (form : DocForm) (s : InForce) (u : Use) → turned form old s u old.name t l ≡ moved form s u new
 
 -- texts that fit before a turn, with those of the token, fit after it too
-abbrev pub TakesFit : {A : Type 0} → State A → Turn → Given → State A → Type 0
-TakesFit old t token new = (n : ℕ) → TextFits n token → NameFits n old.name → OpenFits n old → turn_bytes old t ≤ n → Fits n new
+abbrev pub TakesFit : {A : Type 0} → State A → Given → State A → Type 0
+TakesFit old token new = (n : ℕ) → TextFits n token → NameFits n old.name → Fits n old → Fits n new
 
 -- the same of a turn that takes no text of the token
-abbrev pub TurnFits : {A : Type 0} → State A → Turn → State A → Type 0
-TurnFits old t new = (n : ℕ) → NameFits n old.name → OpenFits n old → turn_bytes old t ≤ n → Fits n new
+abbrev pub TurnFits : {A : Type 0} → State A → State A → Type 0
+TurnFits old new = (n : ℕ) → NameFits n old.name → Fits n old → Fits n new
 
 -- no more frames are open than the turn says
 abbrev pub FramesTaken : {A : Type 0} → State A → Turn → State A → Type 0
@@ -251,27 +240,23 @@ SuitsAny k t = (i : Option (List ℕ)) → Suits t k i
 abbrev pub SuitsIn : {A : Type 0} → DocForm → State A → Mode → Kind → Turn → Type 0
 SuitsIn form r m k t = (i : Option (List ℕ)) → IsNamedIn (mode_at form r m) k i → Suits t k i
 
--- the texts that the turn needs have at most so many bytes
-abbrev pub IsWithin : {A : Type 0} → ℕ → State A → Turn → Type 0
-IsWithin n r t = turn_bytes r t ≤ n
-
 -- with the first token of an object the state stands where its place and the cell before it say
 abbrev pub Begins : {A : Type 0} → State A → Option (ℕ × ℕ) → ObjectStart → Leaf → State A → Type 0
 Begins old rest b l new =
     (form : DocForm) (s : InForce) (u : Use) →
     begun (setting_in s old) u old.name (place_in old) (rest_of (graph_of old.level old.graph) rest) b l ≡ moved form s u new
 
--- texts that fit before an object fit after its first token
-abbrev pub BegunFits : {A : Type 0} → State A → Given → State A → Type 0
-BegunFits old token new = (n : ℕ) → TextFits n token → NameFits n old.name → OpenFits n old → Fits n new
+-- texts that fit still do
+abbrev pub StillFits : {A : Type 0} → State A → State A → Type 0
+StillFits old new = (n : ℕ) → Fits n old → Fits n new
 
--- so too at the end of a bracket, where the subject in hand fits
-abbrev pub BracketFits : {A : Type 0} → State A → Mode → State A → Type 0
-BracketFits old m new =
-    (n : ℕ) → old.frame.subject.size ≤ n → FrameFits n old.frame → AllByRecursion (FrameFits n) old.frames.items → Closes n m new
-
--- the state stands outside of statements, with no frame in hand and nothing held
+-- the state stands outside of statements, with no frame in hand and nothing held; its text may have been emptied
 abbrev pub Leads : {A : Type 0} → State A → Outer → State A → Type 0
 Leads old o new =
     let empty = record old.frame { container = container.Cells 0 0 } in
-    new ≡ record old { level = level.Top; frame = empty; rest = None; held = held.Nothing; mode = mode.Outer o }
+    new ≡ record old { level = level.Top; frame = empty; text = new.text; rest = None; held = held.Nothing; mode = mode.Outer o }
+
+-- the text is empty, but for the prefix of a directive
+abbrev pub KeepsPrefix : {A : Type 0} → Outer → State A → State A → Type 0
+KeepsPrefix (outer.WantPrefixIri w) old new = string_bytes new.text ≡ string_bytes old.text
+KeepsPrefix o old new = string_bytes new.text ≡ []

@@ -1,14 +1,14 @@
 // A token is accepted: the checks, then the quads that are due, then the move.
 
-ghost use Rattle.std.specs.Prelude.{◌≡◌, ℕ, ◌≤◌, ◌<◌, ◌+◌, ◌^◌, ◌&&◌, length, nat_le, true, false, OnOk, IfOk, IfErr};
+ghost use Rattle.std.specs.Prelude.{◌≡◌, ℕ, ◌≤◌, ◌<◌, ◌+◌, ◌^◌, ◌&&◌, length, nat_le, true, false, None, OnOk, IfOk, IfErr};
 ghost use Rattle.rdf_iri.specs.Limits.{Sizes};
 ghost use Rattle.rdf_iri.specs.Scope.{InForce};
 ghost use Rattle.rdf_tokens.specs.Scans.{KnowsItsColon};
 ghost use Rattle.rdf_trig.specs.declared.form.DocForm.{DocForm};
 ghost use Rattle.rdf_trig.specs.Machine as M;
 ghost use Rattle.rdf_trig.specs.States.{leaf, IsTurtleToken, mode_in, DepthMoves};
-ghost use Rattle.rdf_trig.specs.Holding.{state_bytes, Fits};
-ghost use Rattle.rdf_trig.specs.Turns.{Suits, SuitsIn, IsTurn, KeepsFrames, IsWithin, Takes, TakesFit, FramesTaken};
+ghost use Rattle.rdf_trig.specs.Texts.{state_bytes};
+ghost use Rattle.rdf_trig.specs.Turns.{Suits, SuitsIn, IsTurn, KeepsFrames, Takes, TakesFit, FramesTaken};
 ghost use Rattle.rdf_trig.specs.Steps.{state_of, MayAll, DepthMay, Keeps, AcceptsAll, Counts, FailsAll, RefusedWithin};
 
 use crate::fault::StepFault;
@@ -88,7 +88,6 @@ impl<A: Allocator + Copy> State<A> {
         ensures turn { IfOk result (IsTurn rules.now.form self.now self.now.mode kind) }
         ensures suits { IfOk result (SuitsIn rules.now.form self.now self.now.mode kind) }
         ensures frames { IfOk result (KeepsFrames kind) }
-        ensures fits { (n : ℕ) → Fits n self.now → IfOk result (IsWithin n self.now) }
         ensures room { OnOk result (DepthMay kind self.now.depth) }
         ensures deep { OnOk result (M.deepens kind ≡ true → self.now.depth + 1 ≤ rules.now.limits.depth) }
         ensures err { IfErr result (RefusedWithin rules.now.form rules.now.limits.depth self.now kind) }
@@ -113,10 +112,12 @@ impl<A: Allocator + Copy> State<A> {
         ensures takes { OnOk result (Takes self.old turn (leaf token.now) self.new) }
         ensures depth { OnOk result (DepthMoves kind self.old.depth self.new.depth) }
         ensures stack { OnOk result (FramesTaken self.old turn self.new) }
-        ensures fits { OnOk result (TakesFit self.old turn token.now self.new) }
+        ensures fits { OnOk result (TakesFit self.old token.now self.new) }
+        ensures name { OnOk result (self.new.name ≡ None) }
         ensures err { IfErr result (λ r. r ≡ StepFault.Memory) }
     {
         self.take(turn, token)?;
+        self.name.clear();
         self.depth = depth_after(self.depth, kind);
         Ok(())
     }

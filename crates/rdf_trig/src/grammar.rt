@@ -34,9 +34,7 @@ impl<A: Allocator> Model for TreeGrammar<A> {
     ghost use Rattle.std.specs.Prelude.{◌≡◌};
     ghost use Rattle.rdf_trig.specs.Accepting.{TreeAt};
     ghost use Rattle.rdf_trig.specs.Steps.{state_of, Keeps};
-    ghost use Rattle.std.specs.Prelude.{◌+◌};
-    ghost use Rattle.rdf_iri.specs.Scope.{bytes_held};
-    ghost use Rattle.rdf_trig.specs.Holding.{state_bytes};
+    ghost use Rattle.rdf_trig.specs.Texts.{grammar_bytes};
     ghost use Rattle.rdf_trig.specs.Coded.{up_code, around_code, place_code};
     ghost use Rattle.std.specs.Coded.{codes};
 
@@ -48,7 +46,7 @@ impl<A: Allocator> Model for TreeGrammar<A> {
       form = g.rules.form;
       limit = g.rules.limits.token;
       state = state_of g.rules.form g.scope g.state;
-      held = state_bytes g.state + bytes_held g.scope;
+      held = grammar_bytes g.state g.scope;
     } };
 
     ghost invariant = { λ g. (g.scope.limits ≡ g.rules.limits) × Keeps g.rules.form g.rules.limits g.state };

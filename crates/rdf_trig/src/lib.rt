@@ -3,6 +3,7 @@
 
 mod accept;
 mod document;
+mod emptied;
 mod fault;
 mod form;
 mod give;

@@ -6,7 +6,7 @@ ghost use Rattle.rdf_trig.specs.declared.form.DocForm.{DocForm};
 ghost use Rattle.rdf_trig.specs.declared.turn.Turn.TheVariants as Turn;
 ghost use Rattle.rdf_trig.specs.Machine as M;
 ghost use Rattle.rdf_trig.specs.States.{graph_of, graph_at, mode_at, up_in};
-ghost use Rattle.rdf_trig.specs.Turns.{SuitsVerb, Takes, TurnFits, FramesTaken, BracketFits};
+ghost use Rattle.rdf_trig.specs.Turns.{SuitsVerb, Takes, TurnFits, FramesTaken, StillFits};
 
 use crate::rest::Rest;
 use crate::state::{Around, Container, Held, Mode, State};
@@ -21,7 +21,7 @@ impl<A: Allocator + Copy> State<A> {
         ensures takes { (l : Leaf) → Takes self.old (Turn.Verb around verb) l self.new }
         ensures depth { self.new.depth ≡ self.old.depth }
         ensures stack { FramesTaken self.old (Turn.Verb around verb) self.new }
-        ensures fits { TurnFits self.old (Turn.Verb around verb) self.new }
+        ensures fits { TurnFits self.old self.new }
     {
         match verb {
             Verb::Name => mem::swap(&mut self.frame.verb, &mut self.name),
@@ -37,7 +37,7 @@ impl<A: Allocator + Copy> State<A> {
         ensures takes { (l : Leaf) → Takes self.old (Turn.FirstVerb verb) l self.new }
         ensures depth { self.new.depth ≡ self.old.depth }
         ensures stack { FramesTaken self.old (Turn.FirstVerb verb) self.new }
-        ensures fits { TurnFits self.old (Turn.FirstVerb verb) self.new }
+        ensures fits { TurnFits self.old self.new }
     {
         self.frame.subject.set_anon(self.bracket);
         self.verb(Around::PropertyList, verb);
@@ -48,7 +48,7 @@ impl<A: Allocator + Copy> State<A> {
         ensures takes { (l : Leaf) → Takes self.old Turn.EndPropertyList l self.new }
         ensures depth { self.new.depth ≡ self.old.depth }
         ensures stack { FramesTaken self.old Turn.EndPropertyList self.new }
-        ensures fits { TurnFits self.old Turn.EndPropertyList self.new }
+        ensures fits { TurnFits self.old self.new }
     {
         let mode = self.brackets_closed();
         self.stand(mode);
@@ -59,7 +59,7 @@ impl<A: Allocator + Copy> State<A> {
         ensures takes { (l : Leaf) → Takes self.old Turn.EmptyCollection l self.new }
         ensures depth { self.new.depth ≡ self.old.depth }
         ensures stack { FramesTaken self.old Turn.EmptyCollection self.new }
-        ensures fits { TurnFits self.old Turn.EmptyCollection self.new }
+        ensures fits { TurnFits self.old self.new }
     {
         self.frame.subject.set_nil();
         let mode = self.collection_closed();
@@ -71,7 +71,7 @@ impl<A: Allocator + Copy> State<A> {
         ensures takes { (l : Leaf) → Takes self.old Turn.EndCollection l self.new }
         ensures depth { self.new.depth ≡ self.old.depth }
         ensures stack { FramesTaken self.old Turn.EndCollection self.new }
-        ensures fits { TurnFits self.old Turn.EndCollection self.new }
+        ensures fits { TurnFits self.old self.new }
     {
         let (first, cell) = self.frame.container.cells();
         self.frame.subject.set_cell(first);
@@ -87,7 +87,7 @@ impl<A: Allocator + Copy> State<A> {
         ensures graph { graph_at self.new result ≡ graph_of self.old.level self.old.graph }
         ensures same { self.new ≡ record self.old { frame = self.new.frame; frames = self.new.frames; spares = self.new.spares } }
         ensures stack { length self.new.frames.items ≤ length self.old.frames.items - 1 }
-        ensures fits { BracketFits self.old result self.new }
+        ensures fits { StillFits self.old self.new }
     {
         match self.frames.pop() {
             None => {
@@ -108,7 +108,7 @@ impl<A: Allocator + Copy> State<A> {
         ensures graph { graph_at self.new result ≡ graph_of self.old.level self.old.graph }
         ensures same { self.new ≡ record self.old { frame = self.new.frame; frames = self.new.frames; spares = self.new.spares } }
         ensures stack { length self.new.frames.items ≤ length self.old.frames.items - 1 }
-        ensures fits { BracketFits self.old result self.new }
+        ensures fits { StillFits self.old self.new }
     {
         match self.frames.pop() {
             None => {

@@ -17,6 +17,7 @@ ghost use Rattle.rdf_trig.specs.States.{leaf, IsTurtleToken, PrefixFits};
 ghost use Rattle.rdf_trig.specs.Holding.{NameFits};
 ghost use Rattle.rdf_trig.specs.Scopes.{IsReference, IsPrefixed, MeansLocal, Names, Unnamed, Binding, NotBinding, Based, Finds, FindsNone, FindsIri, FindsNoIri};
 
+use crate::emptied::clear_text;
 use crate::fault::StepFault;
 use crate::plain::{lacks_escapes, lacks_iri_escapes};
 use crate::spelled::{parts, plain_parts};
@@ -30,23 +31,23 @@ use std::alloc::{Allocator, Global};
 use std::marker::Model;
 use std::mem;
 
-/// An IRI, or none, in a text that is used again.
+/// An IRI, or none where the text is empty, in a text that is used again.
 #[derive(Drop)]
 pub struct Name<A: Allocator = Global> {
-    is_some: bool,
     text: TextBuffer<A>,
 }
 
 impl<A: Allocator> Model for Name<A> {
-    ghost use Rattle.std.specs.Prelude.{◌≡◌, ℕ, List, Option, Some, None, cond, true};
+    ghost use Rattle.std.specs.Prelude.{ℕ, List, Option, IfSome};
     ghost use Rattle.std.specs.Str.{chars};
     ghost use Rattle.rdf_terms.specs.Terms.{IsIri};
+    ghost use Rattle.rdf_trig.specs.Slots.{text_at};
 
     ghost Value = { Option (List ℕ) };
 
-    ghost view = { λ n. cond n.is_some (Some (chars n.text)) None };
+    ghost view = { λ n. text_at (chars n.text) };
 
-    ghost invariant = { λ n. n.is_some ≡ true → ∥ IsIri (chars n.text) ∥₁ };
+    ghost invariant = { λ n. IfSome (text_at (chars n.text)) (λ w. ∥ IsIri w ∥₁) };
 }
 
 impl<A: Allocator> Name<A> {
@@ -55,7 +56,6 @@ impl<A: Allocator> Name<A> {
         ensures { result ≡ None }
     {
         Name {
-            is_some: false,
             text: TextBuffer::new(alloc),
         }
     }
@@ -65,7 +65,7 @@ impl<A: Allocator> Name<A> {
     pub fn clear(&mut self)
         ensures { self.new ≡ None }
     {
-        self.is_some = false;
+        clear_text(&mut self.text);
     }
 
     /// Gives its text away for another one.
@@ -77,7 +77,7 @@ impl<A: Allocator> Name<A> {
         ensures none { self.new ≡ None }
     {
         mem::swap(&mut self.text, text);
-        self.is_some = false;
+        clear_text(&mut self.text);
     }
 
     /// The IRI, borrowed; or, where there is none, this one.
@@ -85,7 +85,7 @@ impl<A: Allocator> Name<A> {
     pub fn view_or(&self, other: Known) -> IriView<'_>
         ensures { iri_chars result ≡ unwrap_or self.now (known_chars other) }
     {
-        if self.is_some {
+        if self.len() > 0 {
             IriView::of_bytes(self.text.as_bytes())
         } else {
             known(other)
@@ -98,15 +98,12 @@ impl<A: Allocator> Name<A> {
         self.text.capacity()
     }
 
-    /// How many bytes the IRI has.
+    /// How many bytes its text has.
+    #[inline(always)]
     pub fn len(&self) -> u64
         ensures { result ≡ iri_size self.now }
     {
-        if self.is_some {
-            self.text.byte_len()
-        } else {
-            0
-        }
+        self.text.byte_len()
     }
 }
 
@@ -118,13 +115,12 @@ impl<A: Allocator + Copy> Name<A> {
         ensures expanded { OnOk result ((i : List ℕ) × (self.new ≡ Some i) × ExpandsHere scope.now (chars prefix.now) (chars local.now) i) }
         ensures refused { IfErr result (NotExpanded scope.now (chars prefix.now) (chars local.now)) }
     {
-        self.is_some = false;
         match scope.expand_into(prefix, local, &mut self.text) {
-            Ok(()) => {
-                self.is_some = true;
-                Ok(())
+            Ok(()) => Ok(()),
+            Err(fault) => {
+                clear_text(&mut self.text);
+                Err(fault)
             }
-            Err(fault) => Err(fault),
         }
     }
 
@@ -142,13 +138,12 @@ impl<A: Allocator + Copy> Name<A> {
         ensures fits { OnOk result (NameFits scope.now.limits.iri self.new) }
         ensures err { IfErr result (λ r. Unnamed scope.now token.now.kind (leaf token.now) r) }
     {
-        self.is_some = false;
         match put_reference(alloc, &mut self.text, scope, token) {
-            Ok(()) => {
-                self.is_some = true;
-                Ok(())
+            Ok(()) => Ok(()),
+            Err(fault) => {
+                clear_text(&mut self.text);
+                Err(fault)
             }
-            Err(fault) => Err(fault),
         }
     }
 
@@ -284,6 +279,7 @@ impl<A: Allocator + Copy> State<A> {
     /// Looks up what a token stands for: the state's name is its IRI. In a directive the scope changes, and there is no name.
     #[inline(always)]
     pub fn look_up(&mut self, scope: &mut Scope<A>, token: &Token<'_>) -> Result<(), StepFault>
+        requires none { self.old.name ≡ None }
         requires token { IsTurtleToken token.now }
         requires short { PrefixFits (4 * scope.old.limits.token) self.old self.old.mode }
         requires colon { KnowsItsColon token.now }
@@ -304,6 +300,7 @@ impl<A: Allocator + Copy> State<A> {
         scope: &mut Scope<A>,
         token: &Token<'_>,
     ) -> Result<(), StepFault>
+        requires none { self.old.name ≡ None }
         requires token { IsTurtleToken token.now }
         requires short { PrefixFits (4 * scope.old.limits.token) self.old (Mode.Outer outer) }
         requires colon { KnowsItsColon token.now }
@@ -313,18 +310,9 @@ impl<A: Allocator + Copy> State<A> {
         ensures err { IfErr result (FindsNone self.old (Mode.Outer outer) scope.old token.now) }
     {
         match outer {
-            Outer::WantPrefix(_) => {
-                self.name.clear();
-                Ok(())
-            }
-            Outer::WantPrefixIri(_) => {
-                self.name.clear();
-                look_up_prefix(self.alloc, scope, &self.text, token)
-            }
-            Outer::WantBaseIri(_) => {
-                self.name.clear();
-                look_up_base(self.alloc, scope, token)
-            }
+            Outer::WantPrefix(_) => Ok(()),
+            Outer::WantPrefixIri(_) => look_up_prefix(self.alloc, scope, &self.text, token),
+            Outer::WantBaseIri(_) => look_up_base(self.alloc, scope, token),
             _ => self.look_up_name(scope, token),
         }
     }
@@ -332,6 +320,7 @@ impl<A: Allocator + Copy> State<A> {
     // The IRI of a reference or a name. What the state holds stays as it is, though the token may be refused.
     #[inline(always)]
     fn look_up_name(&mut self, scope: &Scope<A>, token: &Token<'_>) -> Result<(), StepFault>
+        requires none { self.old.name ≡ None }
         requires token { IsTurtleToken token.now }
         requires colon { KnowsItsColon token.now }
         ensures ok { OnOk result (Names scope.now token.now.kind (leaf token.now) self.new.name) }
@@ -351,6 +340,7 @@ fn name_token<A: Allocator + Copy>(
     scope: &Scope<A>,
     token: &Token<'_>,
 ) -> Result<(), StepFault>
+    requires none { name.old ≡ None }
     requires token { IsTurtleToken token.now }
     requires colon { KnowsItsColon token.now }
     ensures ok { OnOk result (Names scope.now token.now.kind (leaf token.now) name.new) }
@@ -360,10 +350,7 @@ fn name_token<A: Allocator + Copy>(
     match token.kind {
         Kind::IriRef => name.set_reference(alloc, scope, token),
         Kind::PnameNs | Kind::PnameLn => name.set_prefixed(alloc, scope, token),
-        _ => {
-            name.clear();
-            Ok(())
-        }
+        _ => Ok(()),
     }
 }
 

@@ -1,21 +1,22 @@
 // Turns where an object stands, and the parts of a literal.
 
-ghost use Rattle.std.specs.Prelude.{◌≡◌, ℕ, ◌+◌, ◌*◌, ◌≤◌, true, length, is_some, OnOk, IfErr, codes};
+ghost use Rattle.std.specs.Prelude.{◌≡◌, ◌+◌, ◌*◌, ◌≤◌, [], true, length, is_some, OnOk, IfErr, codes};
 ghost use Rattle.std.specs.Str.{chars};
+ghost use Rattle.std.specs.String.{string_bytes};
 ghost use Rattle.rdf_tokens.specs.Leaves.{Leaf};
 ghost use Rattle.rdf_trig.specs.declared.turn.Turn.TheVariants as Turn;
 ghost use Rattle.rdf_trig.specs.Machine as M;
 ghost use Rattle.rdf_trig.specs.Spelled.{SpellsTag};
 ghost use Rattle.rdf_trig.specs.States.{leaf, IsTurtleToken, text_in, place_of, up_of};
-ghost use Rattle.rdf_trig.specs.Holding.{text_bytes, OpenFits};
-ghost use Rattle.rdf_trig.specs.Turns.{SuitsObject, frames_begun, Begins, BegunFits, Takes, TakesFit, TurnFits, FramesTaken};
+ghost use Rattle.rdf_trig.specs.Holding.{text_bytes};
+ghost use Rattle.rdf_trig.specs.Turns.{SuitsObject, frames_begun, Begins, Takes, TakesFit, TurnFits, StillFits, FramesTaken};
 
 use crate::fault::StepFault;
 use crate::rest::Rest;
 use crate::spelled::{set_long_string, tag_of};
 use crate::state::{Container, Held, Mode, State};
 use crate::turn::ObjectStart;
-use rdf_terms::{Known, label_of, put_string};
+use rdf_terms::{Known, label_of, put_string, put_text};
 use rdf_tokens::Token;
 use std::alloc::Allocator;
 use std::mem;
@@ -35,23 +36,25 @@ impl<A: Allocator + Copy> State<A> {
         ensures takes { OnOk result (Begins self.old rest start (leaf token.now) self.new) }
         ensures depth { self.new.depth ≡ self.old.depth }
         ensures stack { OnOk result (length self.new.frames.items ≤ frames_begun start (length self.old.frames.items)) }
-        ensures fits { OnOk result (BegunFits self.old token.now self.new) }
+        ensures fits { OnOk result (TakesFit self.old token.now self.new) }
         ensures err { IfErr result (λ r. r ≡ StepFault.Memory) }
     {
         match start {
             ObjectStart::Name => {
                 self.object.take(&mut self.name);
-                self.hold(rest, Held::Resource);
+                self.hold_object(rest);
             }
             ObjectStart::Label => {
                 self.object.set_label(label_of(token.text))?;
-                self.hold(rest, Held::Resource);
+                self.hold_object(rest);
             }
             ObjectStart::ShortString => {
+                self.object.set_nil();
                 put_string(&mut self.text, token.text)?;
                 self.wait(rest, Mode::AfterText);
             }
             ObjectStart::LongString => {
+                self.object.set_nil();
                 set_long_string(&mut self.text, token.text)?;
                 self.wait(rest, Mode::AfterText);
             }
@@ -61,7 +64,7 @@ impl<A: Allocator + Copy> State<A> {
             ObjectStart::Brackets => {
                 self.open()?;
                 self.object.set_anon(token.offset);
-                self.hold(rest, Held::Resource);
+                self.hold_object(rest);
                 self.mode = Mode::PropertyListStart;
                 self.bracket = token.offset;
             }
@@ -80,7 +83,7 @@ impl<A: Allocator + Copy> State<A> {
         ensures takes { OnOk result (Takes self.old (Turn.FirstItem start) (leaf token.now) self.new) }
         ensures depth { self.new.depth ≡ self.old.depth }
         ensures stack { OnOk result (FramesTaken self.old (Turn.FirstItem start) self.new) }
-        ensures fits { OnOk result (TakesFit self.old (Turn.FirstItem start) token.now self.new) }
+        ensures fits { OnOk result (TakesFit self.old token.now self.new) }
         ensures err { IfErr result (λ r. r ≡ StepFault.Memory) }
     {
         let cell = token.offset;
@@ -95,7 +98,7 @@ impl<A: Allocator + Copy> State<A> {
         ensures takes { OnOk result (Takes self.old (Turn.NextItem start) (leaf token.now) self.new) }
         ensures depth { self.new.depth ≡ self.old.depth }
         ensures stack { OnOk result (FramesTaken self.old (Turn.NextItem start) self.new) }
-        ensures fits { OnOk result (TakesFit self.old (Turn.NextItem start) token.now self.new) }
+        ensures fits { OnOk result (TakesFit self.old token.now self.new) }
         ensures err { IfErr result (λ r. r ≡ StepFault.Memory) }
     {
         let (first, cell) = self.frame.container.cells();
@@ -111,7 +114,7 @@ impl<A: Allocator + Copy> State<A> {
         ensures same { OnOk result (self.new ≡ record self.old { frame = self.new.frame; frames = self.new.frames; spares = self.new.spares }) }
         ensures depth { self.new.depth ≡ self.old.depth }
         ensures stack { OnOk result (length self.new.frames.items ≡ length self.old.frames.items + 1) }
-        ensures fits { (n : ℕ) → OpenFits n self.old → OnOk result (OpenFits n self.new) }
+        ensures fits { OnOk result (StillFits self.old self.new) }
         ensures err { IfErr result (λ r. r ≡ StepFault.Memory) }
     {
         let fresh = self.spares.take(self.alloc)?;
@@ -126,9 +129,10 @@ impl<A: Allocator + Copy> State<A> {
         ensures takes { OnOk result (Takes self.old Turn.Tag (leaf token.now) self.new) }
         ensures depth { self.new.depth ≡ self.old.depth }
         ensures stack { OnOk result (FramesTaken self.old Turn.Tag self.new) }
-        ensures fits { OnOk result (TakesFit self.old Turn.Tag token.now self.new) }
+        ensures fits { OnOk result (TakesFit self.old token.now self.new) }
         ensures err { IfErr result (λ r. r ≡ StepFault.Memory) }
     {
+        self.datatype.clear();
         self.tag.set(tag_of(token))?;
         self.hold(Rest::none(), Held::WithTag);
         Ok(())
@@ -140,24 +144,36 @@ impl<A: Allocator + Copy> State<A> {
         ensures takes { (l : Leaf) → Takes self.old Turn.Datatype l self.new }
         ensures depth { self.new.depth ≡ self.old.depth }
         ensures stack { FramesTaken self.old Turn.Datatype self.new }
-        ensures fits { TurnFits self.old Turn.Datatype self.new }
+        ensures fits { TurnFits self.old self.new }
     {
+        self.tag.clear();
         mem::swap(&mut self.datatype, &mut self.name);
         self.hold(Rest::none(), Held::WithType);
     }
 
     // A number or a boolean.
     fn known_literal(&mut self, rest: Rest, lexical: &str, datatype: Known) -> Result<(), StepFault>
-        ensures ok { OnOk result (self.new ≡ record self.old { text = self.new.text; rest = rest; held = Held.OfKnown datatype; mode = Mode.After }) }
+        ensures ok { OnOk result (self.new ≡ record self.old { object = self.new.object; text = self.new.text; rest = rest; held = Held.OfKnown datatype; mode = Mode.After }) }
+        ensures object { OnOk result (self.new.object.size ≡ 0) }
         ensures text { OnOk result (text_in self.new ≡ chars lexical.now) }
         ensures fits { OnOk result (text_bytes self.new ≤ 4 * length (chars lexical.now)) }
         ensures depth { self.new.depth ≡ self.old.depth }
         ensures err { IfErr result (λ r. r ≡ StepFault.Memory) }
     {
-        self.text.clear();
-        self.text.push_str(lexical)?;
+        self.object.set_nil();
+        put_text(&mut self.text, lexical)?;
         self.hold(rest, Held::OfKnown(datatype));
         Ok(())
+    }
+
+    // The reader stands after an IRI or a node, whose quad is held. The text is in no use, and emptied.
+    #[inline(always)]
+    fn hold_object(&mut self, rest: Rest)
+        ensures same { self.new ≡ record self.old { text = self.new.text; rest = rest; held = Held.Resource; mode = Mode.After } }
+        ensures text { string_bytes self.new.text ≡ [] }
+    {
+        self.text.clear();
+        self.hold(rest, Held::Resource);
     }
 
     // The reader stands after an object, whose quad is held.

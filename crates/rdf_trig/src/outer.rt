@@ -8,7 +8,7 @@ ghost use Rattle.rdf_tokens.specs.Leaves.{Leaf};
 ghost use Rattle.rdf_terms.specs.declared.kind.Kind.TheVariants as Kind;
 ghost use Rattle.rdf_trig.specs.declared.turn.Turn.TheVariants as Turn;
 ghost use Rattle.rdf_trig.specs.States.{leaf, IsTurtleToken};
-ghost use Rattle.rdf_trig.specs.Turns.{Leads, Takes, TakesFit, TurnFits, FramesTaken};
+ghost use Rattle.rdf_trig.specs.Turns.{Leads, KeepsPrefix, Takes, TakesFit, TurnFits, FramesTaken};
 
 use crate::fault::StepFault;
 use crate::spelled::parts;
@@ -23,14 +23,28 @@ impl<A: Allocator + Copy> State<A> {
     #[inline(always)]
     pub fn lead(&mut self, outer: Outer)
         ensures same { Leads self.old outer self.new }
+        ensures text { KeepsPrefix outer self.old self.new }
         ensures takes { (l : Leaf) → Takes self.old (Turn.Lead outer) l self.new }
         ensures depth { self.new.depth ≡ self.old.depth }
         ensures stack { FramesTaken self.old (Turn.Lead outer) self.new }
-        ensures fits { TurnFits self.old (Turn.Lead outer) self.new }
+        ensures fits { TurnFits self.old self.new }
     {
         self.level = Level::Top;
         self.frame.container = Container::none();
+        self.let_go(outer);
         self.stand(Mode::Outer(outer));
+    }
+
+    // The text is emptied, but for the prefix of a directive.
+    #[inline(always)]
+    fn let_go(&mut self, outer: Outer)
+        ensures same { self.new ≡ record self.old { text = self.new.text } }
+        ensures text { KeepsPrefix outer self.old self.new }
+    {
+        match outer {
+            Outer::WantPrefixIri(_) => {}
+            _ => self.text.clear(),
+        }
     }
 
     // The prefix of a directive.
@@ -38,9 +52,10 @@ impl<A: Allocator + Copy> State<A> {
         ensures takes { OnOk result (Takes self.old (Turn.Prefix spelling) (leaf token.now) self.new) }
         ensures depth { self.new.depth ≡ self.old.depth }
         ensures stack { OnOk result (FramesTaken self.old (Turn.Prefix spelling) self.new) }
-        ensures fits { OnOk result (TakesFit self.old (Turn.Prefix spelling) token.now self.new) }
+        ensures fits { OnOk result (TakesFit self.old token.now self.new) }
         ensures err { IfErr result (λ r. r ≡ StepFault.Memory) }
     {
+        self.object.set_nil();
         set_prefix(&mut self.text, token.text)?;
         self.lead(Outer::WantPrefixIri(spelling));
         Ok(())
@@ -52,7 +67,7 @@ impl<A: Allocator + Copy> State<A> {
         ensures takes { (l : Leaf) → Takes self.old Turn.GraphName l self.new }
         ensures depth { self.new.depth ≡ self.old.depth }
         ensures stack { FramesTaken self.old Turn.GraphName self.new }
-        ensures fits { TurnFits self.old Turn.GraphName self.new }
+        ensures fits { TurnFits self.old self.new }
     {
         self.graph.take(&mut self.name);
         self.lead(Outer::WantBrace);
@@ -65,7 +80,7 @@ impl<A: Allocator + Copy> State<A> {
         ensures takes { OnOk result (Takes self.old Turn.GraphLabel (leaf token.now) self.new) }
         ensures depth { self.new.depth ≡ self.old.depth }
         ensures stack { OnOk result (FramesTaken self.old Turn.GraphLabel self.new) }
-        ensures fits { OnOk result (TakesFit self.old Turn.GraphLabel token.now self.new) }
+        ensures fits { OnOk result (TakesFit self.old token.now self.new) }
         ensures err { IfErr result (λ r. r ≡ StepFault.Memory) }
     {
         self.graph.set_label(label_of(token.text))?;
@@ -78,7 +93,7 @@ impl<A: Allocator + Copy> State<A> {
         ensures takes { Takes self.old Turn.GraphBracket (leaf token.now) self.new }
         ensures depth { self.new.depth ≡ self.old.depth }
         ensures stack { FramesTaken self.old Turn.GraphBracket self.new }
-        ensures fits { TurnFits self.old Turn.GraphBracket self.new }
+        ensures fits { TurnFits self.old self.new }
     {
         self.bracket = token.offset;
         self.lead(Outer::GraphBracket);
@@ -89,7 +104,7 @@ impl<A: Allocator + Copy> State<A> {
         ensures takes { (l : Leaf) → Takes self.old Turn.GraphNode l self.new }
         ensures depth { self.new.depth ≡ self.old.depth }
         ensures stack { FramesTaken self.old Turn.GraphNode self.new }
-        ensures fits { TurnFits self.old Turn.GraphNode self.new }
+        ensures fits { TurnFits self.old self.new }
     {
         self.graph.set_anon(self.bracket);
         self.frames.clear();
@@ -101,7 +116,7 @@ impl<A: Allocator + Copy> State<A> {
         ensures takes { (l : Leaf) → Takes self.old Turn.SubjectBlock l self.new }
         ensures depth { self.new.depth ≡ self.old.depth }
         ensures stack { FramesTaken self.old Turn.SubjectBlock self.new }
-        ensures fits { TurnFits self.old Turn.SubjectBlock self.new }
+        ensures fits { TurnFits self.old self.new }
     {
         mem::swap(&mut self.graph, &mut self.frame.subject);
         self.lead(Outer::Inside(Block::Named));

@@ -12,6 +12,7 @@ ghost use Rattle.rdf_trig.specs.Documents.{trees};
 ghost use Rattle.rdf_trig.specs.Language.{chosen_alone};
 ghost use Rattle.rdf_trig.specs.Accepting.{tree_words, HoldsOwed, HoldsAllOwed};
 ghost use Rattle.rdf_trig.specs.Owed.{most_held};
+ghost use Rattle.rdf_trig.specs.Texts.{all_bytes};
 
 use crate::form::DocForm;
 use crate::grammar::TreeGrammar;
@@ -212,16 +213,16 @@ impl<A: Allocator + Copy> TrigReader<A> {
         self.reader.expected()
     }
 
-    /// How many bytes of text are held: those of which no token was given, those of the open frames and of the quad in hand, the base,
-    /// and the prefixes with their IRIs. After each call, also one that failed, they are at most what the limits allow (`most` of `new`,
-    /// `limits` of `feed` and `finish`), and until one fails or finishes at least what is owed after the tokens so far, with the base and
-    /// the prefixes (`least`; `owed` says it of the document). The text that the scanner has read stays until more comes. It is not counted
-    /// here, but with it too they are at most what the limits allow (`scanned`). Texts of the statements and brackets before are kept for the
-    /// next ones, and not counted, nor is spare capacity. It takes no memory.
+    /// How many bytes of text are held: those of which no token was given, and all texts of the grammar, those of the open frames and of the
+    /// quad in hand, the base, and the prefixes with their IRIs. After each call, also one that failed, they are at most what the limits
+    /// allow (`most` of `new`, `limits` of `feed` and `finish`), and until one fails or finishes at least what is owed after the tokens so
+    /// far, with the base and the prefixes (`least`; `owed` says it of the document). The text that the scanner has read stays until more
+    /// comes. It is not counted here, but the bytes of all texts of the reader, with it too, are at most what the limits allow (`all`). Spare
+    /// capacity is not counted. It takes no memory.
     pub fn held(&self) -> u64
         ensures sum { result ≡ unread_bytes self.now.scanner + self.now.grammar.held }
         ensures most { result ≤ R.most_held tree_words self.now }
-        ensures scanned { self.now.scanner.held + self.now.grammar.held ≤ R.most_held tree_words self.now }
+        ensures all { all_bytes self.now ≤ R.most_held tree_words self.now }
         ensures least { HoldsOwed self.now result }
         ensures owed { HoldsAllOwed self.now result }
     {

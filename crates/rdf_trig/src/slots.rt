@@ -10,6 +10,7 @@ ghost use Rattle.rdf_trig.specs.Slots.{topic_at};
 ghost use Rattle.rdf_trig.specs.Machine as M;
 ghost use Rattle.rdf_trig.specs.Owed.{iri_size};
 
+use crate::emptied::clear_text;
 use crate::names::Name;
 use rdf_terms::{
     IriView, Known, LabelView, NodeRef, SubjectRef, TagView, TextBuffer, known, put_text, text_len,
@@ -77,6 +78,7 @@ impl<A: Allocator> Topic<A> {
         ensures { self.new ≡ topic_at (SubjectKind.Anon offset) [] }
     {
         self.kind = SubjectKind::Anon(offset);
+        clear_text(&mut self.text);
     }
 
     /// The cell of a collection's item whose first token stands at this byte offset.
@@ -85,6 +87,7 @@ impl<A: Allocator> Topic<A> {
         ensures { self.new ≡ topic_at (SubjectKind.Cell offset) [] }
     {
         self.kind = SubjectKind::Cell(offset);
+        clear_text(&mut self.text);
     }
 
     /// The empty collection.
@@ -93,6 +96,7 @@ impl<A: Allocator> Topic<A> {
         ensures { self.new ≡ topic_at SubjectKind.Nil [] }
     {
         self.kind = SubjectKind::Nil;
+        clear_text(&mut self.text);
     }
 
     /// The subject, borrowed.
@@ -125,14 +129,11 @@ impl<A: Allocator> Topic<A> {
         let _ = &self.kind;
     }
 
-    /// How many bytes its IRI or label has. The empty collection has none.
+    /// How many bytes its text has: its IRI or label. A node without a label and the empty collection have none.
     pub fn len(&self) -> u64
         ensures { result ≡ self.now.size }
     {
-        match self.kind {
-            SubjectKind::Iri | SubjectKind::Label => self.text.byte_len(),
-            SubjectKind::Anon(_) | SubjectKind::Cell(_) | SubjectKind::Nil => 0,
-        }
+        self.text.byte_len()
     }
 }
 
@@ -149,24 +150,24 @@ impl<A: Allocator + Copy> Topic<A> {
     }
 }
 
-/// A language tag, or none.
+/// A language tag, or none where the text is empty.
 #[derive(Drop)]
 pub struct TagText<A: Allocator = Global> {
-    is_some: bool,
     text: String<A>,
 }
 
 impl<A: Allocator> Model for TagText<A> {
-    ghost use Rattle.std.specs.Prelude.{◌≡◌, ℕ, List, Option, Some, None, cond, true};
+    ghost use Rattle.std.specs.Prelude.{ℕ, List, Option, IfSome};
     ghost use Rattle.std.specs.Str.{chars};
     ghost use Rattle.std.specs.String.{string_bytes};
     ghost use Rattle.rdf_terms.specs.Terms.{IsTag};
+    ghost use Rattle.rdf_trig.specs.Slots.{text_at};
 
     ghost Value = { Option (List ℕ) };
 
-    ghost view = { λ t. cond t.is_some (Some (chars (string_bytes t.text))) None };
+    ghost view = { λ t. text_at (chars (string_bytes t.text)) };
 
-    ghost invariant = { λ t. t.is_some ≡ true → ∥ IsTag (chars (string_bytes t.text)) ∥₁ };
+    ghost invariant = { λ t. IfSome (text_at (chars (string_bytes t.text))) (λ w. ∥ IsTag w ∥₁) };
 }
 
 impl<A: Allocator> TagText<A> {
@@ -175,7 +176,6 @@ impl<A: Allocator> TagText<A> {
         ensures { result ≡ None }
     {
         TagText {
-            is_some: false,
             text: String::new(alloc),
         }
     }
@@ -185,10 +185,21 @@ impl<A: Allocator> TagText<A> {
         requires { IsTag (chars tag.now) }
         ensures { OnOk result (self.new ≡ Some (chars tag.now)) }
     {
-        self.is_some = false;
-        put_text(&mut self.text, tag)?;
-        self.is_some = true;
-        Ok(())
+        match put_text(&mut self.text, tag) {
+            Ok(()) => Ok(()),
+            Err(error) => {
+                self.text.clear();
+                Err(error)
+            }
+        }
+    }
+
+    /// Takes the tag away.
+    #[inline(always)]
+    pub fn clear(&mut self)
+        ensures { self.new ≡ None }
+    {
+        self.text.clear();
     }
 
     /// The tag, borrowed.
@@ -196,21 +207,18 @@ impl<A: Allocator> TagText<A> {
     pub fn view(&self) -> Option<TagView<'_>>
         ensures { option_map tag_chars result ≡ self.now }
     {
-        if self.is_some {
+        if self.len() > 0 {
             Some(TagView::new(self.text.as_str()))
         } else {
             None
         }
     }
 
-    /// How many bytes it has.
+    /// How many bytes its text has.
+    #[inline(always)]
     pub fn len(&self) -> u64
         ensures { result ≡ iri_size self.now }
     {
-        if self.is_some {
-            text_len(self.text.as_str())
-        } else {
-            0
-        }
+        text_len(self.text.as_str())
     }
 }

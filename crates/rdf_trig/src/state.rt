@@ -2,6 +2,7 @@
 
 ghost use Rattle.std.specs.Prelude.{◌≡◌};
 ghost use Rattle.rdf_trig.specs.States.{first_of, cell_of};
+ghost use Rattle.rdf_trig.specs.Texts.{frame_bytes};
 
 use crate::names::Name;
 use crate::rest::Rest;
@@ -120,7 +121,7 @@ pub enum Held {
 }
 
 /// What has been read, as far as it matters for what may come. Its texts are used again, so a statement like those before it takes no
-/// memory.
+/// memory. A name is empty again when its token was taken, one of object and text is empty, and so is one of datatype and tag.
 #[derive(Drop)]
 pub struct State<A: Allocator = Global> {
     pub alloc: A,
@@ -158,13 +159,25 @@ pub struct State<A: Allocator = Global> {
 impl<A: Allocator + Copy> Frame<A> {
     /// What is in hand where the mode needs no frame. It takes no memory.
     pub fn none(alloc: A) -> Frame<A>
-        ensures { result.container ≡ Container.Cells 0 0 }
+        ensures container { result.container ≡ Container.Cells 0 0 }
+        ensures texts { frame_bytes result ≡ 0 }
     {
         Frame {
             container: Container::none(),
             subject: Topic::new(alloc),
             verb: Name::new(alloc),
         }
+    }
+}
+
+impl<A: Allocator> Frame<A> {
+    /// Empties its texts. Their memory stays.
+    #[inline(always)]
+    pub fn clear(&mut self)
+        ensures { frame_bytes self.new ≡ 0 }
+    {
+        self.subject.set_nil();
+        self.verb.clear();
     }
 }
 

@@ -6,8 +6,7 @@ ghost use Rattle.rdf_trig.specs.declared.form.DocForm.{DocForm};
 ghost use Rattle.rdf_trig.specs.declared.turn.Turn.TheVariants as Turn;
 ghost use Rattle.rdf_trig.specs.Machine as M;
 ghost use Rattle.rdf_trig.specs.States.{leaf, IsTurtleToken, graph_of, graph_at, mode_at, up_in};
-ghost use Rattle.rdf_trig.specs.Holding.{level_bytes, OpenFits};
-ghost use Rattle.rdf_trig.specs.Turns.{SuitsSubject, Takes, TakesFit, TurnFits, FramesTaken, BracketFits};
+ghost use Rattle.rdf_trig.specs.Turns.{SuitsSubject, Takes, TakesFit, TurnFits, FramesTaken, StillFits};
 
 use crate::fault::StepFault;
 use crate::state::{Level, Mode, State};
@@ -30,7 +29,7 @@ impl<A: Allocator + Copy> State<A> {
         ensures takes { OnOk result (Takes self.old (Turn.Subject level start) (leaf token.now) self.new) }
         ensures depth { self.new.depth ≡ self.old.depth }
         ensures stack { OnOk result (FramesTaken self.old (Turn.Subject level start) self.new) }
-        ensures fits { OnOk result (TakesFit self.old (Turn.Subject level start) token.now self.new) }
+        ensures fits { OnOk result (TakesFit self.old token.now self.new) }
         ensures err { IfErr result (λ r. r ≡ StepFault.Memory) }
     {
         self.begin(level);
@@ -57,7 +56,7 @@ impl<A: Allocator + Copy> State<A> {
     fn begin(&mut self, level: Level)
         ensures same { self.new ≡ record self.old { level = level; frames = self.new.frames } }
         ensures frames { self.new.frames.items ≡ [] }
-        ensures fits { (n : ℕ) → OpenFits n self.old → level_bytes level self.old.graph ≤ n → OpenFits n self.new }
+        ensures fits { StillFits self.old self.new }
     {
         self.level = level;
         self.frames.clear();
@@ -68,7 +67,7 @@ impl<A: Allocator + Copy> State<A> {
         ensures takes { (l : Leaf) → Takes self.old Turn.EndNode l self.new }
         ensures depth { self.new.depth ≡ self.old.depth }
         ensures stack { FramesTaken self.old Turn.EndNode self.new }
-        ensures fits { TurnFits self.old Turn.EndNode self.new }
+        ensures fits { TurnFits self.old self.new }
     {
         self.frame.subject.set_anon(self.bracket);
         let mode = self.node_closed();
@@ -82,7 +81,7 @@ impl<A: Allocator + Copy> State<A> {
         ensures graph { graph_at self.new result ≡ graph_of self.old.level self.old.graph }
         ensures same { self.new ≡ record self.old { frame = self.new.frame; frames = self.new.frames; spares = self.new.spares } }
         ensures stack { length self.new.frames.items ≤ length self.old.frames.items - 1 }
-        ensures fits { BracketFits self.old result self.new }
+        ensures fits { StillFits self.old self.new }
     {
         match self.frames.pop() {
             None => Mode::AfterSubject,

@@ -5,8 +5,7 @@ ghost use Rattle.rdf_iri.specs.Scope.{InForce};
 ghost use Rattle.rdf_tokens.specs.Leaves.{Leaf};
 ghost use Rattle.rdf_trig.specs.Machine as M;
 ghost use Rattle.rdf_trig.specs.States.{graph_in, is_go, mode_in, setting};
-ghost use Rattle.rdf_trig.specs.Holding.{Fits};
-ghost use Rattle.rdf_trig.specs.Turns.{Decides, SuitsIn, KeepsFrames, IsWithin};
+ghost use Rattle.rdf_trig.specs.Turns.{Decides, SuitsIn, KeepsFrames};
 ghost use Rattle.rdf_trig.specs.declared.form.DocForm.{DocForm};
 
 mod lists;
@@ -26,7 +25,6 @@ impl<A: Allocator> State<A> {
         ensures means { Decides form self.now self.now.mode kind result }
         ensures suits { IfSome result (SuitsIn form self.now self.now.mode kind) }
         ensures frames { IfSome result (KeepsFrames kind) }
-        ensures fits { (n : ℕ) → Fits n self.now → IfSome result (IsWithin n self.now) }
     {
         match self.mode {
             Mode::Outer(outer) => self.outer_turn(form, outer, kind),

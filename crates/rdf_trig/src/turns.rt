@@ -20,7 +20,7 @@ impl<A: Allocator + Copy> State<A> {
         ensures takes { OnOk result (Takes self.old turn (leaf token.now) self.new) }
         ensures depth { self.new.depth ≡ self.old.depth }
         ensures stack { OnOk result (FramesTaken self.old turn self.new) }
-        ensures fits { OnOk result (TakesFit self.old turn token.now self.new) }
+        ensures fits { OnOk result (TakesFit self.old token.now self.new) }
         ensures err { IfErr result (λ r. r ≡ StepFault.Memory) }
     {
         match turn {

@@ -184,14 +184,15 @@ pub keeps_moved : {A : Type 0} (form : DocForm) (s : InForce) (sizes : Sizes) (o
     Keeps form sizes old → byte_len l.text ≤ 4 * sizes.token →
     M.step form (state_of form s old).setting (state_of form s old).mode k l ≡ moved form t u r → DepthMoves k old.depth r.depth →
     (M.deepens k ≡ true → old.depth + 1 ≤ sizes.depth) → length r.frames.items ≤ frames_most k (length old.frames.items) → Fits (most_text sizes) r →
-    Keeps form sizes r
-keeps_moved form s sizes old r k l u t keeps short e d room stack fits =
+    r.name ≡ None → Keeps form sizes r
+keeps_moved form s sizes old r k l u t keeps short e d room stack fits name =
     let n = state_of form s old in
     record {
       depth = depth_same k old.depth r.depth (M.depth n.mode) _ keeps.depth d (step_depth form n.setting n.mode k l u _ _ _ _ e);
       short = prefix_kept (byte_len l.text) (4 * sizes.token) form r r.mode short (step_prefix form n.setting n.mode k l u _ _ _ _ e);
       deep = depth_within k old.depth r.depth sizes.depth keeps.deep room d;
       fits = fits;
+      name = name;
       stack = stack_within k (length old.frames.items) (length r.frames.items) old.depth r.depth keeps.stack stack d;
     }
 

@@ -1,5 +1,5 @@
 -- The texts that a token brings are no longer than the token, and the stack of frames keeps what holds of each.
-use Rattle.std.proofs.Common.{◌≡◌, ℕ, Option, Some, None, ◌+◌, ◌^◌, ◌*◌, ◌≤◌, List, [], ◌∷◌, ◌++◌, length, drop, subst, sym, ap, ap₂, ◌∙◌, arith, length-append}
+use Rattle.std.proofs.Common.{◌≡◌, ℕ, Option, Some, None, ◌+◌, ◌^◌, ◌*◌, ◌≤◌, List, [], ◌∷◌, ◌++◌, length, drop, refl, subst, sym, ap, ap₂, ◌∙◌, arith, length-append}
 use Rattle.std.specs.List.{AllByRecursion, sum_by}
 use Rattle.std.proofs.lemmas.Nat.{mul-le}
 use native.Mathlib.Nat.{le-max_left, le-max_right, max-le, mul-add, mul_comm, mul_assoc}
@@ -15,13 +15,10 @@ use Rattle.rdf_iri.proofs.TextsLemmas.{before-from}
 use Rattle.rdf_iri.proofs.ResolvedText.{byte_len-chars}
 use Rattle.rdf_trig.specs.declared.form.DocForm.{DocForm}
 use Rattle.rdf_trig.specs.declared.state.Frame.{Frame}
-use Rattle.rdf_trig.specs.declared.state.Block.TheVariants as block
-use Rattle.rdf_trig.specs.declared.state.Container.{Container}
-use Rattle.rdf_trig.specs.declared.state.Container.TheVariants as container
-use Rattle.rdf_trig.specs.declared.state.Level.{Level}
-use Rattle.rdf_trig.specs.declared.state.Level.TheVariants as level
 use Rattle.rdf_trig.specs.declared.state.Mode.{Mode}
 use Rattle.rdf_trig.specs.declared.state.Mode.TheVariants as mode
+use Rattle.rdf_trig.specs.declared.state.Outer.{Outer}
+use Rattle.rdf_trig.specs.declared.state.Outer.TheVariants as outer
 use Rattle.rdf_trig.specs.declared.state.Held.{Held}
 use Rattle.rdf_trig.specs.declared.state.Held.TheVariants as held
 use Rattle.rdf_trig.specs.declared.state.State.{State}
@@ -29,13 +26,16 @@ use Rattle.rdf_tokens.specs.declared.token.Token.{Token as Given}
 use Rattle.rdf_tokens.specs.Good.{most_bytes}
 use Rattle.rdf_iri.specs.Limits.{Sizes, InRange}
 use Rattle.rdf_iri.specs.Scope.{most_bytes_held}
-use Rattle.rdf_trig.specs.States.{leaf}
+use Rattle.rdf_trig.specs.States.{leaf, outer_of, text_in}
+use Rattle.rdf_trig.specs.Turns.{KeepsPrefix}
 use Rattle.rdf_trig.specs.Steps.{Keeps}
 use Rattle.rdf_trig.specs.Owed.{iri_size, most_kept}
 use Rattle.rdf_trig.specs.Machine.{Topic}
 use Rattle.rdf_trig.specs.Slots.{topic_at}
+use Rattle.rdf_trig.specs.declared.slots.SubjectKind.{SubjectKind}
 use Rattle.rdf_trig.specs.declared.slots.SubjectKind.TheVariants as kind
-use Rattle.rdf_trig.specs.Holding.{level_bytes, open_bytes, frame_bytes, mode_bytes, held_bytes, state_bytes, most_text, TextFits, NameFits, ListFits, FrameFits, OpenFits, Fits}
+use Rattle.rdf_trig.specs.Texts.{frame_bytes, state_bytes}
+use Rattle.rdf_trig.specs.Holding.{most_text, TextFits, NameFits, FrameFits, Fits}
 use Rattle.rdf_trig.proofs.code.AnswersOfSteps.{bytes_at_most}
 
 -- a text of no more characters than another has at most four bytes for each of the other's
@@ -61,22 +61,33 @@ before_shorter c w =
     let cut = length-append (before c w) (from c w) in
     omega (arith, all, cut)
 
--- a state that holds no object fits where its mode does
-pub stood_fits : {A : Type 0} (n : ℕ) (old new : State A) (m : Mode) (x : Option (ℕ × ℕ)) →
-    new ≡ record old { rest = x; held = held.Nothing; mode = m } → OpenFits n old → mode_bytes old m ≤ n → Fits n new
-stood_fits n old new m x e o h =
-    subst (Fits n) (sym e) (record { around = record { level = o.level; frame = o.frame; frames = o.frames }; mode = h; hand = omega (arith, h) })
+-- a state fits as one that it differs from only in where it stands and in what waits
+pub stands_fits : {A : Type 0} (n : ℕ) (old new : State A) (m : Mode) (h : Held) (x : Option (ℕ × ℕ)) →
+    new ≡ record old { rest = x; held = h; mode = m } → Fits n old → Fits n new
+stands_fits n old new m h x e f =
+    subst (Fits n) (sym e) (record { graph = f.graph; object = f.object; tail = f.tail; frame = f.frame; frames = f.frames; spares = f.spares })
 
--- one that holds an object fits where the object has at most two texts
-pub holds_fits : {A : Type 0} (n : ℕ) (old new : State A) (b : Held) (x : Option (ℕ × ℕ)) →
-    new ≡ record old { rest = x; held = b; mode = mode.After } → OpenFits n old → held_bytes old b ≤ 2 * n → Fits n new
-holds_fits n old new b x e o h =
-    subst (Fits n) (sym e) (record { around = record { level = o.level; frame = o.frame; frames = o.frames }; mode = omega arith; hand = omega (arith, h) })
+-- so too with another object, where the text is emptied
+pub held_fits : {A : Type 0} (n : ℕ) (old new : State A) (o : Topic) (x : Option (ℕ × ℕ)) →
+    new ≡ record old { object = o; text = new.text; rest = x; held = held.Resource; mode = mode.After } → string_bytes new.text ≡ [] →
+    Fits n old → o.size ≤ n → Fits n new
+held_fits n old new o x e t f h =
+    let empty = ap length t in
+    subst (Fits n) (sym e) (record { graph = f.graph; object = omega (arith, h, empty); tail = f.tail; frame = f.frame; frames = f.frames; spares = f.spares })
 
--- a predicate list with another subject fits where that subject does, and with another verb where that verb does
-pub subject_fits : (n : ℕ) (o : Container) (s t : Topic) (p : Option (List ℕ)) → ListFits n o s p → t.size ≤ n → ListFits n o t p
-subject_fits n (container.List a) s t p h k = (k, h.1)
-subject_fits n (container.Cells first cell) s t p h k = tt
+-- a subject without a text fits
+pub empty_fits : (n : ℕ) (x : Topic) (k : SubjectKind) → x ≡ topic_at k [] → x.size ≤ n
+empty_fits n x k e = let z : x.size ≡ 0 = ap (λ (t : Topic). t.size) e in omega (arith, z)
+
+-- outside of statements the text is no longer than before, and the prefix of a directive is what it was
+pub kept_less : {A : Type 0} (o : Outer) (old new : State A) → KeepsPrefix o old new → length (string_bytes new.text) ≤ length (string_bytes old.text)
+kept_less (outer.WantPrefixIri w) old new e = let l = ap length e in omega (arith, l)
+kept_less o old new e = let l = ap length e in omega (arith, l)
+
+pub kept_prefix : {A : Type 0} (o : Outer) (old new : State A) (n : ℕ) (g : Topic) → KeepsPrefix o old new →
+    outer_of o n (text_in new) g ≡ outer_of o n (text_in old) g
+kept_prefix (outer.WantPrefixIri w) old new n g e = ap (λ b. outer_of (outer.WantPrefixIri w) n (chars b) g) e
+kept_prefix o old new n g e = refl
 
 -- the label that a token spells fits where the token does
 pub label_fits : (n : ℕ) (x : Topic) (v w : List ℕ) → x ≡ topic_at kind.Label v → v ≡ drop 2 w → 4 * length w ≤ n → x.size ≤ n
@@ -89,12 +100,6 @@ pub tag_fits : (n : ℕ) (x : Option (List ℕ)) (v w : List ℕ) → x ≡ Some
 tag_fits n x v w e f h =
     let z = dropped_fits 1 w in
     subst (λ y. iri_size y ≤ n) (sym e) (subst (λ u. byte_len u ≤ n) (sym f) (omega (arith, z, h)))
-
--- the label of a graph that fits does so in each block
-pub graph_fits : (n : ℕ) (v : Level) (g : Topic) → g.size ≤ n → level_bytes v g ≤ n
-graph_fits n level.Top g h = omega arith
-graph_fits n (level.Block block.Default) g h = omega arith
-graph_fits n (level.Block block.Named) g h = h
 
 -- what fits of each frame fits of one frame more
 pub frames_pushed : {A : Type 0} (n : ℕ) (gs fs : List (Frame A)) (f : Frame A) → gs ≡ fs ++ f ∷ [] →
@@ -126,17 +131,18 @@ name_within here sizes (Some i) e h =
     let k : byte_len i ≤ sizes.iri = subst (λ (z : Sizes). byte_len i ≤ z.iri) e h in
     omega (arith, k, m)
 
--- so too with another name
+-- the bytes of a name that fits are within the same bound
+pub name_size : (n : ℕ) (i : Option (List ℕ)) → NameFits n i → iri_size i ≤ n
+name_size n None h = omega arith
+name_size n (Some i) h = h
+
+-- texts fit whatever the name is
 pub named_fits : {A : Type 0} (n : ℕ) (r : State A) (i : Option (List ℕ)) → Fits n r → Fits n (record r { name = i })
-named_fits n r i f = record { around = record { level = f.around.level; frame = f.around.frame; frames = f.around.frames }; mode = f.mode; hand = f.hand }
+named_fits n r i f = record { graph = f.graph; object = f.object; tail = f.tail; frame = f.frame; frames = f.frames; spares = f.spares }
 
 -- a frame holds two texts at most
 frame_within : {A : Type 0} (n : ℕ) (f : Frame A) → FrameFits n f → frame_bytes f ≤ 2 * n
-frame_within n f h = by f.container f.subject f.verb h
-  where
-    by : (o : Container) (s : Topic) (p : Option (List ℕ)) → ListFits n o s p → open_bytes o s p ≤ 2 * n
-    by (container.List a) s p h = let x = h.0 in let y = h.1 in omega (arith, x, y)
-    by (container.Cells first cell) s p h = omega arith
+frame_within n f h = let x = h.0 in let y = h.1 in omega (arith, x, y)
 
 -- so all of them hold twice as many as they are
 frames_within : {A : Type 0} (n : ℕ) (fs : List (Frame A)) → AllByRecursion (FrameFits n) fs → sum_by frame_bytes fs ≤ length fs * (2 * n)
@@ -148,14 +154,17 @@ pub state_within : {A : Type 0} (form : DocForm) (sizes : Sizes) (r : State A) �
 state_within form sizes r keeps =
     let n = most_text sizes in
     let fits = keeps.fits in
-    let below = frames_within n r.frames.items fits.around.frames in
+    let below = frames_within n r.frames.items fits.frames in
     let deep : length r.frames.items ≤ sizes.depth = let d = keeps.deep in let s = keeps.stack in omega (arith, d, s) in
     let all = mul-le (length r.frames.items) (2 * n) sizes.depth (2 * n) deep (omega arith) in
-    let one = frame_within n r.frame fits.around.frame in
-    let level = fits.around.level in
-    let hand = fits.hand in
+    let one = frame_within n r.frame fits.frame in
+    let graph = fits.graph in
+    let object = fits.object in
+    let tail = fits.tail in
+    let name : iri_size r.name ≡ 0 = ap iri_size keeps.name in
+    let spares = fits.spares in
     let product : n * (2 * (sizes.depth + 1) + 3) ≡ sizes.depth * (2 * n) + 5 * n = factors n sizes.depth in
-    omega (arith, below, all, one, level, hand, product)
+    omega (arith, below, all, one, graph, object, tail, name, spares, product)
   where
     factors : (n d : ℕ) → n * (2 * (d + 1) + 3) ≡ d * (2 * n) + 5 * n
     factors n d =

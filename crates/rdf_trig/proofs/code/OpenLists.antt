@@ -16,10 +16,11 @@ use Rattle.rdf_trig.specs.declared.state.State.{State}
 use Rattle.rdf_trig.specs.Machine as M
 use Rattle.rdf_trig.specs.Machine.{place_size, up_size, mode_size}
 use Rattle.rdf_trig.specs.States.{level_of, place_at, place_of, up_from, up_in, text_in, outer_of, after_semicolon_at, mode_at, mode_in}
-use Rattle.rdf_trig.specs.Holding.{open_bytes, frame_bytes, state_bytes}
+use Rattle.rdf_trig.specs.Owed.{iri_size}
+use Rattle.rdf_trig.specs.Texts.{frame_bytes, state_bytes}
 
 -- what is open holds what its place has beside what stands round it
-list_within : (v : M.Level) (o : Container) (s : M.Topic) (p : Option (List ℕ)) (u : M.Up) → place_size (place_at v o s p u) ≤ up_size u + open_bytes o s p
+list_within : (v : M.Level) (o : Container) (s : M.Topic) (p : Option (List ℕ)) (u : M.Up) → place_size (place_at v o s p u) ≤ up_size u + (s.size + iri_size p)
 list_within v (container.List around.Statement) s p u = omega arith
 list_within v (container.List around.PropertyList) s p u = omega arith
 list_within v (container.Cells first cell) s p u = omega arith
@@ -57,7 +58,7 @@ subject_none TriG M.Top s = refl
 subject_none TriG M.InBlock s = refl
 
 -- after a `;` the verb is not counted
-semicolon_within : (v : M.Level) (o : Container) (s : M.Topic) (p : Option (List ℕ)) (u : M.Up) → mode_size (after_semicolon_at (place_at v o s p u)) ≤ up_size u + open_bytes o s p
+semicolon_within : (v : M.Level) (o : Container) (s : M.Topic) (p : Option (List ℕ)) (u : M.Up) → mode_size (after_semicolon_at (place_at v o s p u)) ≤ up_size u + (s.size + iri_size p)
 semicolon_within v (container.List around.Statement) s p u = omega arith
 semicolon_within v (container.List around.PropertyList) s p u = omega arith
 semicolon_within v (container.Cells first cell) s p u = omega arith

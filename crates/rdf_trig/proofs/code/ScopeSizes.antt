@@ -1,13 +1,12 @@
 -- Scopes that agree in every look-up take the same bytes.
-use Rattle.std.proofs.Common.{◌≡◌, ◌+◌, ◌≤◌, ℕ, Bool, true, false, cond, List, [], ◌∷◌, Option, Some, None, is_some, refl, sym, ap, ◌∙◌, subst, ⊎_elim, arith}
+use Rattle.std.proofs.Common.{◌≡◌, ◌+◌, ◌≤◌, ℕ, true, false, cond, List, [], ◌∷◌, Option, Some, None, is_some, refl, sym, ap, ◌∙◌, subst, ⊎_elim, arith}
 use Rattle.std.proofs.lemmas.Bool.{cond-true, cond-false, cases_Bool}
 use Rattle.std.specs.List.{sum_by}
 use Rattle.std.proofs.lemmas.List.Sums.{sum_by-cons}
 use Rattle.rdf_iri.specs.Texts.{equal, byte_len}
-use Rattle.rdf_iri.specs.Scope.{InForce, bound_to, base_bytes, binding_bytes, bytes_held}
+use Rattle.rdf_iri.specs.Scope.{bound_to, base_bytes, binding_bytes}
 use Rattle.rdf_iri.proofs.TextsLemmas.{equal-true, equal-self}
-use Rattle.rdf_trig.specs.Names.{SameNames}
-use Rattle.rdf_trig.specs.Owed.{in_force, scope_size}
+use Rattle.rdf_trig.specs.Owed.{in_force}
 use Rattle.rdf_trig.specs.Laws.{ScopesAlikeTakeAlike}
 
 abbrev Bindings : Type 0

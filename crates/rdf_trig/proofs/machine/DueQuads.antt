@@ -6,7 +6,6 @@ use Rattle.rdf_tokens.specs.Grammars.{items_below, Rises}
 use Rattle.rdf_tokens.proofs.GrammarsLemmas.{rises_from}
 use Rattle.rdf_terms.specs.Terms.{Quad}
 use Rattle.rdf_tokens.specs.Tokens.{Token}
-use Rattle.rdf_tokens.specs.Grammars.{Marked}
 use Rattle.rdf_iri.specs.Scope.{InForce}
 use Rattle.rdf_tokens.specs.Leaves.{leaf_of}
 use Rattle.rdf_trig.specs.declared.form.DocForm.{DocForm}

@@ -4,9 +4,9 @@ ghost use Rattle.std.specs.Prelude.{◌≡◌, ℕ, ◌≤◌, List, None, Optio
 ghost use Rattle.rdf_trig.specs.Machine as M;
 ghost use Rattle.rdf_trig.specs.States.{IsNamed, setting, graph_of, level_of, outer_graph, outer_of, mode_at};
 ghost use Rattle.rdf_trig.specs.States.{setting_in, place_in, up_in, around_in, after_semicolon_at, mode_after_dot};
-ghost use Rattle.rdf_trig.specs.Holding.{outer_bytes, level_bytes, OpenFits, frames_most};
+ghost use Rattle.rdf_trig.specs.Holding.{frames_most};
 ghost use Rattle.rdf_trig.specs.Turns.{IsVerb, SuitsVerb};
-ghost use Rattle.rdf_trig.specs.Turns.{Means, MeansHere, MeansVerb, IsSuited, KeepsFrames, IsWithin};
+ghost use Rattle.rdf_trig.specs.Turns.{Means, MeansHere, MeansVerb, IsSuited, KeepsFrames};
 ghost use Rattle.rdf_trig.specs.declared.form.DocForm.{DocForm};
 
 use crate::form::DocForm;
@@ -22,7 +22,6 @@ impl<A: Allocator> State<A> {
         ensures means { Means form self.now kind result (λ s. M.step form (setting_in s self.now) (mode_at form self.now Mode.AfterSubject) kind) }
         ensures suits { IfSome result (IsSuited kind) }
         ensures frames { IfSome result (KeepsFrames kind) }
-        ensures fits { (n : ℕ) → OpenFits n self.now → self.now.frame.subject.size ≤ n → IfSome result (IsWithin n self.now) }
     {
         match self.level {
             Level::Block(_) => self.want_verb(Around::Statement, kind),
@@ -39,7 +38,6 @@ impl<A: Allocator> State<A> {
         ensures means { (form : DocForm) → Means form self.now kind result (λ s. M.after_label (setting s None) self.now.frame.subject kind) }
         ensures suits { IfSome result (IsSuited kind) }
         ensures frames { IfSome result (KeepsFrames kind) }
-        ensures fits { (n : ℕ) → OpenFits n self.now → self.now.frame.subject.size ≤ n → IfSome result (IsWithin n self.now) }
     {
         match kind {
             Kind::OpenBrace => {
@@ -55,7 +53,6 @@ impl<A: Allocator> State<A> {
         ensures means { MeansVerb self.now around kind result }
         ensures suits { IfSome result (IsSuited kind) }
         ensures frames { IfSome result (KeepsFrames kind) }
-        ensures fits { (n : ℕ) → OpenFits n self.now → self.now.frame.subject.size ≤ n → IfSome result (IsWithin n self.now) }
     {
         Some(Turn::Verb(around, verb_of(kind)?))
     }
@@ -66,7 +63,6 @@ impl<A: Allocator> State<A> {
         ensures means { (form : DocForm) → Means form self.now kind result (λ s. M.property_list_start form (setting_in s self.now) self.now.bracket (up_in self.now) kind) }
         ensures suits { IfSome result (IsSuited kind) }
         ensures frames { IfSome result (KeepsFrames kind) }
-        ensures fits { (n : ℕ) → OpenFits n self.now → IfSome result (IsWithin n self.now) }
     {
         match kind {
             Kind::CloseBracket => Some(Turn::EndNode),
@@ -80,7 +76,6 @@ impl<A: Allocator> State<A> {
         ensures means { MeansHere self.now kind result (λ c p. M.after c p kind) }
         ensures suits { IfSome result (IsSuited kind) }
         ensures frames { IfSome result (KeepsFrames kind) }
-        ensures fits { (n : ℕ) → OpenFits n self.now → IfSome result (IsWithin n self.now) }
     {
         match kind {
             Kind::Comma => Some(Turn::NextObject),
@@ -94,7 +89,6 @@ impl<A: Allocator> State<A> {
         ensures means { (form : DocForm) → Means form self.now kind result (λ s. M.step form (setting_in s self.now) (after_semicolon_at (place_in self.now)) kind) }
         ensures suits { IfSome result (IsSuited kind) }
         ensures frames { IfSome result (KeepsFrames kind) }
-        ensures fits { (n : ℕ) → OpenFits n self.now → IfSome result (IsWithin n self.now) }
     {
         match self.frame.container {
             Container::List(around) => self.after_verb(around, kind),
@@ -108,7 +102,6 @@ impl<A: Allocator> State<A> {
         ensures means { MeansHere self.now kind result (λ c p. M.after_semicolon c self.now.frame.subject (around_in self.now around) kind) }
         ensures suits { IfSome result (IsSuited kind) }
         ensures frames { IfSome result (KeepsFrames kind) }
-        ensures fits { (n : ℕ) → OpenFits n self.now → IfSome result (IsWithin n self.now) }
     {
         match verb_of(kind) {
             Some(verb) => Some(Turn::Verb(around, verb)),
@@ -125,7 +118,6 @@ impl<A: Allocator> State<A> {
         ensures means { MeansHere self.now kind result (λ c p. M.after_property_list c self.now.frame.subject (level_of self.now.level) kind) }
         ensures suits { IfSome result (IsSuited kind) }
         ensures frames { IfSome result (KeepsFrames kind) }
-        ensures fits { (n : ℕ) → OpenFits n self.now → self.now.frame.subject.size ≤ n → IfSome result (IsWithin n self.now) }
     {
         match verb_of(kind) {
             Some(verb) => Some(Turn::Verb(Around::Statement, verb)),
@@ -138,7 +130,6 @@ impl<A: Allocator> State<A> {
         ensures means { MeansHere self.now kind result (λ c p. M.predicate_list_end c self.now.frame.subject (around_in self.now around) kind) }
         ensures suits { IfSome result (IsSuited kind) }
         ensures frames { IfSome result (KeepsFrames kind) }
-        ensures fits { (n : ℕ) → OpenFits n self.now → self.now.frame.subject.size ≤ n → IfSome result (IsWithin n self.now) }
     {
         match around {
             Around::Statement => self.statement_end(kind),
@@ -154,7 +145,6 @@ impl<A: Allocator> State<A> {
         ensures means { (x : M.Topic) → MeansHere self.now kind result (λ c p. M.predicate_list_end c x (M.Statement (level_of self.now.level)) kind) }
         ensures suits { IfSome result (IsSuited kind) }
         ensures frames { IfSome result (KeepsFrames kind) }
-        ensures fits { (n : ℕ) → OpenFits n self.now → IfSome result (IsWithin n self.now) }
     {
         match kind {
             Kind::Dot => Some(Turn::Lead(after_dot(self.level))),
@@ -172,7 +162,6 @@ impl<A: Allocator> State<A> {
 fn after_dot(level: Level) -> Outer
     ensures graph { (g : M.Topic) → outer_graph result g ≡ graph_of level g }
     ensures mode { (n : ℕ) (p : List ℕ) (g : M.Topic) → outer_of result n p g ≡ mode_after_dot (level_of level) }
-    ensures bytes { (p : ℕ) (g : M.Topic) → outer_bytes result p g ≡ level_bytes level g }
 {
     match level {
         Level::Top => Outer::Start,

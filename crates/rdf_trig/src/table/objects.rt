@@ -4,9 +4,9 @@ ghost use Rattle.std.specs.Prelude.{ℕ, ◌≤◌, List, None, Option, IfSome};
 ghost use Rattle.rdf_trig.specs.Machine as M;
 ghost use Rattle.rdf_trig.specs.States.{IsNamed, text_in};
 ghost use Rattle.rdf_trig.specs.States.{up_in, item_in};
-ghost use Rattle.rdf_trig.specs.Holding.{text_bytes, OpenFits, frames_most};
+ghost use Rattle.rdf_trig.specs.Holding.{frames_most};
 ghost use Rattle.rdf_trig.specs.Turns.{BeginsObject, SuitsObject, frames_begun};
-ghost use Rattle.rdf_trig.specs.Turns.{MeansHere, IsSuited, KeepsFrames, IsWithin};
+ghost use Rattle.rdf_trig.specs.Turns.{MeansHere, IsSuited, KeepsFrames};
 
 use crate::state::{Container, State};
 use crate::turn::{ObjectStart, Turn};
@@ -19,7 +19,6 @@ impl<A: Allocator> State<A> {
         ensures means { MeansHere self.now kind result (λ c p. M.object_start c p None kind) }
         ensures suits { IfSome result (IsSuited kind) }
         ensures frames { IfSome result (KeepsFrames kind) }
-        ensures fits { (n : ℕ) → OpenFits n self.now → IfSome result (IsWithin n self.now) }
     {
         Some(Turn::Object(object_start(kind)?))
     }
@@ -29,7 +28,6 @@ impl<A: Allocator> State<A> {
         ensures means { MeansHere self.now kind result (λ c p. M.after c p kind) }
         ensures suits { IfSome result (IsSuited kind) }
         ensures frames { IfSome result (KeepsFrames kind) }
-        ensures fits { (n : ℕ) → OpenFits n self.now → IfSome result (IsWithin n self.now) }
     {
         match self.frame.container {
             Container::List(around) => self.after_listed(around, kind),
@@ -43,7 +41,6 @@ impl<A: Allocator> State<A> {
         ensures means { MeansHere self.now kind result (λ c p. M.after c (item_in self.now) kind) }
         ensures suits { IfSome result (IsSuited kind) }
         ensures frames { IfSome result (KeepsFrames kind) }
-        ensures fits { (n : ℕ) → OpenFits n self.now → IfSome result (IsWithin n self.now) }
     {
         match kind {
             Kind::CloseParen => Some(Turn::EndCollection),
@@ -57,7 +54,6 @@ impl<A: Allocator> State<A> {
         ensures means { MeansHere self.now kind result (λ c p. M.collection_start c (up_in self.now) kind) }
         ensures suits { IfSome result (IsSuited kind) }
         ensures frames { IfSome result (KeepsFrames kind) }
-        ensures fits { (n : ℕ) → OpenFits n self.now → IfSome result (IsWithin n self.now) }
     {
         match kind {
             Kind::CloseParen => Some(Turn::EmptyCollection),
@@ -70,7 +66,6 @@ impl<A: Allocator> State<A> {
         ensures means { MeansHere self.now kind result (λ c p. M.after_text c (text_in self.now) p kind) }
         ensures suits { IfSome result (IsSuited kind) }
         ensures frames { IfSome result (KeepsFrames kind) }
-        ensures fits { (n : ℕ) → OpenFits n self.now → text_bytes self.now ≤ n → IfSome result (IsWithin n self.now) }
     {
         match kind {
             Kind::LangTag | Kind::AtBase | Kind::AtPrefix => Some(Turn::Tag),
@@ -84,7 +79,6 @@ impl<A: Allocator> State<A> {
         ensures means { MeansHere self.now kind result (λ c p. M.want_type c (text_in self.now) p kind) }
         ensures suits { IfSome result (IsSuited kind) }
         ensures frames { IfSome result (KeepsFrames kind) }
-        ensures fits { (n : ℕ) → OpenFits n self.now → text_bytes self.now ≤ n → IfSome result (IsWithin n self.now) }
     {
         match kind {
             Kind::IriRef | Kind::PnameNs | Kind::PnameLn => Some(Turn::Datatype),

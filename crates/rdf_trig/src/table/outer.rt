@@ -3,9 +3,9 @@
 ghost use Rattle.std.specs.Prelude.{◌≡◌, ℕ, ◌≤◌, List, None, Option, IfSome};
 ghost use Rattle.rdf_trig.specs.Machine as M;
 ghost use Rattle.rdf_trig.specs.States.{IsNamed, setting, block_graph, outer_graph, outer_of, spelling_of};
-ghost use Rattle.rdf_trig.specs.Holding.{text_bytes, block_bytes, outer_bytes, level_bytes, OpenFits, IsTextless, frames_most};
+ghost use Rattle.rdf_trig.specs.Holding.{frames_most};
 ghost use Rattle.rdf_trig.specs.Turns.{BeginsSubject, SuitsSubject, IsOuterStart};
-ghost use Rattle.rdf_trig.specs.Turns.{Decides, Means, MeansSubject, IsSuited, SuitsAny, SuitsIn, KeepsFrames, IsWithin};
+ghost use Rattle.rdf_trig.specs.Turns.{Decides, Means, MeansSubject, IsSuited, SuitsAny, SuitsIn, KeepsFrames};
 ghost use Rattle.rdf_trig.specs.declared.form.DocForm.{DocForm};
 
 use crate::form::DocForm;
@@ -22,7 +22,6 @@ impl<A: Allocator> State<A> {
         ensures means { Decides form self.now (Mode.Outer outer) kind result }
         ensures suits { IfSome result (SuitsIn form self.now (Mode.Outer outer) kind) }
         ensures frames { IfSome result (KeepsFrames kind) }
-        ensures fits { (n : ℕ) → OpenFits n self.now → outer_bytes outer (text_bytes self.now) self.now.graph ≤ n → IfSome result (IsWithin n self.now) }
     {
         match outer {
             Outer::Start => self.start(form, kind),
@@ -44,7 +43,6 @@ impl<A: Allocator> State<A> {
         ensures means { Means form self.now kind result (λ s. M.start form (setting s None) kind) }
         ensures suits { IfSome result (IsSuited kind) }
         ensures frames { IfSome result (KeepsFrames kind) }
-        ensures fits { (n : ℕ) → OpenFits n self.now → IfSome result (IsWithin n self.now) }
     {
         match outer_start(form, kind) {
             Some(outer) => Some(Turn::Lead(outer)),
@@ -58,7 +56,6 @@ impl<A: Allocator> State<A> {
         ensures means { (form : DocForm) → Means form self.now kind result (λ s. M.inside form (setting s (block_graph block self.now.graph)) kind) }
         ensures suits { IfSome result (IsSuited kind) }
         ensures frames { IfSome result (KeepsFrames kind) }
-        ensures fits { (n : ℕ) → OpenFits n self.now → block_bytes block self.now.graph ≤ n → IfSome result (IsWithin n self.now) }
     {
         match kind {
             Kind::CloseBrace => Some(Turn::Lead(Outer::Start)),
@@ -71,7 +68,6 @@ impl<A: Allocator> State<A> {
         ensures means { MeansSubject self.now level kind result }
         ensures suits { IfSome result (IsSuited kind) }
         ensures frames { IfSome result (KeepsFrames kind) }
-        ensures fits { (n : ℕ) → OpenFits n self.now → level_bytes level self.now.graph ≤ n → IfSome result (IsWithin n self.now) }
     {
         Some(Turn::Subject(level, subject_start(kind)?))
     }
@@ -81,7 +77,6 @@ impl<A: Allocator> State<A> {
         ensures means { (form : DocForm) → Decides form self.now (Mode.Outer (Outer.WantPrefix spelling)) kind result }
         ensures suits { IfSome result (SuitsAny kind) }
         ensures frames { IfSome result (KeepsFrames kind) }
-        ensures fits { (n : ℕ) → OpenFits n self.now → IfSome result (IsWithin n self.now) }
     {
         match kind {
             Kind::PnameNs => Some(Turn::Prefix(spelling)),
@@ -95,7 +90,6 @@ impl<A: Allocator> State<A> {
         ensures base { (form : DocForm) → Decides form self.now (Mode.Outer (Outer.WantBaseIri spelling)) kind result }
         ensures suits { IfSome result (SuitsAny kind) }
         ensures frames { IfSome result (KeepsFrames kind) }
-        ensures fits { (n : ℕ) → OpenFits n self.now → IfSome result (IsWithin n self.now) }
     {
         match kind {
             Kind::IriRef => Some(Turn::Lead(directive_end(spelling))),
@@ -108,7 +102,6 @@ impl<A: Allocator> State<A> {
         ensures means { (form : DocForm) → Means form self.now kind result (λ s. M.want_dot (setting s None) kind) }
         ensures suits { IfSome result (IsSuited kind) }
         ensures frames { IfSome result (KeepsFrames kind) }
-        ensures fits { (n : ℕ) → OpenFits n self.now → IfSome result (IsWithin n self.now) }
     {
         match kind {
             Kind::Dot => Some(Turn::Lead(Outer::Start)),
@@ -121,7 +114,6 @@ impl<A: Allocator> State<A> {
         ensures means { (form : DocForm) → Means form self.now kind result (λ s. M.graph_word (setting s None) kind) }
         ensures suits { IfSome result (IsSuited kind) }
         ensures frames { IfSome result (KeepsFrames kind) }
-        ensures fits { (n : ℕ) → OpenFits n self.now → IfSome result (IsWithin n self.now) }
     {
         match kind {
             Kind::IriRef | Kind::PnameNs | Kind::PnameLn => Some(Turn::GraphName),
@@ -136,7 +128,6 @@ impl<A: Allocator> State<A> {
         ensures means { (form : DocForm) → Means form self.now kind result (λ s. M.graph_bracket (setting s None) self.now.bracket kind) }
         ensures suits { IfSome result (IsSuited kind) }
         ensures frames { IfSome result (KeepsFrames kind) }
-        ensures fits { (n : ℕ) → OpenFits n self.now → IfSome result (IsWithin n self.now) }
     {
         match kind {
             Kind::CloseBracket => Some(Turn::GraphNode),
@@ -149,7 +140,6 @@ impl<A: Allocator> State<A> {
         ensures means { (form : DocForm) → Means form self.now kind result (λ s. M.want_brace (setting s None) self.now.graph.term kind) }
         ensures suits { IfSome result (IsSuited kind) }
         ensures frames { IfSome result (KeepsFrames kind) }
-        ensures fits { (n : ℕ) → OpenFits n self.now → self.now.graph.size ≤ n → IfSome result (IsWithin n self.now) }
     {
         match kind {
             Kind::OpenBrace => {
@@ -166,7 +156,6 @@ impl<A: Allocator> State<A> {
 fn outer_start(form: DocForm, kind: Kind) -> Option<Outer>
     ensures means { IsOuterStart form kind result }
     ensures frames { IfSome result (λ o. (m : ℕ) → m ≤ frames_most kind m) }
-    ensures fits { IfSome result IsTextless }
 {
     match (kind, form) {
         (Kind::End, _) => Some(Outer::Over),
@@ -184,7 +173,6 @@ fn outer_start(form: DocForm, kind: Kind) -> Option<Outer>
 fn directive_end(spelling: Spelling) -> Outer
     ensures mode { (n : ℕ) (p : List ℕ) (g : M.Topic) → outer_of result n p g ≡ M.directive_end (spelling_of spelling) }
     ensures graph { (g : M.Topic) → outer_graph result g ≡ None }
-    ensures fits { IsTextless result }
 {
     match spelling {
         Spelling::Dotted => Outer::WantDot,

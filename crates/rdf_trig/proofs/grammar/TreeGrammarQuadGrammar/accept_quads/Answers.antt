@@ -1,13 +1,13 @@
 -- What a step of the reader did is what the machine does, so the driver may use the grammar.
-use Rattle.std.proofs.Common.{ℕ, ◌+◌, arith, subst, sym, ap, ap₂, refl, ◌∙◌}
-use Rattle.rdf_iri.specs.Scope.{InForce, bytes_held}
+use Rattle.std.proofs.Common.{ℕ, arith, subst, sym, ap, ap₂, refl, ◌∙◌}
+use Rattle.rdf_iri.specs.Scope.{InForce}
 use Rattle.rdf_tokens.specs.Scans.{token_of}
 use Rattle.rdf_driver.specs.Words.{Takes, Misses, KeepsLimits}
 use Rattle.rdf_trig.specs.declared.form.DocForm.{DocForm}
 use Rattle.rdf_trig.specs.declared.state.State.{State}
 use Rattle.rdf_trig.specs.Steps.{state_of}
 use Rattle.rdf_trig.specs.Owed.{most_kept}
-use Rattle.rdf_trig.specs.Holding.{state_bytes}
+use Rattle.rdf_trig.specs.Texts.{grammar_bytes}
 use Rattle.rdf_trig.specs.Accepting.{TreeAt, reason_of, tree_words}
 use Rattle.rdf_trig.proofs.code.AnswersOfSteps.{same_scope}
 use Rattle.rdf_trig.proofs.code.OpenLists.{open_within}
@@ -17,7 +17,7 @@ use Rattle.rdf_trig.proofs.grammar.TreeGrammarQuadGrammar.accept_quads.Goals as 
 
 -- a state and a scope as a grammar has them
 abbrev stands : {A : Type 0} → DocForm → ℕ → State A → InForce → TreeAt
-stands form limit state scope = record { form = form; limit = limit; state = state_of form scope state; held = state_bytes state + bytes_held scope }
+stands form limit state scope = record { form = form; limit = limit; state = state_of form scope state; held = grammar_bytes state scope }
 
 pub invariant_of-self-in-Err : goal.invariant_of-self-in-Err
 invariant_of-self-in-Err g c =
@@ -29,8 +29,8 @@ pub returns-in-Ok-clause-ok : goal.returns-in-Ok-clause-ok
 returns-in-Ok-clause-ok g c =
     let r = c.self.inside in
     let t = token_of c.args.token.now in
-    let old : TreeAt = record { form = r.rules.form; limit = r.rules.limits.token; state = state_of r.rules.form r.scope r.state; held = state_bytes r.state + bytes_held r.scope } in
-    let bytes = state_bytes c.accept.new.self + bytes_held c.accept.new.scope in
+    let old : TreeAt = record { form = r.rules.form; limit = r.rules.limits.token; state = state_of r.rules.form r.scope r.state; held = grammar_bytes r.state r.scope } in
+    let bytes = grammar_bytes c.accept.new.self c.accept.new.scope in
     let new : TreeAt = record { form = r.rules.form; limit = r.rules.limits.token; state = state_of r.rules.form c.accept.new.scope c.accept.new.self; held = bytes } in
     subst (λ y. Takes tree_words g.S.QuadSink.takes y t c.in-Ok.given c.args.sink.now new c.accept.new.sink) c.self.view_is
     (takes_token g.S.QuadSink.takes old t c.accept.new.self c.accept.new.scope c.in-Ok.given bytes c.args.sink.now c.accept.new.sink
@@ -40,7 +40,7 @@ pub returns-in-Err-clause-err : goal.returns-in-Err-clause-err
 returns-in-Err-clause-err g c =
     let r = c.self.inside in
     let t = token_of c.args.token.now in
-    let old : TreeAt = record { form = r.rules.form; limit = r.rules.limits.token; state = state_of r.rules.form r.scope r.state; held = state_bytes r.state + bytes_held r.scope } in
+    let old : TreeAt = record { form = r.rules.form; limit = r.rules.limits.token; state = state_of r.rules.form r.scope r.state; held = grammar_bytes r.state r.scope } in
     rw c.reason_of.ensures
     (subst (λ y. Misses tree_words g.S.QuadSink.takes g.S.QuadSink.leaves g.S.QuadSink.has_failed (reason_of c.in-Err.fault) y t c.args.sink.now c.accept.new.sink) c.self.view_is
     (misses_token g.S.QuadSink.takes old t g.S.QuadSink.leaves g.S.QuadSink.has_failed c.args.sink.now c.accept.new.sink c.in-Err.fault
@@ -49,14 +49,14 @@ returns-in-Err-clause-err g c =
 pub returns-in-Ok-clause-limits : goal.returns-in-Ok-clause-limits
 returns-in-Ok-clause-limits g c =
     let r = c.self.inside in
-    let bytes = state_bytes c.accept.new.self + bytes_held c.accept.new.scope in
+    let bytes = grammar_bytes c.accept.new.self c.accept.new.scope in
     let new : TreeAt = record { form = r.rules.form; limit = r.rules.limits.token; state = state_of r.rules.form c.accept.new.scope c.accept.new.self; held = bytes } in
     subst (λ y. KeepsLimits tree_words y new) c.self.view_is (record { token = refl; most = ap most_kept c.in-Ok.ensures.limits })
 
 pub returns-in-Err-clause-limits : goal.returns-in-Err-clause-limits
 returns-in-Err-clause-limits g c =
     let r = c.self.inside in
-    let bytes = state_bytes c.begin_anew.new.state + bytes_held c.begin_anew.new.scope in
+    let bytes = grammar_bytes c.begin_anew.new.state c.begin_anew.new.scope in
     let new : TreeAt = record { form = r.rules.form; limit = r.rules.limits.token; state = state_of r.rules.form c.begin_anew.new.scope c.begin_anew.new.state; held = bytes } in
     let kept =
     kept_after c.in-Err.fault r.rules.form r.rules.limits r.state c.accept.new.self c.begin_anew.new.state r.scope c.accept.new.scope c.begin_anew.new.scope

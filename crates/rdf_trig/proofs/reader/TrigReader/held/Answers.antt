@@ -9,14 +9,15 @@ use Rattle.rdf_driver.specs.Readers as R
 use Rattle.rdf_trig.specs.Language.{Chosen}
 use Rattle.rdf_trig.specs.Owed.{Owed, OwedInAll}
 use Rattle.rdf_trig.specs.Accepting.{TrigRead, tree_words}
+use Rattle.rdf_trig.specs.Texts.{all_bytes}
 use Rattle.rdf_trig.proofs.code.OwedHeld.{owed_held, all_owed_held}
 use Rattle.rdf_trig.proofs.reader.TrigReader.held.Goals as goal
 
 pub returns-clause-sum : goal.returns-clause-sum
 returns-clause-sum g c = subst (λ (r : TrigRead). c.held.result ≡ unread_bytes r.scanner + r.grammar.held) c.self.view_is c.held.ensures.sum
 
-pub returns-clause-scanned : goal.returns-clause-scanned
-returns-clause-scanned g c = subst (λ (r : TrigRead). r.scanner.held + r.grammar.held ≤ R.most_held tree_words r) c.self.view_is c.held.ensures.all
+pub returns-clause-all : goal.returns-clause-all
+returns-clause-all g c = subst (λ (r : TrigRead). all_bytes r ≤ R.most_held tree_words r) c.self.view_is c.held.ensures.all
 
 pub returns-clause-least : goal.returns-clause-least
 returns-clause-least g c =

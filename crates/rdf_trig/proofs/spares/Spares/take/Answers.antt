@@ -1,5 +1,10 @@
-use Rattle.std.proofs.Common.{rules}
+use Rattle.std.proofs.Common.{ap, sym, ◌∙◌}
+use Rattle.std.specs.List.{sum_by}
+use Rattle.std.proofs.lemmas.List.Sums.{sum_by_push}
+use Rattle.rdf_trig.specs.Texts.{frame_bytes}
 use Rattle.rdf_trig.proofs.spares.Spares.take.Goals as goal
 
-pub returns-in-Some : goal.returns-in-Some
-returns-in-Some g c = search rules
+-- what the frame that is taken has, and the others, all had
+pub returns-in-Some-clause-texts : goal.returns-in-Some-clause-texts
+returns-in-Some-clause-texts g c =
+    sym (ap (λ fs. sum_by (frame_bytes {A = g.row.A.Denot}) fs) c.in-Some.ensures.items ∙ sum_by_push (frame_bytes {A = g.row.A.Denot}) c.pop.new.self.items c.in-Some.frame)

@@ -7,10 +7,10 @@ use Rattle.rdf_trig.specs.States.{leaf, moved, mode_in, use_in, scope_in, DepthM
 use Rattle.rdf_trig.specs.Steps.{state_of, given, GaveUp, DepthMay}
 use Rattle.rdf_trig.specs.Scopes.{FindsNone}
 use Rattle.rdf_trig.specs.Holding.{most_text, Fits}
-use Rattle.rdf_trig.specs.Turns.{turned, frames_after, turn_bytes}
+use Rattle.rdf_trig.specs.Turns.{turned, frames_after}
 use Rattle.rdf_trig.proofs.code.HoldingLemmas.{token_within, name_within, named_fits}
 use Rattle.rdf_trig.proofs.code.PutsInRow.{told_stops}
-use Rattle.rdf_trig.proofs.code.TurnsLemmas.{turned_named, bytes_named}
+use Rattle.rdf_trig.proofs.code.TurnsLemmas.{turned_named}
 use Rattle.rdf_trig.proofs.code.AnswersOfSteps.{fails_stops, fails_gave, fails_after, accepts_moved, keeps_moved, limits_kept, same_scope, bytes_at_most}
 use Rattle.rdf_trig.proofs.code.NextKinds.{other_fault}
 use Rattle.rdf_trig.proofs.state.State.accept.Goals as goal
@@ -112,7 +112,6 @@ returns-clause-keeps g c =
     let looks = c.in_ok-look_up.ensures.ok form s (same_scope s) in
     let now = scope_in s m k l in
     let u = use_in s m k l in
-    let fits = c.requires.keeps.fits in
     let frames = subst (λ r. length c.move_on.new.self.frames.items ≤ frames_after turn (length r.frames.items)) same c.in_ok-move_on.ensures.stack in
     let most = c.in_ok-turn.ensures.frames (length self.frames.items) in
     keeps_moved form s sizes self c.move_on.new.self k l _ _ c.requires.keeps (bytes_at_most l.text sizes.token c.requires.short)
@@ -123,9 +122,8 @@ returns-clause-keeps g c =
     (omega (arith, frames, most))
     (c.in_ok-move_on.ensures.fits (most_text sizes) (token_within sizes token c.requires.short)
     (name_within sizes sizes name refl c.in_ok-look_up.ensures.fits)
-    (subst (Fits (most_text sizes)) (sym same) (named_fits (most_text sizes) self name fits)).around
-    (subst (λ r. turn_bytes r turn ≤ most_text sizes) (sym same)
-    (subst (λ b. b ≤ most_text sizes) (sym (bytes_named self name turn)) (c.in_ok-turn.ensures.fits (most_text sizes) fits))))
+    (subst (Fits (most_text sizes)) (sym same) (named_fits (most_text sizes) self name c.requires.keeps.fits)))
+    c.in_ok-move_on.ensures.name
 
 -- A name that stands for nothing, and a put that is refused, are no unexpected tokens.
 pub returns-in_err-look_up-clause-stays : goal.returns-in_err-look_up-clause-stays

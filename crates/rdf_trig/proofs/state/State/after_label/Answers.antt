@@ -17,5 +17,4 @@ returns-in_default g c =
           (c.want_verb.ensures.means form);
       suits = c.want_verb.ensures.suits;
       frames = c.want_verb.ensures.frames;
-      fits = c.want_verb.ensures.fits;
     }

@@ -1,6 +1,5 @@
-use Rattle.std.proofs.Common.{ap, subst, ◌∙◌}
+use Rattle.std.proofs.Common.{ap, ◌∙◌}
 use Rattle.rdf_trig.specs.Machine as M
-use Rattle.rdf_trig.specs.Holding.{ListFits}
 use Rattle.rdf_trig.specs.States.{level_of, place_at, spelt_of, around_in, up_in, setting_in}
 use Rattle.rdf_trig.proofs.machine.Fallbacks.{listed-else}
 use Rattle.rdf_trig.proofs.code.TurnsLemmas.{means_at}
@@ -19,5 +18,4 @@ returns-in_default g c =
           (c.predicate_list_end.ensures.means form);
       suits = c.predicate_list_end.ensures.suits;
       frames = c.predicate_list_end.ensures.frames;
-      fits = λ n o. c.predicate_list_end.ensures.fits n o (subst (λ x. ListFits n x s p) c.requires.listed o.frame).0;
     }

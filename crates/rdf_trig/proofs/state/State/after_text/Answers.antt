@@ -19,7 +19,6 @@ returns-in_default g c =
           (c.after_object.ensures.means form);
       suits = c.after_object.ensures.suits;
       frames = c.after_object.ensures.frames;
-      fits = λ m o h. c.after_object.ensures.fits m o;
     }
 
 -- each of the three kinds is the tag of the string

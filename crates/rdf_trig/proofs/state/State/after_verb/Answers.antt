@@ -1,5 +1,4 @@
-use Rattle.std.proofs.Common.{None, ap, subst, ◌∙◌}
-use Rattle.rdf_trig.specs.Holding.{ListFits}
+use Rattle.std.proofs.Common.{None, ap, ◌∙◌}
 use Rattle.rdf_trig.specs.Machine as M
 use Rattle.rdf_trig.specs.Turns.{verb_by}
 use Rattle.rdf_trig.specs.States.{use_at, around_in, setting_in}
@@ -19,7 +18,6 @@ returns-in_default g c =
           (c.predicate_list_end.ensures.means form);
       suits = c.predicate_list_end.ensures.suits;
       frames = c.predicate_list_end.ensures.frames;
-      fits = λ n o. c.predicate_list_end.ensures.fits n o (subst (λ z. ListFits n z x self.frame.verb) c.requires.listed o.frame).0;
     }
 
 pub returns-in-Some-clause-means : goal.returns-in-Some-clause-means

@@ -1,8 +1,10 @@
 use Rattle.std.proofs.Common.{◌≡◌, ◌∙◌, None, ap, subst}
+use Rattle.rdf_trig.specs.declared.slots.SubjectKind.TheVariants as kind
 use Rattle.rdf_trig.specs.declared.state.Held.TheVariants as held
 use Rattle.rdf_trig.specs.Machine as M
 use Rattle.rdf_trig.specs.Machine.{Go}
 use Rattle.rdf_trig.specs.States.{graph_of, cells_quad, setting_in, up_in, moved}
+use Rattle.rdf_trig.proofs.code.HoldingLemmas.{empty_fits}
 use Rattle.rdf_trig.proofs.code.TurnsLemmas.{ended_at}
 use Rattle.rdf_trig.proofs.state.State.end_collection.Goals as goal
 
@@ -15,3 +17,9 @@ returns-clause-takes g c = λ l form s u.
     c.cells-first.ensures
     (ended_at form s u closed.new.self closed.result _ _ c.cells-first.result.1 _ c.none-self.ensures closed.ensures.graph
     (closed.ensures.mode form ∙ ap (M.collection_closed (up_in self)) c.set_cell.ensures))
+
+pub returns-clause-fits : goal.returns-clause-fits
+returns-clause-fits g c = λ n h o.
+    let cell = empty_fits n _ (kind.Cell c.cells-first.result.0) c.set_cell.ensures in
+    let f = c.collection_closed-self.ensures.fits n (record { graph = o.graph; object = o.object; tail = o.tail; frame = (cell, o.frame.1); frames = o.frames; spares = o.spares }) in
+    record { graph = f.graph; object = f.object; tail = f.tail; frame = f.frame; frames = f.frames; spares = f.spares }

@@ -12,5 +12,4 @@ returns-in_default g c =
           (c.want_subject.ensures.means form);
       suits = c.want_subject.ensures.suits;
       frames = c.want_subject.ensures.frames;
-      fits = c.want_subject.ensures.fits;
     }

@@ -27,7 +27,7 @@ returns-in-WantPrefixIri-clause-ok g c =
     let k = c.args.token.now.kind in
     let l = leaf c.args.token.now in
     rw c.in-WantPrefixIri.is (on_ok c.look_up_prefix.result _ _
-    (λ h form s e. subst (λ i. LooksUp s (M.WantPrefixIri w (text_in c.args.self.now)) k l i c.look_up_prefix.new.scope) (sym c.clear-in-WantPrefixIri.ensures) (h w s e))
+    (λ h form s e. subst (λ i. LooksUp s (M.WantPrefixIri w (text_in c.args.self.now)) k l i c.look_up_prefix.new.scope) (sym c.requires.none) (h w s e))
     c.look_up_prefix.ensures.ok)
 
 pub returns-in-WantPrefixIri-clause-err : goal.returns-in-WantPrefixIri-clause-err
@@ -40,7 +40,7 @@ returns-in-WantBaseIri-clause-ok g c =
     let k = c.args.token.now.kind in
     let l = leaf c.args.token.now in
     rw c.in-WantBaseIri.is (on_ok c.look_up_base.result _ _
-    (λ h form s e. subst (λ i. LooksUp s (M.WantBaseIri w) k l i c.look_up_base.new.scope) (sym c.clear-in-WantBaseIri.ensures) (h w s e))
+    (λ h form s e. subst (λ i. LooksUp s (M.WantBaseIri w) k l i c.look_up_base.new.scope) (sym c.requires.none) (h w s e))
     c.look_up_base.ensures.ok)
 
 pub returns-in-WantBaseIri-clause-err : goal.returns-in-WantBaseIri-clause-err

@@ -16,4 +16,5 @@ returns-clause-takes g c = on_ok c.object.result _ _ (λ h form s u.
 
 pub returns-clause-fits : goal.returns-clause-fits
 returns-clause-fits g c =
-    on_ok c.object.result _ _ (λ h n t i o b. h n t i (record { level = o.level; frame = tt; frames = o.frames })) c.object.ensures.fits
+    on_ok c.object.result _ _
+    (λ h n t i f. h n t i (record { graph = f.graph; object = f.object; tail = f.tail; frame = f.frame; frames = f.frames; spares = f.spares })) c.object.ensures.fits

@@ -61,3 +61,36 @@ returns-in_ok-take_tag-in-Tag-clause-takes g c = rw c.in-Tag.is c.in_ok-take_tag
 pub returns-in_ok-object-in-Object-clause-takes : goal.returns-in_ok-object-in-Object-clause-takes
 returns-in_ok-object-in-Object-clause-takes g c =
     rw c.in-Object.is (subst (λ y. Begins c.args.self.now y c.in-Object.start (leaf c.args.token.now) c.object.new.self) c.none.ensures c.in_ok-object-in-Object.ensures.takes)
+
+pub returns-in-GraphName-clause-fits : goal.returns-in-GraphName-clause-fits
+returns-in-GraphName-clause-fits g c = λ n t. c.graph_name.ensures.fits n
+
+pub returns-in-GraphNode-clause-fits : goal.returns-in-GraphNode-clause-fits
+returns-in-GraphNode-clause-fits g c = λ n t. c.graph_node.ensures.fits n
+
+pub returns-in-SubjectBlock-clause-fits : goal.returns-in-SubjectBlock-clause-fits
+returns-in-SubjectBlock-clause-fits g c = λ n t. c.subject_block.ensures.fits n
+
+pub returns-in-Verb-clause-fits : goal.returns-in-Verb-clause-fits
+returns-in-Verb-clause-fits g c = λ n t. c.verb.ensures.fits n
+
+pub returns-in-FirstVerb-clause-fits : goal.returns-in-FirstVerb-clause-fits
+returns-in-FirstVerb-clause-fits g c = λ n t. c.first_verb.ensures.fits n
+
+pub returns-in-Datatype-clause-fits : goal.returns-in-Datatype-clause-fits
+returns-in-Datatype-clause-fits g c = λ n t. c.take_datatype.ensures.fits n
+
+pub returns-in-EndNode-clause-fits : goal.returns-in-EndNode-clause-fits
+returns-in-EndNode-clause-fits g c = λ n t. c.end_node.ensures.fits n
+
+pub returns-in-EndPropertyList-clause-fits : goal.returns-in-EndPropertyList-clause-fits
+returns-in-EndPropertyList-clause-fits g c = λ n t. c.end_property_list.ensures.fits n
+
+pub returns-in-EmptyCollection-clause-fits : goal.returns-in-EmptyCollection-clause-fits
+returns-in-EmptyCollection-clause-fits g c = λ n t. c.empty_collection.ensures.fits n
+
+pub returns-in-EndCollection-clause-fits : goal.returns-in-EndCollection-clause-fits
+returns-in-EndCollection-clause-fits g c = λ n t. c.end_collection.ensures.fits n
+
+pub returns-in-GraphBracket-clause-fits : goal.returns-in-GraphBracket-clause-fits
+returns-in-GraphBracket-clause-fits g c = λ n t. c.take_bracket.ensures.fits n

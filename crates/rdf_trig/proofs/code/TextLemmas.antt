@@ -1,0 +1,63 @@
+-- A text that is used again: where it is empty there is none, and an IRI and a tag are not empty.
+use Rattle.std.proofs.Common.{◌≡◌, ◌<◌, ◌≤◌, ℕ, List, [], ◌∷◌, Option, Some, None, refl, sym, ap, ◌∙◌, subst, arith}
+use Rattle.std.specs.Prelude.{is_some, IfSome, false, true}
+use Rattle.std.proofs.lemmas.Bool.{false≢true}
+use Rattle.std.specs.Str.{chars}
+use Rattle.std.proofs.lemmas.Str.{chars-nil, length-le-encodes}
+use Rattle.rdf_terms.specs.Terms.{IsIri, IsTag}
+use Rattle.rdf_terms.proofs.NamesLemmas.{tag_goes_on-IsTag}
+use Rattle.rdf_iri.specs.Texts.{byte_len}
+use Rattle.rdf_trig.specs.Owed.{iri_size}
+use Rattle.rdf_trig.specs.Slots.{text_at}
+
+-- an IRI is a text that is there
+pub iri_there : (w : List ℕ) → IsIri w → Some w ≡ text_at w
+iri_there [] i = absurd (false≢true i.scheme)
+iri_there (c ∷ w) i = refl
+
+-- so is a tag
+pub tag_there : (w : List ℕ) → IsTag w → Some w ≡ text_at w
+tag_there [] t = absurd (false≢true ((tag_goes_on-IsTag false [] refl).1 t))
+tag_there (c ∷ w) t = refl
+
+-- the bytes of a text are those of what is there
+pub size_there : (w : List ℕ) → byte_len w ≡ iri_size (text_at w)
+size_there [] = refl
+size_there (c ∷ w) = refl
+
+-- an emptied text is not there, and holds to whatever a text that is there holds to
+pub emptied : (t : List ℕ) → t ≡ [] → text_at (chars t) ≡ None
+emptied t e = ap (λ b. text_at (chars b)) e ∙ ap text_at chars-nil
+
+pub emptied_holds : (P : List ℕ → Type 0) (t : List ℕ) → t ≡ [] → IfSome (text_at (chars t)) P
+emptied_holds P t e = subst (λ o. IfSome o P) (sym (emptied t e)) tt
+
+-- where something is named a text is there
+pub named_there : (w : List ℕ) → is_some (text_at w) ≡ true → Some w ≡ text_at w
+named_there [] e = absurd (false≢true e)
+named_there (c ∷ w) e = refl
+
+-- where there are bytes a text is there
+bytes_there : (w : List ℕ) → 0 < iri_size (text_at w) → Some w ≡ text_at w
+bytes_there [] h = absurd (omega (arith, h))
+bytes_there (c ∷ w) h = refl
+
+-- where there are none none is
+none_there : (w : List ℕ) → iri_size (text_at w) ≡ 0 → None ≡ text_at w
+none_there [] h = refl
+none_there (c ∷ w) h = absurd (let l = length-le-encodes (c ∷ w) in omega (arith, h, l))
+
+-- so too of what is there by an equation
+pub some_named : (w : List ℕ) (x : Option (List ℕ)) → text_at w ≡ x → 0 < iri_size x → Some w ≡ text_at w
+some_named w x e h = bytes_there w (let s = ap iri_size e in omega (arith, h, s))
+
+pub none_named : (w : List ℕ) (x : Option (List ℕ)) → text_at w ≡ x → iri_size x ≤ 0 → None ≡ x
+none_named w x e h = none_there w (let s = ap iri_size e in omega (arith, h, s)) ∙ e
+
+-- what holds of a text that is there
+pub held_there : (P : List ℕ → Type 0) (w : List ℕ) → IfSome (text_at w) P → Some w ≡ text_at w → P w
+held_there P w h e = subst (λ o. IfSome o P) (sym e) h
+
+pub holds_there : (P : List ℕ → Type 0) (w : List ℕ) → P w → IfSome (text_at w) P
+holds_there P [] h = tt
+holds_there P (c ∷ w) h = h

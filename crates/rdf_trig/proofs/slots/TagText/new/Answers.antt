@@ -1,0 +1,9 @@
+use Rattle.rdf_terms.specs.Terms.{IsTag}
+use Rattle.rdf_trig.proofs.code.TextLemmas.{emptied, emptied_holds}
+use Rattle.rdf_trig.proofs.slots.TagText.new.Goals as goal
+
+pub invariant_of-result : goal.invariant_of-result
+invariant_of-result g c = emptied_holds (λ w. ∥ IsTag w ∥₁) _ c.new.ensures.bytes
+
+pub returns : goal.returns
+returns g c = emptied _ c.new.ensures.bytes
