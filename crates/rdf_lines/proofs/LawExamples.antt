@@ -1,5 +1,5 @@
 -- The laws at two quads that have each kind of node, a string with characters that are escaped, and a graph label; and at a document of one line.
-use Rattle.std.proofs.Common.{◌≡◌, ◌≢◌, ℕ, ◌<◌, true, false, List, [], ◌∷◌, ◌++◌, refl, sym, ◌∙◌, subst, Some, None, arith, lit<, lit≤}
+use Rattle.std.proofs.Common.{◌≡◌, ◌≢◌, ℕ, ◌<◌, true, false, List, [], ◌∷◌, ◌++◌, refl, sym, ◌∙◌, subst, Some, None, inl, inr, arith, lit<, lit≤}
 use Rattle.std.specs.Prelude.{codes, map, encode_utf8_all}
 use Rattle.std.specs.List.{AllByRecursion}
 use Rattle.std.proofs.Math.Utf8.{encode}
@@ -15,7 +15,7 @@ use Rattle.rdf_terms.specs.Shapes.{label_name, tag_name, shape, kind_of, is_live
 use Rattle.rdf_terms.specs.Values.{is_fit}
 use Rattle.rdf_terms.specs.Terms.{Label, Anon, Cell, Lang, Iri, Blank, Resource, Literal, Quad, IsIri, IsLabel, IsTag, has_scheme}
 use Rattle.rdf_tokens.specs.Tokens.{Place, Token, step, read, tokens}
-use Rattle.rdf_tokens.specs.Tokens.Outcome.{complete, token_too_long}
+use Rattle.rdf_tokens.specs.Tokens.Outcome.{complete, token_too_long, no_token}
 use Rattle.rdf_tokens.specs.Good.{tokens_of}
 use Rattle.rdf_tokens.specs.Grammars.{Marked, unmarked, Due, IsDocumentOf, IsWithin, GoesOn, Refused, IsReadToItsEnd}
 use Rattle.rdf_driver.specs.Readers.{Driven, HasRead}
@@ -27,6 +27,9 @@ use Rattle.rdf_tokens.specs.Leaves.{Leaf}
 use Rattle.rdf_lines.specs.Lines.{Ref, Named, Document, last, next, empty, one, document_tokens, documents, trees}
 use Rattle.rdf_lines.specs.Machine.{Begin, ran, run}
 use Rattle.rdf_lines.specs.Documents.{in_lines}
+use Rattle.rdf_lines.specs.SplitLines.{split_lines, IsDocumentWithin, IsGoodLine, IsBadLine, AreGoodLines}
+use Rattle.rdf_lines.proofs.DocumentLines.{run_accepted}
+use Rattle.rdf_lines.proofs.SplitLemmas.{documents_lines, good_read}
 use Rattle.rdf_lines.specs.Accepting.{LineAt, line_words}
 use Rattle.rdf_lines.specs.Writing.{Writable, rename, rename_node, text}
 use Rattle.rdf_lines.specs.NodePrefixes.{Form, unprefixed, name_node, named, text_in}
@@ -284,3 +287,42 @@ unfolding has
 line_quad_settled qs d =
     quads_settled NTriples (document_tokens line_tree) qs (record { item = line_quad; mark = 3 } ∷ []) d
     (line_tree, refl, (record { subject = refl; predicate = refl; object = refl; graph = tt; labels = refl }, tt), refl)
+
+-- the lines of a text, between CR and LF an empty one
+pub text_is_split : split_lines (codes "a\r\n\nb") ≡ codes "a\r" ∷ codes "\n" ∷ codes "\n" ∷ codes "b" ∷ []
+text_is_split = refl
+
+-- each of the two written lines is a document, and they have the quads of both
+pub example_is_its_lines : AreGoodLines (in_lines NQuads 12 10) true (split_lines bytes) (map (rename Tagged) example)
+unfolding digits encode
+example_is_its_lines = (documents_lines NQuads 12 10 bytes (map (rename Tagged) example) (lit≤ tt)).0 (record { document = short_reads_back 10; within = within })
+
+-- a line without a token, and an empty one
+abbrev two_lines : List ℕ
+two_lines = codes "x\n\n"
+
+-- in the first of them no token stands
+first_stops : (tokens_of Lines 8 (codes "x\n") true).outcome ≡ no_token
+unfolding tokens_of tokens read step kind_of is_live shape has chars utf8_valid_len utf8_error_len is_utf8 encode is_fit
+first_stops = refl
+
+-- so it is bad
+first_is_bad : IsBadLine (in_lines NTriples 8 10) true (codes "x\n")
+first_is_bad qs h = let z : no_token ≡ complete = sym first_stops ∙ h.accepted.document.0 in cc
+
+-- and the second is good
+second_is_good : IsGoodLine (in_lines NTriples 8 10) false (codes "\n") []
+unfolding tokens_of tokens read step kind_of is_live shape has chars utf8_valid_len utf8_error_len is_utf8 encode is_fit
+second_is_good = record { accepted = run_accepted NTriples 8 10 (codes "\n") [] (lit≤ tt) (record { whole = refl; ran = refl }); marked = λ e. refl }
+
+-- so it is what is left
+pub second_is_left : IsDocumentWithin (in_lines NTriples 8 10) (codes "\n") []
+second_is_left =
+    good_read NTriples 8 10 two_lines (codes "\n" ∷ []) (codes "x\n" ∷ []) [] (lit≤ tt)
+    (inr
+    (record {
+      bad_after = [];
+      is_bad = first_is_bad;
+      after = inl (record { kept_after = []; quads = []; quads_after = []; is_good = second_is_good; after = (refl, refl, refl); lines = refl; all = refl });
+      lines = refl;
+    }))

@@ -42,3 +42,6 @@ pub mod FrontsLemmas
 mod PlainLabels
 mod PassedLemmas
 pub mod WithoutCrs
+mod LineEnds
+mod DocumentLines
+pub mod SplitLemmas

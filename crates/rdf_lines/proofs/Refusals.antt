@@ -20,7 +20,7 @@ use Rattle.rdf_lines.proofs.Runs.{run_one, run_append, then, then_ran, with_quad
 use Rattle.rdf_lines.proofs.Viable.{viable_ran, not_viable}
 
 -- an answer that no test made
-abbrev NoTest : Kind → Answer → Type 0
+abbrev pub NoTest : Kind → Answer → Type 0
 NoTest IriRef x = x ≡ refuses Unexpected
 NoTest k (refuses r) = r ≡ Unexpected
 NoTest k x = Unit
@@ -31,7 +31,7 @@ unexpected_no_test IriRef = refl
 unexpected_no_test k = refl
 
 -- Either the answer is the same under all tests, or the token is an IRI and it is accepted where it passes.
-abbrev Tested : Kind → Leaf → ((List ℕ → Bool) → Answer) → Type 0
+abbrev pub Tested : Kind → Leaf → ((List ℕ → Bool) → Answer) → Type 0
 Tested k l a =
     ((x : Answer) × NoTest k x × ((test : List ℕ → Bool) → a test ≡ x))
     ⊎ ((k ≡ IriRef) × (m : Mode) × ((test : List ℕ → Bool) → a test ≡ absolute test (iri_of l) m))

@@ -4,6 +4,7 @@ pub mod Writing
 pub mod NodePrefixes
 pub mod Forms
 pub mod Documents
+pub mod SplitLines
 -- what need not be: functions that compute, machines and states, what the code's side speaks of, and the laws
 pub mod Machine
 pub mod Laws

@@ -5,6 +5,7 @@ ghost use Rattle.rdf_terms.specs.Terms.{IsNode, Node, Quad};
 ghost use Rattle.rdf_lines.specs.declared.form.Escapes.{Escapes};
 ghost use Rattle.rdf_lines.specs.declared.form.Style.{Style};
 ghost use Rattle.rdf_lines.specs.Writing.{Writable, rename_node, text};
+ghost use Rattle.rdf_lines.specs.SplitLines.{DocumentsAreTheirLines, GoodLinesAreRead};
 ghost use Rattle.rdf_lines.specs.Canonical.{CanonicalLinesAreRead, CanonicalLinesAreWritten};
 ghost use Rattle.rdf_lines.specs.Laws.{ReadsBack, MarksNeverFall, TokensSettleTheQuads, TokensSettleWhatIsDue, DueBeginsTheQuads, BeginningsAreCompleted, ReadQuadsAreDue, DocumentsAreRead, RefusedIsNoDocument, WrittenTextIsRead, DocumentIsWritable, WrittenDocumentIsRead, AsciiIsWritten};
 ghost use Rattle.rdf_lines.specs.Laws.{PrefixedTextReadsBack, PrefixedTextIsRead, PrefixedDocumentIsRead, PrefixedAsciiIsWritten, FormsAgreeOnAscii, PrefixedNamesStayApart, PrefixesKeepApart, JoinedTextsReadBack, NoPrefixIsNoChange};
@@ -140,4 +141,16 @@ pub fn joined_texts_read_back()
 /// The empty word changes no line.
 pub fn no_prefix_is_no_change()
     ensures { NoPrefixIsNoChange }
+{}
+
+/// Bytes are a document within the limits exactly where each of their lines is one by itself, and then its quads are those of its
+/// lines, in order.
+pub fn documents_are_their_lines()
+    ensures { DocumentsAreTheirLines }
+{}
+
+/// What is left of some bytes without their bad lines is a document within the limits, and its quads are those of the lines that
+/// are left.
+pub fn good_lines_are_read()
+    ensures { GoodLinesAreRead }
 {}
