@@ -598,6 +598,9 @@ fn add_piece<A: Allocator + Copy>(
     ensures pending { IfOk result (λ broken. pending.new.items ≡ cond broken [] (rest_of_bytes (pending.old.items ++ piece.now))) }
     ensures err { OnErr result ((string_bytes text.new ≡ string_bytes text.old) × (pending.new.items ≡ pending.old.items)) }
 {
+    if pending.is_empty() {
+        return add_good(text, pending, piece);
+    }
     let held = pending.len();
     pending.extend_from_slice(piece)?;
     let front = good_front(pending.as_slice());
@@ -614,4 +617,27 @@ fn add_piece<A: Allocator + Copy>(
     pending.copy_within(len.., 0);
     pending.truncate(rest);
     Ok(false)
+}
+
+// The same where no bytes are kept, so that the piece is not copied to them first.
+fn add_good<A: Allocator + Copy>(
+    text: &mut String<A>,
+    pending: &mut Vec<u8, A>,
+    piece: &[u8],
+) -> Result<bool, AllocError>
+    requires { pending.old.items ≡ [] }
+    ensures text { OnOk result (string_bytes text.new ≡ string_bytes text.old ++ good_bytes piece.now) }
+    ensures broken { IfOk result (λ broken. broken ≡ is_broken piece.now) }
+    ensures pending { IfOk result (λ broken. pending.new.items ≡ cond broken [] (rest_of_bytes piece.now)) }
+    ensures err { OnErr result ((string_bytes text.new ≡ string_bytes text.old) × (pending.new.items ≡ [])) }
+{
+    let front = good_front(piece);
+    if !front.broken {
+        pending.extend_from_slice(&piece[front.text.len()..])?;
+    }
+    if let Err(e) = text.push_str(front.text) {
+        pending.clear();
+        return Err(e);
+    }
+    Ok(front.broken)
 }

@@ -34,7 +34,7 @@ pub fn put_at_once<A: Allocator + Copy>(
     requires at { at ≤ length out.old.items }
     requires plain { form.now.escapes ≡ Plain }
     requires room { line_room (length form.now.prefix.word.now) quad.now ≤ room }
-    requires short { room ≤ 4096 }
+    requires short { room ≤ 32768 }
     ensures written { IfOk result (λ end. WrittenAt out.old.items out.new.items at (line_bytes (form_of form.now) quad.now) end) }
     ensures unchanged { OnErr result (out.new.items ≡ out.old.items) }
 {
@@ -50,7 +50,7 @@ fn make_room<A: Allocator + Copy>(
     room: usize,
 ) -> Result<(), AllocError>
     requires at { at ≤ length out.old.items }
-    requires short { room ≤ 4096 }
+    requires short { room ≤ 32768 }
     ensures front { OnOk result (BeginsWith out.old.items out.new.items) }
     ensures room { OnOk result (at + room ≤ length out.new.items) }
     ensures unchanged { OnErr result (out.new.items ≡ out.old.items) }

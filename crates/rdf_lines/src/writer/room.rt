@@ -5,19 +5,22 @@ ghost use Rattle.rdf_lines.specs.Placing.{graph_room, line_room, node_room, subj
 
 use rdf_terms::{LiteralRef, NodeRef, QuadRef, SubjectRef, TailRef, TermRef};
 
-/// The most bytes that the texts of two parts of a short line have.
+/// The most bytes that the names of a short line have, and those of its graph and of the word in front of each name.
 const SHORT: usize = 512;
+
+/// The most bytes that its object has, which may be a text of some lines.
+const SHORT_OBJECT: usize = 8192;
 
 /// The most bytes of the line of a quad, where an escape may stand for each byte of its object, with a word of so many bytes in front of each name, or None where a text is long.
 #[inline(always)]
 pub fn short_room(quad: &QuadRef<'_>, word: &str) -> Option<usize>
     ensures room { IfSome result (λ room. line_room (length word.now) quad.now ≤ room) }
-    ensures short { IfSome result (λ room. room ≤ 4096) }
+    ensures short { IfSome result (λ room. room ≤ 32768) }
 {
     let names = subject_room(&quad.subject) + quad.predicate.as_bytes().len();
     let others = graph_room(&quad.graph) + word.len();
     let object = term_room(&quad.object);
-    if names > SHORT || others > SHORT || object > SHORT {
+    if names > SHORT || others > SHORT || object > SHORT_OBJECT {
         return None;
     }
     Some(names + 2 * object + others + 2 * word.len() + 20)
