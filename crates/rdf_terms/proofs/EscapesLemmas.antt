@@ -13,7 +13,7 @@ use Rattle.rdf_terms.specs.Classes.{has, member, scalar}
 use Rattle.rdf_terms.specs.Classes.Class.{hex_digit, iri_char}
 use Rattle.rdf_terms.specs.Terms.{all_have}
 use Rattle.rdf_terms.specs.Runs.{IsRun, PassBetween, goes_over, is_unescaped, iri_byte}
-use Rattle.rdf_terms.specs.Values.{Inside, of_string, of_iri, EscapeState, outside, slash, digits, Move, leads, means, fails, allowed, letter_move, echar_move, digit_move, hex_value, go, move, value, iri_value}
+use Rattle.rdf_terms.specs.Values.{string_value, Inside, of_string, of_iri, EscapeState, outside, slash, digits, Move, leads, means, fails, allowed, letter_move, echar_move, digit_move, hex_value, go, move, value, iri_value}
 use Rattle.rdf_terms.specs.Escapes.{run_of, stands, completes, value_after, with_front, IsPutUpTo, IsRead, Reads}
 use Rattle.rdf_terms.proofs.CharsLemmas.{Next, next_char}
 use Rattle.rdf_terms.proofs.IriBytes.{iri_bytes, have-append}
@@ -326,6 +326,18 @@ plain_value (c ∷ w) h some =
 -- so its bytes are copied
 pub unescaped_iri : (bs : List ℕ) → IsUtf8 bs → all_have is_unescaped bs ≡ true → (iri_value (chars bs) ≡ None → ⊥) → iri_value (chars bs) ≡ Some (chars bs)
 unescaped_iri bs u h some = plain_value (chars bs) (run_stands of_string bs u h) some
+
+-- and a string without one means itself
+plain_string : (w : List ℕ) → all_have is_unescaped w ≡ true → value of_string outside w ≡ Some w
+plain_string [] h = refl
+plain_string (c ∷ w) h =
+    let p = and_parts (is_unescaped c) (all_have is_unescaped w) h in
+    let step : move of_string outside c ≡ allowed of_string c = cond-false (c == 92) (leads slash) (allowed of_string c) (not-true (c == 92) p.0) in
+    let rest : EscapeState → Option (List ℕ) = λ t. value of_string t w in
+    ap (λ m. go m rest) step ∙ ap (option_map (λ v. c ∷ v)) (plain_string w p.1)
+
+pub unescaped_string : (bs : List ℕ) → IsUtf8 bs → all_have is_unescaped bs ≡ true → string_value (chars bs) ≡ Some (chars bs)
+unescaped_string bs u h = plain_string (chars bs) (run_stands of_string bs u h)
 
 -- a byte that is excluded from IRIs is a character that is
 excluded : (b : ℕ) → iri_byte b ≡ false → has iri_char b ≡ false

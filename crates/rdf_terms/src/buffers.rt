@@ -46,7 +46,11 @@ pub fn put_string<A: Allocator>(out: &mut String<A>, text: &str) -> Result<(), A
     ensures value { OnOk result (chars (string_bytes out.new) ≡ string_in (chars text.now)) }
     ensures short { OnOk result (length (string_bytes out.new) ≤ 4 * length (chars text.now)) }
 {
-    match set_string_value(out, without_ends(text)) {
+    let quoted = without_ends(text);
+    if is_run(Run::Unescaped, quoted.as_bytes()) {
+        return put_text(out, quoted);
+    }
+    match set_string_value(out, quoted) {
         Ok(()) => Ok(()),
         Err(ValueFault::BadEscape) => unreachable!(),
         Err(ValueFault::Memory) => Err(AllocError),

@@ -383,7 +383,7 @@ pub fn is_run(run: Run, bytes: &[u8]) -> bool
     passed_lanes(run, bytes, last) == LANES
 }
 
-/// The same of fewer than sixteen bytes. Most literals have as few.
+/// The same of fewer than sixteen bytes, as most literals and names have. What is asked most is seen by lanes.
 #[inline(always)]
 fn is_short_run(run: Run, bytes: &[u8]) -> bool
     requires { length bytes.now < 16 }
@@ -392,6 +392,8 @@ fn is_short_run(run: Run, bytes: &[u8]) -> bool
     match run {
         Run::QuoteText if bytes.len() >= 8 => has_quote_ends::<8>(bytes),
         Run::QuoteText if bytes.len() >= 4 => has_quote_ends::<4>(bytes),
+        Run::Unescaped if bytes.len() >= 8 => has_unescaped_ends::<8>(bytes),
+        Run::Unescaped if bytes.len() >= 4 => has_unescaped_ends::<4>(bytes),
         _ => short_run_end(run, bytes, 0) == bytes.len(),
     }
 }
@@ -418,4 +420,26 @@ fn has_quote_lanes<const N: usize>(bytes: &[u8], at: usize) -> bool
     let ends = v.simd_eq(Simd::splat(b'"')) | v.simd_eq(Simd::splat(b'\\'));
     let breaks = v.simd_eq(Simd::splat(b'\n')) | v.simd_eq(Simd::splat(b'\r'));
     (ends | breaks).to_bitmask() == 0
+}
+
+/// Whether neither the first N bytes nor the last N have a backslash, which are all of them.
+#[inline(always)]
+fn has_unescaped_ends<const N: usize>(bytes: &[u8]) -> bool
+    requires covers { (N ≤ length bytes.now) × (length bytes.now ≤ N + N) }
+    requires few { N ≤ 16 }
+    ensures { result ≡ all_have is_unescaped bytes.now }
+{
+    let last = bytes.len() - N;
+    has_unescaped_lanes::<N>(bytes, 0) && has_unescaped_lanes::<N>(bytes, last)
+}
+
+/// Whether the N bytes from a place on have no backslash.
+#[inline(always)]
+fn has_unescaped_lanes<const N: usize>(bytes: &[u8], at: usize) -> bool
+    requires within { at + N ≤ length bytes.now }
+    requires few { N ≤ 16 }
+    ensures { (count : ℕ) × IsRunIn is_unescaped bytes.now at N count × (result ≡ (count == N)) }
+{
+    let v = Simd::<u8, N>::from_slice(&bytes[at..]);
+    v.simd_eq(Simd::splat(b'\\')).to_bitmask() == 0
 }

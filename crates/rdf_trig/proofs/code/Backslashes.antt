@@ -1,4 +1,4 @@
--- A local part without backslashes is its own value, and what lanes say of backslashes holds of the bytes.
+-- A local part without backslashes is its own value.
 use Rattle.std.proofs.Common.{◌≡◌, ℕ, suc, ◌+◌, ◌%◌, ◌^◌, ◌≤◌, Bool, true, false, cond, eqb, not, ◌==◌, List, [], ◌∷◌, length, map, get_or, replicate, Fits, w8, Option, Some, None, option_map, refl, sym, ap, ap₂, ◌∙◌, subst, ⊎_elim, arith}
 use Rattle.std.specs.Prelude.{is_some}
 use Rattle.std.specs.Bool.{OnTrue}
@@ -17,42 +17,6 @@ use Rattle.rdf_terms.proofs.ValuesLemmas.{iri_value_characters}
 use Rattle.rdf_terms.proofs.RunsLemmas.{run_in}
 use Rattle.rdf_terms.proofs.LocalLemmas.{local-means}
 use Rattle.rdf_terms.proofs.EscapesLemmas.{run_stands}
-
--- the mask of lanes that were computed one by one, by a test of each of the 256 bytes
-mask_few : (f : ℕ → ℕ) (p : ℕ → Bool) (v z : List ℕ) → length v ≤ 64 → Each1 (Fits w8) v → z ≡ map f v → agree_below (λ x. top 7 (f x)) p 256 ≡ true →
-    mask_l (map (top 7) z) % 2 ^ 64 ≡ mask_l (map p v)
-mask_few f p v z short fits e all =
-    ap (λ l. mask_l l % 2 ^ 64) (ap (map (top 7)) e ∙ (map-map (top 7) f v ∙ same v fits)) ∙ mask_l-mod (map p v) 64 (omega (arith, length-map v p, short))
-  where
-    same : (v : List ℕ) → Each1 (Fits w8) v → map (λ x. top 7 (f x)) v ≡ map p v
-    same [] t = refl
-    same (x ∷ xs) t = ap₂ (λ a b. a ∷ b) (agree_below_at (λ x. top 7 (f x)) p 256 x all t.0.fits) (same xs t.1)
-
--- a lane that is hit
-abbrev hit : ℕ → ℕ → ℕ
-hit a b = cond (eqb a b) 255 0
-
-on_true : (b : Bool) (P : Type 0) → (b ≡ true → P) → OnTrue b P
-on_true true P f = f refl
-on_true false P f = tt
-
--- where no lane is hit, no byte under the load is a backslash
-lacks_from_mask : (d : List ℕ) (i n : ℕ) → i + n ≤ length d → mask_l (map (λ b. not (is_unescaped b)) (chunk i n d)) ≡ 0 → PassBetween is_unescaped d i (i + n)
-lacks_from_mask d i n room none =
-    (run_in is_unescaped d i n n room (sym (leading_from_mask_l (λ b. not (is_unescaped b)) (chunk i n d) none ∙ length-chunk i n d room))).pass
-
-pub lacks_from_lanes : (d : List ℕ) (i n : ℕ) → i + n ≤ length d → n ≤ 64 → ((k : ℕ) → Fits w8 (get_or d k 0)) →
-    OnTrue (mask_l (map (top 7) (zip2 hit (chunk i n d) (replicate n 92))) % 2 ^ 64 == 0) (PassBetween is_unescaped d i (i + n))
-lacks_from_lanes d i n room few fits =
-    let v = chunk i n d in
-    let long = length-chunk i n d room in
-    let mask = mask_few (λ x. hit x 92) (λ b. not (is_unescaped b)) v _ (omega (arith, long, few)) (chunk-fits w8 i n d fits) (zip2_splat {Y = ℕ} hit v n 92 long) refl in
-    on_true _ _ (λ e. lacks_from_mask d i n room (sym mask ∙ eqb-true _ 0 e))
-
--- if all bytes pass between the ends, the text passes
-all_pass : (p : ℕ → Bool) (bs : List ℕ) → PassBetween p bs 0 (length bs) → all_have p bs ≡ true
-all_pass p [] h = refl
-all_pass p (b ∷ bs) h = and_from (p b) (all_have p bs) (h 0 (omega arith) (omega arith)) (all_pass p bs (λ k from to. h (suc k) (omega arith) (omega arith)))
 
 -- a text without backslashes is what it is without them
 without : (w : List ℕ) → all_have is_unescaped w ≡ true → without_backslashes w ≡ w
@@ -86,18 +50,18 @@ some_is None h = absurd (false≢true h)
 some_is (Some v) h = (v, refl)
 
 -- so a local part that means something is what it means, and has IRI characters alone
-pub local_plain : (bs : List ℕ) → IsUtf8 bs → PassBetween is_unescaped bs 0 (length bs) → is_some (local_value (chars bs)) ≡ true →
+pub local_plain : (bs : List ℕ) → IsUtf8 bs → all_have is_unescaped bs ≡ true → is_some (local_value (chars bs)) ≡ true →
     (local_value (chars bs) ≡ Some (chars bs)) × (all_have (has iri_char) (chars bs) ≡ true)
 local_plain bs u h m =
     let v = some_is (local_value (chars bs)) m in
     let k = local-means false (chars bs) v.0 v.1 in
-    let e : v.0 ≡ chars bs = k.0 ∙ without (chars bs) (run_stands of_string bs u (all_pass is_unescaped bs h)) in
+    let e : v.0 ≡ chars bs = k.0 ∙ without (chars bs) (run_stands of_string bs u h) in
     (v.1 ∙ ap Some e, subst (λ x. all_have (has iri_char) x ≡ true) e k.1)
 
 -- so has the inside of an IRIREF
-pub iri_plain : (bs : List ℕ) → IsUtf8 bs → PassBetween is_unescaped bs 0 (length bs) → is_some (iri_value (chars bs)) ≡ true →
+pub iri_plain : (bs : List ℕ) → IsUtf8 bs → all_have is_unescaped bs ≡ true → is_some (iri_value (chars bs)) ≡ true →
     (iri_value (chars bs) ≡ Some (chars bs)) × (all_have (has iri_char) (chars bs) ≡ true)
 iri_plain bs u h m =
     let v = some_is (iri_value (chars bs)) m in
-    let e : v.0 ≡ chars bs = iri_plain_value (chars bs) v.0 (run_stands of_string bs u (all_pass is_unescaped bs h)) v.1 in
+    let e : v.0 ≡ chars bs = iri_plain_value (chars bs) v.0 (run_stands of_string bs u h) v.1 in
     (v.1 ∙ ap Some e, subst (λ x. all_have (has iri_char) x ≡ true) e (iri_value_characters (chars bs) v.0 v.1))

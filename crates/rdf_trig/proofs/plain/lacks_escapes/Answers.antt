@@ -1,14 +1,15 @@
-use Rattle.std.proofs.Common.{subst, length}
-use Rattle.rdf_terms.specs.Runs.{is_unescaped, PassBetween}
+use Rattle.std.proofs.Common.{◌≡◌, true, sym, subst, ◌∙◌}
+use Rattle.rdf_terms.specs.Runs.{is_unescaped}
+use Rattle.rdf_terms.specs.Terms.{all_have}
 use Rattle.rdf_trig.proofs.code.Backslashes.{local_plain}
 use Rattle.rdf_trig.proofs.plain.lacks_escapes.Goals as goal
 
 pub returns-clause-text : goal.returns-clause-text
 returns-clause-text c = λ h.
-    let lacks = rw h at c.lacks_backslash.ensures in
-    (local_plain c.args.local.now c.utf8.local (subst (λ bs. PassBetween is_unescaped bs 0 (length bs)) c.as_bytes.ensures.value lacks) c.requires).1
+    let lacks = sym c.is_run.ensures ∙ h in
+    (local_plain c.args.local.now c.utf8.local (subst (λ bs. all_have is_unescaped bs ≡ true) c.as_bytes.ensures.value lacks) c.requires).1
 
 pub returns-clause-value : goal.returns-clause-value
 returns-clause-value c = λ h.
-    let lacks = rw h at c.lacks_backslash.ensures in
-    (local_plain c.args.local.now c.utf8.local (subst (λ bs. PassBetween is_unescaped bs 0 (length bs)) c.as_bytes.ensures.value lacks) c.requires).0
+    let lacks = sym c.is_run.ensures ∙ h in
+    (local_plain c.args.local.now c.utf8.local (subst (λ bs. all_have is_unescaped bs ≡ true) c.as_bytes.ensures.value lacks) c.requires).0
