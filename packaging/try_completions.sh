@@ -20,9 +20,9 @@ rdfconv -|-h --help -V --version
 rdfconv zz|
 ./rdfconv sh|show
 rdfconv help con|convert
-rdfconv show --|--format --base --token --depth --bindings --iri --help
-rdfconv check --|--format --base --token --depth --bindings --iri --prefixes --help
-rdfconv convert --|--format --base --token --depth --bindings --iri --prefixes --ascii --node-prefix --graph --help
+rdfconv show --|--format --base --token --depth --bindings --iri --explain --help
+rdfconv check --|--format --base --token --depth --bindings --iri --explain --prefixes --help
+rdfconv convert --|--format --base --token --depth --bindings --iri --explain --prefixes --ascii --node-prefix --graph --help
 rdfconv check --as|
 rdfconv convert --f|--format
 rdfconv convert --format |nt nq ttl trig

@@ -10,14 +10,14 @@ _rdfconv() {
     'check --format') wanted='nt nq ttl trig name' ;;
     'check --base' | 'check --token' | 'check --depth' | 'check --bindings' | 'check --iri') wanted='' ;;
     'check --prefixes') wanted=FILES ;;
-    'check '*) wanted=FILES options='--format --base --token --depth --bindings --iri --prefixes -h|--help' ;;
+    'check '*) wanted=FILES options='--format --base --token --depth --bindings --iri --explain --prefixes -h|--help' ;;
     'show --format') wanted='nt nq ttl trig name' ;;
     'show --base' | 'show --token' | 'show --depth' | 'show --bindings' | 'show --iri') wanted='' ;;
-    'show '*) wanted=FILES options='--format --base --token --depth --bindings --iri -h|--help' ;;
+    'show '*) wanted=FILES options='--format --base --token --depth --bindings --iri --explain -h|--help' ;;
     'convert --format') wanted='nt nq ttl trig name' ;;
     'convert --base' | 'convert --token' | 'convert --depth' | 'convert --bindings' | 'convert --iri' | 'convert --node-prefix' | 'convert --graph') wanted='' ;;
     'convert --prefixes' | 'convert -o' | 'convert --output') wanted=FILES ;;
-    'convert '*) wanted=FILES options='--format --base --token --depth --bindings --iri --prefixes --ascii --node-prefix --graph -o|--output -h|--help' ;;
+    'convert '*) wanted=FILES options='--format --base --token --depth --bindings --iri --explain --prefixes --ascii --node-prefix --graph -o|--output -h|--help' ;;
     'help '*) wanted='check show convert help' options='' ;;
     ' '*) wanted='check show convert help' options='-h|--help -V|--version' ;;
     esac

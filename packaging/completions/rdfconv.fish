@@ -18,6 +18,7 @@ complete -c rdfconv -n '__rdfconv_in check "--token[= ]."' -l token -x -d 'Chara
 complete -c rdfconv -n '__rdfconv_in check "--depth[= ]."' -l depth -x -d 'Brackets and parentheses open at one time, 0 to 1048576'
 complete -c rdfconv -n '__rdfconv_in check "--bindings[= ]."' -l bindings -x -d 'Prefixes bound at one time, 0 to 16777216'
 complete -c rdfconv -n '__rdfconv_in check "--iri[= ]."' -l iri -x -d 'Bytes of one IRI, 1 to 268435456'
+complete -c rdfconv -n '__rdfconv_in check "--explain "' -l explain -d 'After a refusal a line more for editors, which says what could have stood there'
 complete -c rdfconv -n '__rdfconv_in check "--prefixes[= ]."' -l prefixes -r -F -d 'File of prefixes bound before the document, a line each'
 complete -c rdfconv -n '__rdfconv_in check "-h |--help "' -s h -l help -d 'Print help'
 complete -c rdfconv -n '__rdfconv_in show' -F
@@ -27,6 +28,7 @@ complete -c rdfconv -n '__rdfconv_in show "--token[= ]."' -l token -x -d 'Charac
 complete -c rdfconv -n '__rdfconv_in show "--depth[= ]."' -l depth -x -d 'Brackets and parentheses open at one time, 0 to 1048576'
 complete -c rdfconv -n '__rdfconv_in show "--bindings[= ]."' -l bindings -x -d 'Prefixes bound at one time, 0 to 16777216'
 complete -c rdfconv -n '__rdfconv_in show "--iri[= ]."' -l iri -x -d 'Bytes of one IRI, 1 to 268435456'
+complete -c rdfconv -n '__rdfconv_in show "--explain "' -l explain -d 'After a refusal a line more for editors, which says what could have stood there'
 complete -c rdfconv -n '__rdfconv_in show "-h |--help "' -s h -l help -d 'Print help'
 complete -c rdfconv -n '__rdfconv_in convert' -F
 complete -c rdfconv -n '__rdfconv_in convert "--format[= ]."' -l format -x -a 'nt\\t"N-Triples" nq\\t"N-Quads" ttl\\t"Turtle" trig\\t"TriG" name\\t"the one that the file\'s name ends in"' -d 'Format'
@@ -35,6 +37,7 @@ complete -c rdfconv -n '__rdfconv_in convert "--token[= ]."' -l token -x -d 'Cha
 complete -c rdfconv -n '__rdfconv_in convert "--depth[= ]."' -l depth -x -d 'Brackets and parentheses open at one time, 0 to 1048576'
 complete -c rdfconv -n '__rdfconv_in convert "--bindings[= ]."' -l bindings -x -d 'Prefixes bound at one time, 0 to 16777216'
 complete -c rdfconv -n '__rdfconv_in convert "--iri[= ]."' -l iri -x -d 'Bytes of one IRI, 1 to 268435456'
+complete -c rdfconv -n '__rdfconv_in convert "--explain "' -l explain -d 'After a refusal a line more for editors, which says what could have stood there'
 complete -c rdfconv -n '__rdfconv_in convert "--prefixes[= ]."' -l prefixes -r -F -d 'File of prefixes bound before the document, a line each'
 complete -c rdfconv -n '__rdfconv_in convert "--ascii "' -l ascii -d 'Characters above U+007F of strings and IRIs as \\uXXXX or \\UXXXXXXXX'
 complete -c rdfconv -n '__rdfconv_in convert "--node-prefix[= ]."' -l node-prefix -x -d 'Word of ASCII letters and digits in front of the label of each blank node'

@@ -1,3 +1,4 @@
+pub mod ReportLemmas
 pub mod RowLemmas
 pub mod WalkLemmas
 pub mod LevelLemmas

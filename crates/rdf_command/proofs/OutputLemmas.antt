@@ -1,14 +1,14 @@
 -- How a task ends whose lines go to a file: what its steps say of it, taken together.
 use Rattle.std.proofs.Common.{◌≡◌, ◌≢◌, ◌⊎◌, ◌∙◌, ℕ, zero, suc, true, List, Option, Some, arith, inl, inr, refl, sym, subst}
 use Rattle.clap.specs.Words.{Text}
-use Rattle.rdf_stream.specs.Devices.{Written}
+use Rattle.rdf_stream.specs.Devices.{Reading, Written}
 use Rattle.rdf_stream.specs.Messages.{report_text}
 use Rattle.rdf_stream.specs.declared.fault.LoadFault.{LoadFault}
 use Rattle.rdf_stream.specs.declared.fault.LoadFault.TheVariants.{Bad, Memory, Read}
 use Rattle.rdf_stream.specs.declared.fault.StreamFault.TheVariants.{Write}
 use Rattle.rdf_command.specs.declared.task.Task.{Task}
 use Rattle.rdf_command.specs.Outputs.{EndsInto, EndsTo, IsDiscarded, IsEmpty, IsKept, IsUnnamed, Outputs, RunsInto, output_of}
-use Rattle.rdf_command.specs.Runs.{FilesRead, RunEnds}
+use Rattle.rdf_command.specs.Runs.{FilesRead, RunEnds, RunStops}
 use Rattle.rdf_command.specs.Statuses.{Reports, load_status}
 
 module _ (says : Outputs) (name : Text) (t : Task) (prefixes : Option (Option (List ℕ))) (known : Option (List ℕ)) (left : FilesRead) (first : Option (List ℕ)) (output : Written)
@@ -42,10 +42,15 @@ module _ (t other : Task) (prefixes : Option (Option (List ℕ))) (known : Optio
   abbrev So : Task
   So = record t { output = other.output }
 
+  of_stop : (bindings : List (List ℕ × List ℕ)) (source : Reading) (status : ℕ) (out_old : Option (List ℕ)) (out : Written) (err_old : Option (List ℕ)) (err : Written)
+      → RunStops So bindings status known source out_old out err_old err → RunStops t bindings status known source out_old out err_old err
+  of_stop bindings source status out_old out err_old err s =
+      record { fault = s.fault; status_is = s.status_is; stops = s.stops; sent = s.sent; kinds = s.kinds; expected = s.expected; reported = s.reported }
+
   run_of : (left : FilesRead) (status : ℕ) (out_old : Option (List ℕ)) (out : Written) (err_old : Option (List ℕ)) (err : Written)
       → RunEnds So prefixes known left status out_old out err_old err → RunEnds t prefixes known left status out_old out err_old err
   run_of left status out_old out err_old err (inl (bindings, starts, (done, stops, prompt))) =
-      inl (bindings, starts, (done, (λ n. let s = stops n in record { fault = s.fault; status_is = s.status_is; stops = s.stops; sent = s.sent; reported = s.reported }), prompt))
+      inl (bindings, starts, (done, (λ n. of_stop bindings left.document status out_old out err_old err (stops n)), prompt))
   run_of left status out_old out err_old err (inr p) =
       inr (record { fault = p.fault; stops = p.stops; status_is = p.status_is; unwritten = p.unwritten; reported = p.reported })
 

@@ -17,7 +17,7 @@ use Rattle.rdf_command.specs.Outputs.{EndsTo, Outputs, output_of}
 use Rattle.rdf_command.specs.Runs.{FilesRead}
 use Rattle.rdf_command.specs.Several.{EndsEach, GivesBindings, GivesNoBindings}
 use Rattle.rdf_command.specs.Statuses.{GoesTo, RefusesWords, Reports, ReportsLoad, load_status}
-use Rattle.rdf_command.specs.Words.{GivesNone, GivesTask, IsUsageOf, TakesFormats, further_of, name_by}
+use Rattle.rdf_command.specs.Words.{GivesNone, GivesTask, IsUsageOf, TakesFormats, further_of, name_of}
 
 -- These words give the task, as the command line of the program defines it.
 abbrev pub IsTaskOf : List Text → Task → Type 0
@@ -75,7 +75,7 @@ OneEnds has_document is_shut says t files status out_old out err_old err =
 
 -- all documents of a task, each with its format and its name
 abbrev pub documents_of : Task → List (Form × Text)
-documents_of t = (t.form, name_by (file_of t)) ∷ further_of t.more.items
+documents_of t = (t.form, name_of t) ∷ further_of t.more.items
 
 -- The file of bindings was read, where there is one, and the documents were checked in turn.
 pub record ChecksEach (has_document : Option Text → Option (List ℕ) → Type 0) (is_shut : Text → Type 0) (t : Task) (status : ℕ)
@@ -84,7 +84,7 @@ pub record ChecksEach (has_document : Option Text → Option (List ℕ) → Type
   pub opened : HasPrefixes has_document (prefixes_of t) prefixes
   pub bytes : Option (List ℕ)
   pub given : GivesBindings t.limits prefixes bytes
-  pub ends : EndsEach has_document is_shut (record { base = t.base; limits = t.limits; prefixes = bytes }) (documents_of t) status out_old out err_old err
+  pub ends : EndsEach has_document is_shut (record { base = t.base; limits = t.limits; explain = t.explain; prefixes = bytes }) (documents_of t) status out_old out err_old err
 
 -- The file of bindings gave none, which the status and the text on the error output say, and no document was read.
 pub record ChecksNone (has_document : Option Text → Option (List ℕ) → Type 0) (t : Task) (status : ℕ) (out_old : Option (List ℕ)) (out : Written)

@@ -1,11 +1,12 @@
 -- What a check of several documents does: one after the other, with a line for each, to the last one or until an output fails.
-use Rattle.std.specs.Prelude.{◌≡◌, ◌⊎◌, ◌||◌, ℕ, Bool, true, false, List, [], ◌∷◌, ◌++◌, codes, cond, Option, Some, None, IfSome, nat_lt, option_map, ⊤}
-use Rattle.std.specs.Borrow.{Bor}
+use Rattle.std.specs.Prelude.{◌≡◌, ◌⊎◌, ◌||◌, ℕ, Bool, true, false, List, [], ◌∷◌, codes, cond, Option, Some, None, IfSome, nat_lt, option_map, ⊤}
 use Rattle.rdf_iri.specs.Bindings.{BindingMap, IsReadFrom}
 use Rattle.rdf_iri.specs.Limits.{Sizes}
 use Rattle.rdf_lines.specs.declared.form.Escapes.TheVariants.{Plain}
 use Rattle.rdf_stream.specs.Devices.{Reading, Written}
+use Rattle.rdf_stream.specs.Expected.{ExpectsFor, trees_of}
 use Rattle.rdf_stream.specs.Jobs.{JobRead}
+use Rattle.rdf_stream.specs.Languages.{language_of}
 use Rattle.rdf_stream.specs.Loads.{BindsNot, HasGivenAll, LoadStops}
 use Rattle.rdf_stream.specs.declared.fault.LoadFault.{LoadFault}
 use Rattle.rdf_stream.specs.declared.fault.LoadFault.TheVariants.{Memory}
@@ -13,21 +14,22 @@ use Rattle.rdf_stream.specs.declared.fault.StreamFault.{StreamFault}
 use Rattle.rdf_stream.specs.declared.form.Form.{Form}
 use Rattle.rdf_command.specs.declared.several.Plan.{Plan}
 use Rattle.rdf_command.specs.Runs.{IsCheckedAs, StopsCheckAs}
-use Rattle.rdf_command.specs.Statuses.{ReportsFaultOf, ReportsLoad, ReportsOf, load_status, status_of}
+use Rattle.rdf_command.specs.Statuses.{ReportsExplainedOf, ReportsLoad, ReportsOf, load_status, status_of}
 use Rattle.rdf_command.specs.Words.{file_by}
 
 -- the greater of two statuses
 abbrev pub worse : ℕ → ℕ → ℕ
 worse a b = cond (nat_lt a b) b a
 
--- what all documents are read with: the base, the limits, and the bytes of the file of bindings where there is one
+-- what all documents are read with: the base, the limits, and the bytes of the file of bindings where there is one; and whether refusals are explained
 pub record Shared : Type 0 where
   pub base : Option (List ℕ)
   pub limits : Sizes
+  pub explain : Bool
   pub prefixes : Option (List ℕ)
 
 abbrev pub shared_of : Plan → Shared
-shared_of p = record { base = option_map (λ b. b.now) p.base; limits = p.limits; prefixes = option_map (λ b. b.now) p.prefixes }
+shared_of p = record { base = option_map (λ b. b.now) p.base; limits = p.limits; explain = p.explain; prefixes = option_map (λ b. b.now) p.prefixes }
 
 -- the bindings of these bytes, or none where there are no bytes
 abbrev pub BindsFrom : Sizes → Option (List ℕ) → List (List ℕ × List ℕ) → Type 0
@@ -57,13 +59,16 @@ pub record AcceptsOne (job : JobRead) (name : List ℕ) (known : Option (List �
   pub flushed : out.is_flushed ≡ true
   pub untold : err.contents ≡ err_old
 
--- The document was not accepted, for a fault that the status and the line about it say.
-pub record StopsOne (job : JobRead) (name : List ℕ) (known : Option (List ℕ)) (left : Reading) (status : ℕ) (out_old : Option (List ℕ)) (out : Written)
-    (err_old : Option (List ℕ)) (err : Written) : Type 0 where
+-- The document was not accepted, for a fault that the status and the line about it say, with the kinds that could have stood there where an explanation
+-- is asked for.
+pub record StopsOne (asked : Bool) (job : JobRead) (name : List ℕ) (known : Option (List ℕ)) (left : Reading) (status : ℕ)
+    (out_old : Option (List ℕ)) (out : Written) (err_old : Option (List ℕ)) (err : Written) : Type 0 where
   pub fault : StreamFault
   pub status_is : status ≡ status_of fault
   pub stops : StopsCheckAs (Some name) fault job known left out_old out.contents out.has_failed
-  pub reported : ReportsFaultOf name fault err_old err.contents err.has_failed
+  pub kinds : ℕ
+  pub expected : ExpectsFor fault (language_of job) (trees_of job) known left kinds
+  pub reported : ReportsExplainedOf asked name fault kinds err_old err.contents err.has_failed
 
 -- The document of this format and name was opened and read.
 pub record ReadsOne (has_document : Option (List ℕ) → Option (List ℕ) → Type 0) (shared : Shared) (d : Form × List ℕ) (status : ℕ)
@@ -73,7 +78,7 @@ pub record ReadsOne (has_document : Option (List ℕ) → Option (List ℕ) → 
   pub known : Option (List ℕ)
   pub opened : has_document (file_by (Some d.1)) known
   pub left : Reading
-  pub ends : AcceptsOne job d.1 known status out_old out err_old err ⊎ StopsOne job d.1 known left status out_old out err_old err
+  pub ends : AcceptsOne job d.1 known status out_old out err_old err ⊎ StopsOne shared.explain job d.1 known left status out_old out err_old err
 
 -- The file of this name did not open.
 pub record OpensNone (is_shut : List ℕ → Type 0) (d : Form × List ℕ) (status : ℕ) (out_old : Option (List ℕ)) (out : Written)

@@ -1,11 +1,12 @@
 -- The status that the program exits with, and the texts that it writes.
-use Rattle.std.specs.Prelude.{◌≡◌, ◌≢◌, ◌⊎◌, ℕ, Bool, false, List, ◌++◌, Option, codes, decimal}
+use Rattle.std.specs.Prelude.{◌≡◌, ◌≢◌, ◌⊎◌, ℕ, Bool, true, false, List, [], ◌++◌, Option, codes, decimal}
 use Rattle.std.specs.Io.KnownBytes.{Appends}
 use Rattle.std.specs.String.{string_bytes}
 use Rattle.clap.specs.Words.{kind_of}
 use Rattle.clap.specs.declared.error.kind.ErrorKind.{ErrorKind}
 use Rattle.clap.specs.declared.error.kind.ErrorKind.TheVariants.{DisplayHelp, DisplayVersion}
 use Rattle.rdf_stream.specs.Devices.{AppendsFront}
+use Rattle.rdf_stream.specs.Explains.{explain_text}
 use Rattle.rdf_stream.specs.Messages.{fault_text, report_text}
 use Rattle.rdf_stream.specs.declared.fault.LoadFault.{LoadFault}
 use Rattle.rdf_stream.specs.declared.fault.LoadFault.TheVariants as load
@@ -36,6 +37,11 @@ ReportsOf name text old new failed = Reports (name ++ codes ": " ++ text) old ne
 abbrev pub ReportsFaultOf : List ℕ → StreamFault → Option (List ℕ) → Option (List ℕ) → Bool → Type 0
 ReportsFaultOf name fault old new failed = ReportsOf name (fault_text fault ++ codes "\n") old new failed
 
+-- the line that explains a refusal of the document of this name, where that is asked for
+abbrev pub explanation : Bool → List ℕ → StreamFault → ℕ → List ℕ
+explanation true name (Refused f) kinds = explain_text name f kinds
+explanation asked name fault kinds = []
+
 -- the line that reports a document whose name ends in no format
 abbrev pub no_format_text : List ℕ → List ℕ
 no_format_text name = codes "rdfconv: no format in the name " ++ name ++ codes "\n"
@@ -48,6 +54,17 @@ prefixes_text line = codes "rdfconv: bad prefixes at line " ++ decimal line ++ c
 abbrev pub ReportsFault : StreamFault → Option (List ℕ) → Option (List ℕ) → Bool → Type 0
 ReportsFault (Refused f) old new failed = Reports (report_text (Refused f)) old new failed ⊎ (new ≡ old)
 ReportsFault fault old new failed = Reports (report_text fault) old new failed
+
+-- What is reported of a fault of the document of this name, where its refusal is asked to be explained or not. The line that explains it takes memory
+-- too, and is left out where that is refused.
+abbrev pub ReportsExplained : Bool → List ℕ → StreamFault → ℕ → Option (List ℕ) → Option (List ℕ) → Bool → Type 0
+ReportsExplained asked name fault kinds old new failed =
+    Reports (report_text fault ++ explanation asked name fault kinds) old new failed ⊎ ReportsFault fault old new failed
+
+-- the same of one of several documents
+abbrev pub ReportsExplainedOf : Bool → List ℕ → StreamFault → ℕ → Option (List ℕ) → Option (List ℕ) → Bool → Type 0
+ReportsExplainedOf asked name fault kinds old new failed =
+    ReportsOf name (fault_text fault ++ codes "\n" ++ explanation asked name fault kinds) old new failed ⊎ ReportsFaultOf name fault old new failed
 
 -- a line of a file of bindings that is refused is a mistake of the words
 abbrev pub load_status : LoadFault → ℕ

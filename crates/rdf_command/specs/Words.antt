@@ -1,5 +1,5 @@
 -- The task that the words of the command line ask for.
-use Rattle.std.specs.Prelude.{◌≡◌, ◌≢◌, ◌⊎◌, ◌∷◌, ◌++◌, ◌≤◌, ◌^◌, ℕ, List, [], Option, Some, None, bytes_eq, codes, cond, drop, length, map, option_map, unwrap_or, IfSome}
+use Rattle.std.specs.Prelude.{◌≡◌, ◌≢◌, ◌⊎◌, ◌∷◌, ◌++◌, ◌≤◌, ◌^◌, ℕ, Bool, false, List, [], Option, Some, None, bytes_eq, codes, cond, drop, length, map, option_map, unwrap_or, IfSome}
 use Rattle.std.specs.Borrow.{Bor}
 use Rattle.std.specs.Str.{chars}
 use Rattle.std.specs.Str.Parse.{digits_value, without_leading_plus}
@@ -114,10 +114,14 @@ pub record HasSizes (rows : List Row) (sizes : Sizes) : Type 0 where
   pub bindings : number_of (codes "bindings") rows ≡ Some sizes.bindings
   pub iri : number_of (codes "iri") rows ≡ Some sizes.iri
 
--- the lines are in ASCII where the flag's text is `true`
-abbrev pub escapes_by : Option Text → Escapes
-escapes_by None = Plain
-escapes_by (Some text) = cond (bytes_eq text (codes "true")) Ascii Plain
+-- whether a flag is given, by its text; a subcommand that does not take it has none
+abbrev pub is_given : Option Text → Bool
+is_given None = false
+is_given (Some text) = bytes_eq text (codes "true")
+
+-- the lines are in ASCII where that is asked for
+abbrev pub escapes_by : Bool → Escapes
+escapes_by ascii = cond ascii Ascii Plain
 
 -- the file that a word names; none where there is no word, or where it is a hyphen, which stands for standard input, or for standard output
 abbrev pub file_by : Option Text → Option Text
@@ -127,6 +131,10 @@ file_by (Some text) = cond (bytes_eq text (codes "-")) None (Some text)
 -- the name of a document by the word for it: the word, or a hyphen where there is none
 abbrev pub name_by : Option Text → Text
 name_by word = unwrap_or word (codes "-")
+
+-- the name of the first document of a task: the name of its file, or a hyphen where it is standard input
+abbrev pub name_of : Task → Text
+name_of t = name_by (option_map string_bytes t.file)
 
 -- the words for the documents of a subcommand after the first; `check` alone takes more than one
 abbrev pub further_by : Text → Option (List Text) → List Text
@@ -156,7 +164,8 @@ pub record IsTaskBy (p : Entered) (t : Task) : Type 0 where
   pub base : t.base ≡ option_map chars (first_of (codes "base") p.1)
   pub good_base : IfSome (first_of (codes "base") p.1) (IsBase t.limits.iri)
   pub limits : HasSizes p.1 t.limits
-  pub escapes : t.escapes ≡ escapes_by (first_of (codes "ascii") p.1)
+  pub explain : t.explain ≡ is_given (first_of (codes "explain") p.1)
+  pub escapes : t.escapes ≡ escapes_by (is_given (first_of (codes "ascii") p.1))
   pub node_prefix : t.node_prefix ≡ option_map chars (first_of (codes "node-prefix") p.1)
   pub good_node_prefix : IfSome (first_of (codes "node-prefix") p.1) IsWord
   pub graph : t.graph ≡ option_map chars (first_of (codes "graph") p.1)

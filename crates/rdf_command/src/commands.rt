@@ -10,7 +10,8 @@ ghost use Rattle.rdf_lines.specs.declared.form.Escapes.TheVariants.{Ascii, Plain
 ghost use Rattle.rdf_iri.specs.Texts.{byte_len};
 ghost use Rattle.rdf_options.specs.Options.{rdfconv};
 ghost use Rattle.rdf_command.specs.Programs.{IsTaskOf, IsNoTaskOf};
-ghost use Rattle.rdf_command.specs.Words.{Entered, GivesNone, GivesTask, HasLimits, HasNumber, HasSizes, IsBase, IsEntered, IsTaskBy, IsUsageOf, IsWord, NoBaseOf, NoFormOf, NoFormsOf, NoGraphOf, NoTaskBy, NoWordOf, TakesFormats, AreDocuments, IsFormBy, IsFormatWord, escapes_by, file_by, format_names, further_by, further_of, name_by, number_of};
+ghost use Rattle.rdf_command.specs.Words.{AreDocuments, GivesNone, GivesTask, HasLimits, HasNumber, HasSizes, IsBase, IsEntered, IsFormBy, IsFormatWord, IsTaskBy, IsUsageOf, IsWord};
+ghost use Rattle.rdf_command.specs.Words.{NoBaseOf, NoFormOf, NoFormsOf, NoGraphOf, NoTaskBy, NoWordOf, escapes_by, file_by, format_names, further_by, further_of, is_given, name_by, number_of};
 
 use crate::names::{FORMATS, action_of, form_by};
 use crate::task::{Document, Task, WordsFault};
@@ -77,7 +78,8 @@ fn task_of(alloc: Global, name: &str, found: &ArgMatches<'_>) -> Result<Task, Wo
     let form = form_in(alloc, word, name_by(found.get_str("file")))?;
     let limits = limits_of(found);
     let base = base_of(alloc, found.get_str("base"), limits.iri())?;
-    let escapes = escapes_by(found.get_str("ascii"));
+    let explain = is_given(found.get_str("explain"));
+    let escapes = escapes_by(is_given(found.get_str("ascii")));
     let node_prefix = node_prefix_of(alloc, found.get_str("node-prefix"))?;
     let graph = graph_of(alloc, found.get_str("graph"), limits.iri())?;
     let prefixes = owned(alloc, found.get_str("prefixes"))?;
@@ -89,6 +91,7 @@ fn task_of(alloc: Global, name: &str, found: &ArgMatches<'_>) -> Result<Task, Wo
         form,
         base,
         limits,
+        explain,
         escapes,
         node_prefix,
         graph,
@@ -100,7 +103,7 @@ fn task_of(alloc: Global, name: &str, found: &ArgMatches<'_>) -> Result<Task, Wo
 }
 
 // The word for a document, a hyphen where there is none.
-fn name_by(word: Option<&str>) -> &str
+pub(crate) fn name_by(word: Option<&str>) -> &str
     ensures { result.now ≡ name_by (option_map (λ s. s.now) word.entry) }
 {
     match word {
@@ -175,18 +178,18 @@ pub(crate) fn named(text: &str) -> Option<&str>
     if text == "-" { None } else { Some(text) }
 }
 
-// A flag has the text `true` where it was given, and `false` where it was not. A command without it has no text.
-fn escapes_by(text: Option<&str>) -> Escapes
-    ensures { result ≡ escapes_by (option_map (λ s. s.now) text.entry) }
+// Whether a flag is given. It has the text `true` then, and `false` where it is not; a command without it has no text.
+fn is_given(text: Option<&str>) -> bool
+    ensures { result ≡ is_given (option_map (λ s. s.now) text.entry) }
 {
     match text {
-        Some(text) => escapes_in(text == "true"),
-        None => Escapes::Plain,
+        Some(text) => text == "true",
+        None => false,
     }
 }
 
-fn escapes_in(ascii: bool) -> Escapes
-    ensures { result ≡ cond ascii Ascii Plain }
+fn escapes_by(ascii: bool) -> Escapes
+    ensures { result ≡ escapes_by ascii }
 {
     if ascii {
         Escapes::Ascii

@@ -12,7 +12,8 @@ ghost use Rattle.rdf_command.specs.Statuses.{Reports};
 
 use crate::entry::Ended;
 use crate::host::Host;
-use crate::runs::{Files, refuse_name, refuse_output, run};
+use crate::reports::{refuse_name, refuse_output};
+use crate::runs::{Files, run};
 use crate::task::Task;
 use rdf_stream::{Drain, Failed, Source};
 use std::alloc::Global;

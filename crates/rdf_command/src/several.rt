@@ -4,15 +4,15 @@ ghost use Rattle.std.specs.Prelude.{◌≡◌, ◌⊎◌, false, IfErr, IfOk, If
 ghost use Rattle.rdf_iri.specs.Scope.{BaseFits};
 ghost use Rattle.rdf_stream.specs.Devices.{Reading};
 ghost use Rattle.rdf_stream.specs.Told.{told, written};
-ghost use Rattle.rdf_command.specs.Programs.{SeveralEnd, documents_of, file_of};
+ghost use Rattle.rdf_command.specs.Programs.{SeveralEnd, documents_of};
 ghost use Rattle.rdf_command.specs.Runs.{AsWritten};
-ghost use Rattle.rdf_command.specs.Words.{name_by};
 ghost use Rattle.rdf_command.specs.Several.{AcceptsOne, BindsNotFrom, EndsEach, EndsOne, GivesBindings, GivesNoBindings, IsCheckJob, StopsOne, has_failed_output, shared_of, status_after, worse};
 
-use crate::commands::named;
+use crate::commands::{name_by, named};
 use crate::entry::open_prefixes;
 use crate::host::{Host, NotOpen};
-use crate::runs::{check_to, refuse_file, refuse_prefixes, status, tell_fault_of, tell_of};
+use crate::reports::{refuse_file, refuse_prefixes, status, tell_of, tell_stop_of};
+use crate::runs::check_to;
 use crate::task::Task;
 use rdf_stream::{
     Drain, Form, Iri, Job, Limits, LoadFault, Source, TermFault, bindings_in, read_whole,
@@ -28,6 +28,8 @@ pub struct Plan<'a> {
     pub base: Option<&'a Iri>,
     /// How large the parts of a document may be.
     pub limits: Limits,
+    /// Whether a refusal is explained, by a line more.
+    pub explain: bool,
     /// The bytes of the file of the prefixes that are bound before each document, or None where none are.
     pub prefixes: Option<&'a [u8]>,
 }
@@ -65,6 +67,7 @@ pub fn check_each<H: Host, O: Drain, E: Drain>(
         alloc,
         base: task.base.as_ref(),
         limits: task.limits,
+        explain: task.explain,
         prefixes: prefixes.as_deref(),
     };
     check_with(&plan, task, host, out, err)
@@ -116,7 +119,7 @@ fn check_with<H: Host, O: Drain, E: Drain>(
     ensures { AsWritten (EndsEach (H.has_document host.now) (H.is_shut host.now) (shared_of plan.now) (documents_of task.now) result)
         O.Drain E.Drain out.old out.new err.old err.new }
 {
-    let first = (task.form, name_of(task));
+    let first = (task.form, name_by(task.file.as_deref()));
     let more = task.more.as_slice();
     let mut turn = check_next(plan, host, first, out, err);
     let mut worst = status_after(0, turn);
@@ -134,16 +137,6 @@ fn check_with<H: Host, O: Drain, E: Drain>(
         worst = status_after(worst, turn);
     }
     worst
-}
-
-// The name of a task's first document.
-fn name_of(task: &Task) -> &str
-    ensures { result.now ≡ name_by (file_of task.now) }
-{
-    match task.file.as_deref() {
-        Some(name) => name,
-        None => "-",
-    }
 }
 
 // Checks the next document, and says whether an output has failed since.
@@ -188,7 +181,7 @@ fn check_one<H: Host, O: Drain, E: Drain>(
         Err(fault) => return refuse_prefixes(plan.alloc, &fault, err),
     };
     match host.open(named(name)) {
-        Ok(source) => check_source(plan.alloc, (job, name), source, out, err),
+        Ok(source) => check_source(plan, (job, name), source, out, err),
         Err(NotOpen) => {
             tell_of(plan.alloc, name, b"cannot open file\n", err);
             3
@@ -198,7 +191,7 @@ fn check_one<H: Host, O: Drain, E: Drain>(
 
 // Checks the document that a source has, and answers its status.
 fn check_source<I: Source + Drop, O: Drain, E: Drain>(
-    alloc: Global,
+    plan: &Plan<'_>,
     document: (Job, &str),
     source: I,
     out: &mut O,
@@ -209,15 +202,15 @@ fn check_source<I: Source + Drop, O: Drain, E: Drain>(
     requires out { O.has_failed out.old ≡ false }
     requires err { E.has_failed err.old ≡ false }
     ensures { (left : Reading) × (AsWritten (AcceptsOne document.entry.0 document.entry.1.now (I.remaining source) result) O.Drain E.Drain out.old out.new err.old err.new
-        ⊎ AsWritten (StopsOne document.entry.0 document.entry.1.now (I.remaining source) left result) O.Drain E.Drain out.old out.new err.old err.new) }
+        ⊎ AsWritten (StopsOne plan.now.explain document.entry.0 document.entry.1.now (I.remaining source) left result) O.Drain E.Drain out.old out.new err.old err.new) }
 {
     let (job, name) = document;
     let mut source = source;
-    match check_to(alloc, job, Some(name), &mut source, out) {
+    match check_to(plan.alloc, job, Some(name), &mut source, out) {
         Ok(()) => 0,
-        Err(fault) => {
-            tell_fault_of(alloc, name, &fault, err);
-            status(&fault)
+        Err(stop) => {
+            tell_stop_of(plan.alloc, name, plan.explain, &stop, err);
+            status(&stop.fault)
         }
     }
 }

@@ -41,6 +41,8 @@ pub struct Task {
     pub base: Option<Iri>,
     /// How large the parts of the document may be.
     pub limits: Limits,
+    /// Whether a refusal is explained, by a line more.
+    pub explain: bool,
     /// How characters above U+007F stand in the lines of quads.
     pub escapes: Escapes,
     /// The word in front of the names of nodes in the lines of quads, or None where there is none.

@@ -43,6 +43,10 @@ bindings_rule = limit_rule (codes "bindings") 0 16777216 (codes "65536")
 abbrev pub iri_rule : Rule
 iri_rule = limit_rule (codes "iri") 1 268435456 (codes "1048576")
 
+-- the flag that asks for a line that explains a refusal
+abbrev pub explain_rule : Rule
+explain_rule = record (new_rule (codes "explain")) { long = Some (codes "explain"); action = Some SetTrue }
+
 -- the file to read, given without an option; standard input is read where there is none
 abbrev pub file_rule : Rule
 file_rule = record (new_rule (codes "file")) { action = Some Set; value_names = 1 }
@@ -58,8 +62,8 @@ prefixes_rule = record (new_rule (codes "prefixes")) { long = Some (codes "prefi
 -- a subcommand with the options that all have, where the parser takes the words for formats, and what it reads
 abbrev pub action_app : ValueParser → Rule → Text → App
 action_app names reads action =
-    with_rule (with_rule (with_rule (with_rule (with_rule (with_rule (with_rule (new_app action)
-    (format_rule names)) base_rule) token_rule) depth_rule) bindings_rule) iri_rule) reads
+    with_rule (with_rule (with_rule (with_rule (with_rule (with_rule (with_rule (with_rule (new_app action)
+    (format_rule names)) base_rule) token_rule) depth_rule) bindings_rule) iri_rule) explain_rule) reads
 
 -- a subcommand that looks at prefixes
 abbrev pub with_prefixes : App → App
@@ -97,10 +101,22 @@ output_rule = record (new_rule (codes "output")) { short = Some 111; long = Some
 abbrev pub with_output : App → App
 with_output a = with_rule a output_rule
 
+-- the subcommand that counts what documents bring
+abbrev pub check_app : ValueParser → App
+check_app names = with_prefixes (action_app names files_rule (codes "check"))
+
+-- the subcommand that shows tokens
+abbrev pub show_app : ValueParser → App
+show_app names = action_app names file_rule (codes "show")
+
+-- the subcommand that writes quads
+abbrev pub convert_app : ValueParser → App
+convert_app names = with_output (with_graph (with_node_prefix (with_ascii (with_prefixes (action_app names file_rule (codes "convert"))))))
+
 -- the program's command line
 abbrev pub rdfconv : ValueParser → App
 rdfconv names = with_subcommand (with_subcommand (with_subcommand
     (on_top (λ s. record s { subcommand_required = true; has_version = true }) (new_app (codes "rdfconv")))
-    (with_prefixes (action_app names files_rule (codes "check"))).top)
-    (action_app names file_rule (codes "show")).top)
-    (with_output (with_graph (with_node_prefix (with_ascii (with_prefixes (action_app names file_rule (codes "convert"))))))).top
+    (check_app names).top)
+    (show_app names).top)
+    (convert_app names).top

@@ -4,7 +4,9 @@ ghost use Rattle.std.specs.Prelude.{◌≡◌, IfOk, codes};
 ghost use Rattle.clap.specs.Words.{App, Rule, app_of, with_subcommand};
 ghost use Rattle.clap.specs.declared.builder.value_parser.ValueParser.TheVariants.{Names};
 ghost use Rattle.rdf_options.specs.Building.{HasRule, ReadsAs};
-ghost use Rattle.rdf_options.specs.Options.{action_app, ascii_rule, base_rule, bindings_rule, depth_rule, file_rule, files_rule, format_rule, graph_rule, iri_rule, limit_rule, node_prefix_rule, output_rule, prefixes_rule, rdfconv, token_rule, with_ascii, with_graph, with_node_prefix, with_output, with_prefixes};
+ghost use Rattle.rdf_options.specs.Options.{action_app, check_app, convert_app, limit_rule, rdfconv, show_app};
+ghost use Rattle.rdf_options.specs.Options.{ascii_rule, base_rule, bindings_rule, depth_rule, explain_rule, file_rule, files_rule, format_rule};
+ghost use Rattle.rdf_options.specs.Options.{graph_rule, iri_rule, node_prefix_rule, output_rule, prefixes_rule, token_rule};
 
 use clap::builder::ValueParser;
 use clap::{Arg, ArgAction, Command};
@@ -32,6 +34,8 @@ Options of a command, which reads FILE, or standard input where there is none or
   --depth N        brackets and parentheses open at one time, 0 to 1048576 [default: 1024]
   --bindings N     prefixes bound at one time, 0 to 16777216 [default: 65536]
   --iri N          bytes of one IRI, 1 to 268435456 [default: 1048576]
+  --explain        after a refusal one more line on standard error, as editors read it:
+                   `FILE:LINE: REASON`, with what could have stood there
   --prefixes PREFIXES
                    (check, convert) file of prefixes that are bound before the document: a line
                    for each, as `ex: http://example.org/`; line formats have none
@@ -152,7 +156,7 @@ fn add_action<'a>(
 
 // The subcommand that counts what documents bring.
 fn check_command<'a>(alloc: Global, formats: &'a [&'a str]) -> Result<Command<'a>, AllocError>
-    ensures { IfOk result (λ c. ReadsAs c (with_prefixes (action_app (Names formats.entry) files_rule (codes "check")))) }
+    ensures { IfOk result (λ c. ReadsAs c (check_app (Names formats.entry))) }
 {
     let about = About {
         name: "check",
@@ -165,7 +169,7 @@ fn check_command<'a>(alloc: Global, formats: &'a [&'a str]) -> Result<Command<'a
 
 // The subcommand that shows tokens.
 fn show_command<'a>(alloc: Global, formats: &'a [&'a str]) -> Result<Command<'a>, AllocError>
-    ensures { IfOk result (λ c. ReadsAs c (action_app (Names formats.entry) file_rule (codes "show"))) }
+    ensures { IfOk result (λ c. ReadsAs c (show_app (Names formats.entry))) }
 {
     let about = About {
         name: "show",
@@ -177,7 +181,7 @@ fn show_command<'a>(alloc: Global, formats: &'a [&'a str]) -> Result<Command<'a>
 
 // The subcommand that writes quads.
 fn convert_command<'a>(alloc: Global, formats: &'a [&'a str]) -> Result<Command<'a>, AllocError>
-    ensures { IfOk result (λ c. ReadsAs c (with_output (with_graph (with_node_prefix (with_ascii (with_prefixes (action_app (Names formats.entry) file_rule (codes "convert")))))))) }
+    ensures { IfOk result (λ c. ReadsAs c (convert_app (Names formats.entry))) }
 {
     let about = About {
         name: "convert",
@@ -208,6 +212,7 @@ fn action_command<'a>(
         depth_option(alloc),
         bindings_option(alloc),
         iri_option(alloc),
+        explain_option(alloc),
         reads,
     ]?;
     Command::new(alloc, about.name)
@@ -300,6 +305,15 @@ fn iri_option<'a>(alloc: Global) -> Arg<'a>
             help: "Bytes of one IRI, 1 to 268435456",
         },
     )
+}
+
+fn explain_option<'a>(alloc: Global) -> Arg<'a>
+    ensures { HasRule result explain_rule }
+{
+    Arg::new(alloc, "explain")
+        .long("explain")
+        .action(ArgAction::SetTrue)
+        .help("After a refusal a line more for editors, which says what could have stood there")
 }
 
 fn limit_option<'a>(alloc: Global, limit: Limit<'a>) -> Arg<'a>

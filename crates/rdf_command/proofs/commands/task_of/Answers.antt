@@ -3,7 +3,7 @@ use Rattle.std.proofs.Common.{◌∙◌, ap, sym, subst, codes, chars, map, opti
 use Rattle.clap.proofs.WalkLemmas.{first_value-rows, raw_values-rows}
 use Rattle.clap.proofs.TakesLemmas.{passed_up}
 use Rattle.clap.specs.Words.{found_of, rows_of}
-use Rattle.rdf_command.specs.Words.{AreDocuments, IsBase, IsFormBy, IsFormatWord, IsWord, NoFormOf, NoFormsOf, escapes_by, file_by, further_by, further_of, name_by}
+use Rattle.rdf_command.specs.Words.{AreDocuments, IsBase, IsFormBy, IsFormatWord, IsWord, NoFormOf, NoFormsOf, escapes_by, file_by, further_by, further_of, is_given, name_by}
 use Rattle.rdf_command.proofs.GivenLemmas.{no_form, no_forms, no_graph, no_task, no_word, text_given, text_is}
 use Rattle.rdf_command.proofs.commands.task_of.Goals as goal
 
@@ -34,14 +34,14 @@ returns-in_err-base-clause-refused c =
 pub returns-in_err-node_prefix-clause-refused : goal.returns-in_err-node_prefix-clause-refused
 returns-in_err-node_prefix-clause-refused c =
     let found = found_of c.args.found.now in
-    let word = c.get_str-5.ensures ∙ first_value-rows found (codes "node-prefix") in
+    let word = c.get_str-6.ensures ∙ first_value-rows found (codes "node-prefix") in
     passed_up c.from_residual-in_err-node_prefix.result c.in_err-node_prefix.field-0.0 _ c.from_residual-in_err-node_prefix.ensures.1
     (no_word (c.args.name.now, rows_of found) _ c.in_err-node_prefix.field-0.0 word c.in_err-node_prefix.ensures.bad)
 
 pub returns-in_err-graph-clause-refused : goal.returns-in_err-graph-clause-refused
 returns-in_err-graph-clause-refused c =
     let found = found_of c.args.found.now in
-    let graph = c.get_str-6.ensures ∙ first_value-rows found (codes "graph") in
+    let graph = c.get_str-7.ensures ∙ first_value-rows found (codes "graph") in
     passed_up c.from_residual-in_err-graph.result c.in_err-graph.field-0.0 _ c.from_residual-in_err-graph.ensures.1
     (no_graph (c.args.name.now, rows_of found) c.iri-2.result _ c.in_err-graph.field-0.0 graph (c.limits_of-limits.ensures.iri ∙ ap (λ n. Some n) (sym c.iri-2.ensures)) c.in_err-graph.ensures.bad)
 
@@ -49,12 +49,13 @@ pub returns-clause-task : goal.returns-clause-task
 returns-clause-task c =
     let found = found_of c.args.found.now in
     let base = c.get_str-3.ensures ∙ first_value-rows found (codes "base") in
-    let ascii = c.get_str-4.ensures ∙ first_value-rows found (codes "ascii") in
-    let word = c.get_str-5.ensures ∙ first_value-rows found (codes "node-prefix") in
-    let graph = c.get_str-6.ensures ∙ first_value-rows found (codes "graph") in
-    let prefixes = c.get_str-7.ensures ∙ first_value-rows found (codes "prefixes") in
-    let file = c.get_str-8.ensures ∙ first_value-rows found (codes "file") in
-    let output = c.get_str-9.ensures ∙ first_value-rows found (codes "output") in
+    let explain = c.get_str-4.ensures ∙ first_value-rows found (codes "explain") in
+    let ascii = c.get_str-5.ensures ∙ first_value-rows found (codes "ascii") in
+    let word = c.get_str-6.ensures ∙ first_value-rows found (codes "node-prefix") in
+    let graph = c.get_str-7.ensures ∙ first_value-rows found (codes "graph") in
+    let prefixes = c.get_str-8.ensures ∙ first_value-rows found (codes "prefixes") in
+    let file = c.get_str-9.ensures ∙ first_value-rows found (codes "file") in
+    let output = c.get_str-10.ensures ∙ first_value-rows found (codes "output") in
     let format = text_is found (codes "format") _ c.get_str.result c.get_str.ensures c.requires.format.1 c.unwrap-word.result c.unwrap-word.ensures in
     let first = c.name_by.ensures ∙ ap name_by (c.get_str-2.ensures ∙ first_value-rows found (codes "file")) in
     let further = c.further_by.ensures ∙ ap (further_by c.args.name.now) (c.get_strs.ensures ∙ raw_values-rows found (codes "file")) in
@@ -70,7 +71,8 @@ returns-clause-task c =
       base = c.in_ok-base.ensures.base ∙ ap (option_map chars) base;
       good_base = subst (λ text. IfSome text (IsBase c.limits_of-limits.result.iri)) base (rw c.iri.ensures at c.in_ok-base.ensures.good);
       limits = c.limits_of-limits.ensures;
-      escapes = c.escapes_by-escapes.ensures ∙ ap escapes_by ascii;
+      explain = c.is_given-explain.ensures ∙ ap is_given explain;
+      escapes = c.escapes_by-escapes.ensures ∙ ap escapes_by (c.is_given.ensures ∙ ap is_given ascii);
       node_prefix = c.in_ok-node_prefix.ensures.word ∙ ap (option_map chars) word;
       good_node_prefix = subst (λ text. IfSome text IsWord) word c.in_ok-node_prefix.ensures.good;
       graph = c.in_ok-graph.ensures.graph ∙ ap (option_map chars) graph;

@@ -9,5 +9,12 @@ returns-in-Ok g c = (told g.I.Source c.check_to.new.source, inl (record { status
 pub returns : goal.returns
 returns g c = (
   told g.I.Source c.check_to.new.source,
-  inr (record { fault = c.in-Err.fault; status_is = c.status.ensures; stops = c.in-Err.ensures.stops; reported = c.tell_fault_of.ensures }),
+  inr (record {
+    fault = c.in-Err.stop.fault;
+    status_is = c.status.ensures;
+    stops = c.in-Err.ensures.stops;
+    kinds = c.in-Err.stop.expected;
+    expected = c.in-Err.ensures.expected;
+    reported = c.tell_stop_of.ensures;
+  }),
 )

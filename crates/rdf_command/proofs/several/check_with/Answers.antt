@@ -1,10 +1,10 @@
 -- The first document, each further one, and the end.
-use Rattle.std.proofs.Common.{◌∙◌, ◌∷◌, ◌+◌, ap, drop, map, false, subst, sym, string_bytes, arith}
+use Rattle.std.proofs.Common.{◌∙◌, ◌∷◌, ◌+◌, ap, drop, false, subst, sym, string_bytes, arith}
 use Rattle.std.proofs.lemmas.List.{drop_all, drop_more}
 use Rattle.rdf_stream.specs.Told.{written}
 use Rattle.rdf_command.specs.Programs.{documents_of}
 use Rattle.rdf_command.specs.Several.{EndsOne, shared_of}
-use Rattle.rdf_command.specs.Words.{further_of}
+use Rattle.rdf_command.specs.Words.{further_of, name_by}
 use Rattle.rdf_command.proofs.SeveralLemmas.{Completes, both_live, completed, first_completes, next_completes, stopped}
 use Rattle.rdf_command.proofs.several.check_with.Goals as goal
 
@@ -19,7 +19,7 @@ loop-document-init g c =
     let out_next = written g.O.Drain c.check_next-turn.new.out in
     let err_next = written g.E.Drain c.check_next-turn.new.err in
     let turn = c.check_next-turn.result in
-    let one = subst (λ name. EndsOne has_document is_shut shared (c.args.task.now.form, name) turn.status out.contents out_next err.contents err_next) c.name_of.ensures c.check_next-turn.ensures.ends in
+    let one = subst (λ name. EndsOne has_document is_shut shared (c.args.task.now.form, name) turn.status out.contents out_next err.contents err_next) (c.name_by.ensures ∙ ap name_by c.as_deref.ensures.value) c.check_next-turn.ensures.ends in
     let next = next_completes has_document is_shut shared whole out.contents err.contents _ _ 0 turn.status turn.has_failed out err out_next err_next
     (first_completes has_document is_shut shared whole out err) one c.check_next-turn.ensures.failed in
     let at = subst (λ so_far. Completes has_document is_shut shared whole out.contents err.contents (further_of c.args.task.now.more.items) turn.has_failed so_far out_next err_next)

@@ -1,0 +1,293 @@
+// Why a document was not accepted, and what is reported.
+
+ghost use Rattle.std.specs.Prelude.{◌≡◌, ◌⊎◌, ◌++◌, false, codes, decimal, IfOk, OnErr, OnOk};
+ghost use Rattle.rdf_stream.specs.Messages.{report_text};
+ghost use Rattle.rdf_stream.specs.declared.fault.StreamFault.{StreamFault};
+ghost use Rattle.rdf_command.specs.Statuses.{GoesTo, RefusesWords, Reports, ReportsExplained, ReportsExplainedOf, ReportsLoad, ReportsOf, explanation, load_status};
+ghost use Rattle.rdf_command.specs.Statuses.{no_format_text, output_status, output_text, prefixes_text, status_of};
+
+use crate::host::NoOutput;
+use crate::task::WordsFault;
+use clap::Error;
+use itoa::Buffer;
+use rdf_stream::{
+    Drain, Failed, Kinds, LoadFault, StreamFault, explain as explain_line, out_of_memory, put_all,
+    read_failed, report, write_failed,
+};
+use std::alloc::{AllocError, Global};
+
+/// Why a document was not accepted.
+#[derive(Drop)]
+pub struct Stop {
+    /// The fault.
+    pub fault: StreamFault,
+    /// The kinds of tokens that could have stood in the place of one that was unexpected. `show` tells none.
+    pub expected: Kinds,
+}
+
+/// The status of a fault.
+pub fn status(fault: &StreamFault) -> u8
+    ensures { result ≡ status_of fault.now }
+{
+    match fault {
+        StreamFault::Refused(_) => 1,
+        StreamFault::Read | StreamFault::Write => 3,
+        StreamFault::Memory => 4,
+    }
+}
+
+/// Reports why the document of this name was not accepted, and explains it where that is asked for. The text of a
+/// refusal alone takes memory. Where that is refused, nothing is reported.
+pub fn tell_stop<E: Drain>(alloc: Global, name: &str, explain: bool, stop: &Stop, err: &mut E)
+    requires { E.has_failed err.old ≡ false }
+    ensures { ReportsExplained explain name.now stop.now.fault stop.now.expected (E.contents err.old) (E.contents err.new) (E.has_failed err.new) }
+{
+    match &stop.fault {
+        StreamFault::Refused(_) => {
+            if let Ok(text) = report_of(alloc, name, explain, stop) {
+                tell_bytes(text.as_slice(), err);
+            }
+        }
+        StreamFault::Read => tell(read_failed(), err),
+        StreamFault::Write => tell(write_failed(), err),
+        StreamFault::Memory => {
+            tell_memory(err);
+        }
+    }
+}
+
+// The line that reports a stop, and the line that explains it. That is left out where memory for it is refused.
+fn report_of(alloc: Global, name: &str, explain: bool, stop: &Stop) -> Result<Vec<u8>, AllocError>
+    ensures { IfOk result (λ text. (text.items ≡ report_text stop.now.fault ++ explanation explain name.now stop.now.fault stop.now.expected)
+        ⊎ (text.items ≡ report_text stop.now.fault)) }
+{
+    let mut text = Vec::new(alloc);
+    match report(alloc, &stop.fault, &mut text) {
+        Ok(()) => {}
+        Err(_) => return Err(AllocError),
+    }
+    match put_explanation(alloc, name, explain, stop, &mut text) {
+        Ok(()) | Err(AllocError) => Ok(text),
+    }
+}
+
+// The line that explains a refusal, where that is asked for.
+fn put_explanation(
+    alloc: Global,
+    name: &str,
+    explain: bool,
+    stop: &Stop,
+    text: &mut Vec<u8>,
+) -> Result<(), AllocError>
+    ensures put { OnOk result (text.new.items ≡ text.old.items ++ explanation explain name.now stop.now.fault stop.now.expected) }
+    ensures left_out { OnErr result (text.new.items ≡ text.old.items) }
+{
+    match &stop.fault {
+        StreamFault::Refused(fault) if explain => {
+            let line = explain_line(alloc, name, fault, stop.expected)?;
+            text.extend_from_slice(line.as_slice())
+        }
+        _ => Ok(()),
+    }
+}
+
+/// Reports why one of several documents, that of this name, was not accepted, and explains it where that is asked for.
+pub fn tell_stop_of<E: Drain>(alloc: Global, name: &str, explain: bool, stop: &Stop, err: &mut E)
+    requires { E.has_failed err.old ≡ false }
+    ensures { ReportsExplainedOf explain name.now stop.now.fault stop.now.expected (E.contents err.old) (E.contents err.new) (E.has_failed err.new) }
+{
+    match report_of(alloc, name, explain, stop) {
+        Ok(text) => tell_of(alloc, name, &text[b"rdfconv: ".len()..], err),
+        Err(AllocError) => {
+            tell_memory(err);
+        }
+    }
+}
+
+/// Reports a text about the document of this name, or want of memory where that is refused for the line.
+pub fn tell_of<E: Drain>(alloc: Global, name: &str, text: &[u8], err: &mut E)
+    requires { E.has_failed err.old ≡ false }
+    ensures { ReportsOf name.now text.now (E.contents err.old) (E.contents err.new) (E.has_failed err.new) }
+{
+    match line_of(alloc, name, text) {
+        Ok(line) => tell_bytes(line.as_slice(), err),
+        Err(AllocError) => {
+            tell_memory(err);
+        }
+    }
+}
+
+fn line_of(alloc: Global, name: &str, text: &[u8]) -> Result<Vec<u8>, AllocError>
+    ensures { IfOk result (λ line. line.items ≡ name.now ++ codes ": " ++ text.now) }
+{
+    let mut line = named_front(alloc, name)?;
+    line.extend_from_slice(text)?;
+    Ok(line)
+}
+
+/// What stands in front of a line about the document of this name.
+pub fn named_front(alloc: Global, name: &str) -> Result<Vec<u8>, AllocError>
+    ensures { IfOk result (λ text. text.items ≡ name.now ++ codes ": ") }
+{
+    let mut text = Vec::from_slice(alloc, name.as_bytes())?;
+    text.extend_from_slice(b": ")?;
+    Ok(text)
+}
+
+/// The text and the status of a file of bindings that was not loaded.
+pub fn refuse_prefixes<E: Drain>(alloc: Global, fault: &LoadFault, err: &mut E) -> u8
+    requires { E.has_failed err.old ≡ false }
+    ensures status { result ≡ load_status fault.now }
+    ensures reported { ReportsLoad fault.now (E.contents err.old) (E.contents err.new) (E.has_failed err.new) }
+{
+    match fault {
+        LoadFault::Bad(fault) => {
+            if let Ok(line) = prefixes_line(alloc, fault.line) {
+                tell_bytes(line.as_slice(), err);
+            }
+            2
+        }
+        LoadFault::Read => {
+            tell(read_failed(), err);
+            3
+        }
+        LoadFault::Memory => tell_memory(err),
+    }
+}
+
+fn prefixes_line(alloc: Global, line: u64) -> Result<Vec<u8>, AllocError>
+    ensures { IfOk result (λ text. text.items ≡ prefixes_text line) }
+{
+    let mut text = Vec::from_slice(alloc, b"rdfconv: bad prefixes at line ")?;
+    put_number(line, &mut text)?;
+    text.extend_from_slice(b"\n")?;
+    Ok(text)
+}
+
+/// The text and the status of a file that did not open.
+pub fn refuse_file<E: Drain>(err: &mut E) -> u8
+    requires { E.has_failed err.old ≡ false }
+    ensures status { result ≡ 3 }
+    ensures reported { Reports (codes "rdfconv: cannot open file\n") (E.contents err.old) (E.contents err.new) (E.has_failed err.new) }
+{
+    tell("rdfconv: cannot open file\n", err);
+    3
+}
+
+/// The text and the status of an output that was not created.
+pub fn refuse_output<E: Drain>(why: NoOutput, err: &mut E) -> u8
+    requires { E.has_failed err.old ≡ false }
+    ensures status { result ≡ output_status why }
+    ensures reported { Reports (output_text why) (E.contents err.old) (E.contents err.new) (E.has_failed err.new) }
+{
+    match why {
+        NoOutput::NotOpen => refuse_file(err),
+        NoOutput::Memory => tell_memory(err),
+    }
+}
+
+/// The text and the status of an output that could not get its name.
+pub fn refuse_name<E: Drain>(err: &mut E) -> u8
+    requires { E.has_failed err.old ≡ false }
+    ensures status { result ≡ 3 }
+    ensures reported { Reports (report_text StreamFault.Write) (E.contents err.old) (E.contents err.new) (E.has_failed err.new) }
+{
+    tell(write_failed(), err);
+    3
+}
+
+/// The text and the status of words that are no task. Help goes to the output.
+pub fn refuse_words<O: Drain, E: Drain>(
+    alloc: Global,
+    fault: &WordsFault,
+    out: &mut O,
+    err: &mut E,
+) -> u8
+    requires out { O.has_failed out.old ≡ false }
+    requires err { E.has_failed err.old ≡ false }
+    ensures status { RefusesWords fault.now result (E.contents err.old) (E.contents err.new) (E.has_failed err.new) }
+    ensures goes { GoesTo fault.now (O.contents out.old) (O.contents out.new) (E.contents err.old) (E.contents err.new) }
+{
+    match fault {
+        WordsFault::Usage(error) => {
+            if error.use_stderr() {
+                tell_usage(alloc, error, err);
+                2
+            } else {
+                tell_usage(alloc, error, out);
+                0
+            }
+        }
+        WordsFault::BadBase => {
+            tell("rdfconv: bad base\n", err);
+            2
+        }
+        WordsFault::BadNodePrefix => {
+            tell("rdfconv: bad node prefix\n", err);
+            2
+        }
+        WordsFault::BadGraph => {
+            tell("rdfconv: bad graph\n", err);
+            2
+        }
+        WordsFault::NoFormat(name) => {
+            if let Ok(line) = no_format_line(alloc, name.as_str()) {
+                tell_bytes(line.as_slice(), err);
+            }
+            2
+        }
+        WordsFault::Memory => tell_memory(err),
+    }
+}
+
+fn no_format_line(alloc: Global, name: &str) -> Result<Vec<u8>, AllocError>
+    ensures { IfOk result (λ line. line.items ≡ no_format_text name.now) }
+{
+    let mut line = Vec::from_slice(alloc, b"rdfconv: no format in the name ")?;
+    line.extend_from_slice(name.as_bytes())?;
+    line.extend_from_slice(b"\n")?;
+    Ok(line)
+}
+
+// Where memory for the text is refused, nothing is reported.
+fn tell_usage<E: Drain>(alloc: Global, error: &Error, err: &mut E)
+    requires { E.has_failed err.old ≡ false }
+{
+    if let Ok(text) = error.to_string(alloc) {
+        tell(text.as_str(), err);
+    }
+}
+
+// Reports that memory was refused, which takes none, and answers the status.
+fn tell_memory<E: Drain>(err: &mut E) -> u8
+    requires { E.has_failed err.old ≡ false }
+    ensures status { result ≡ 4 }
+    ensures reported { Reports (report_text StreamFault.Memory) (E.contents err.old) (E.contents err.new) (E.has_failed err.new) }
+{
+    tell(out_of_memory(), err);
+    4
+}
+
+fn tell<E: Drain>(text: &str, err: &mut E)
+    requires { E.has_failed err.old ≡ false }
+    ensures { Reports text.now (E.contents err.old) (E.contents err.new) (E.has_failed err.new) }
+{
+    tell_bytes(text.as_bytes(), err);
+}
+
+// Where the device fails, that is not reported: there is no other to report it to.
+fn tell_bytes<E: Drain>(text: &[u8], err: &mut E)
+    requires { E.has_failed err.old ≡ false }
+    ensures { Reports text.now (E.contents err.old) (E.contents err.new) (E.has_failed err.new) }
+{
+    match put_all(err, text) {
+        Ok(()) | Err(Failed) => {}
+    }
+}
+
+/// Appends a number in decimal digits.
+pub fn put_number(number: u64, text: &mut Vec<u8>) -> Result<(), AllocError>
+    ensures { OnOk result (text.new.items ≡ text.old.items ++ decimal number) }
+{
+    text.extend_from_slice(Buffer::new().format(number).as_bytes())
+}
