@@ -50,6 +50,50 @@ first_char bs at u l = go u.0 u.1.1
           omega (arith, ap length e, length-append (encode_utf8 c) (encode_utf8_all w), length-encode c, length-drop at bs),
         )
 
+-- The character at a place before the end of some bytes, where a byte of ASCII ends them if a character there is not of ASCII.
+module _ (bs : List ℕ) (at end : ℕ) (within : end ≤ length bs) (low : 128 ≤ get_or bs at 0 → end < length bs → get_or bs end 0 < 128) (before : at < end) (u : IsUtf8 (drop at bs)) where
+  pub char_there : (c : ℕ) × (drop at bs ≡ encode_utf8 c ++ drop (at + len_utf8 c) bs) × (at + len_utf8 c ≤ length bs)
+  char_there = first_char bs at u (omega (arith, within))
+
+  abbrev pub the_char : ℕ
+  the_char = char_there.0
+
+  pub char_is : drop at bs ≡ encode_utf8 the_char ++ drop (at + len_utf8 the_char) bs
+  char_is = char_there.1
+
+  char_byte : (j : ℕ) → j < length (encode_utf8 the_char) → get_or bs (at + j) 0 ≡ get_or (encode_utf8 the_char) j 0
+  char_byte j m =
+      sym (get_or-drop at bs j 0) ∙ (ap (λ v. get_or v j 0) char_is ∙ get_or_append_left (encode_utf8 the_char) (drop (at + len_utf8 the_char) bs) 0 j m)
+
+  -- it begins with the byte there
+  pub char_lead : get_or (encode_utf8 the_char) 0 0 ≡ get_or bs at 0
+  char_lead =
+      let size = length-encode the_char in
+      let bound = len_utf8_bounds the_char in
+      sym (char_byte 0 (omega (arith, size, bound))) ∙ ap (λ y. get_or bs y 0) (let z : at + 0 ≡ at = omega arith in z)
+
+  -- and is whole
+  pub char_whole : at + len_utf8 the_char ≤ end
+  char_whole =
+      let c = the_char in
+      let size = length-encode c in
+      let bound = len_utf8_bounds c in
+      ⊎_elim
+      (λ (a : c < 128). let len : length (encode_utf8 c) ≡ 1 = ap length (encode_ascii c a) in let b = before in omega (arith, len, size))
+      (λ a. ⊎_elim
+      (λ (q : end < at + len_utf8 c).
+      let b = before in
+      let back : at + (end - at) ≡ end = omega arith in
+      let inside : end - at < length (encode_utf8 c) = omega (arith, size) in
+      let there = char_byte (end - at) inside in
+      let wide = high-encode c a (end - at) inside in
+      let here = high-encode c a 0 (omega (arith, size, bound)) in
+      let ends = low (omega (arith, here, char_lead)) (let y = char_there.2 in omega arith) in
+      absurd (omega (arith, there, wide, ends, ap (λ y. get_or bs y 0) back)))
+      (λ q. q)
+      (cases_lt end (at + len_utf8 c)))
+      (cases_lt c 128)
+
 -- a front that was found last replaces one that was found before it
 pub with_length-again : (m n : ℕ) (k : Option Kind) (b : Option (ℕ × Kind)) → with_length m k b ≡ with_length m k (with_length n k b)
 with_length-again m n None b = refl
@@ -64,33 +108,16 @@ module _ (d : Dialect) (bs : List ℕ) (at end : ℕ) (s : State) (k : Option Ki
   -- over one character
   one_on : (x : ℕ) → at ≤ x → x < end → Here x → (y : ℕ) × (x < y) × (y ≤ end) × Here y
   one_on x from l r =
-      let w = h.within in
-      let one = first_char bs x r.here.utf8 (omega arith) in
-      let c = one.0 in
-      let size = length-encode c in
-      let bound = len_utf8_bounds c in
-      let byte : (j : ℕ) → j < length (encode_utf8 c) → get_or bs (x + j) 0 ≡ get_or (encode_utf8 c) j 0 =
-      λ j m. sym (get_or-drop x bs j 0) ∙ (ap (λ v. get_or v j 0) one.1 ∙ get_or_append_left (encode_utf8 c) (drop (x + len_utf8 c) bs) 0 j m) in
-      let lead : get_or (encode_utf8 c) 0 0 ≡ get_or bs x 0 = sym (byte 0 (omega (arith, size, bound))) ∙ ap (λ y. get_or bs y 0) (let z : x + 0 ≡ x = omega arith in z) in
-      let whole : x + len_utf8 c ≤ end = ⊎_elim
-      (λ (a : c < 128). let len : length (encode_utf8 c) ≡ 1 = ap length (encode_ascii c a) in omega (arith, len, size))
-      (λ a. ⊎_elim
-      (λ (q : end < x + len_utf8 c).
-      let back : x + (end - x) ≡ end = omega arith in
-      let inside : end - x < length (encode_utf8 c) = omega (arith, size) in
-      let there = byte (end - x) inside in
-      let wide = high-encode c a (end - x) inside in
-      let here = high-encode c a 0 (omega (arith, size, bound)) in
-      let low = h.whole x from l (omega (arith, here, lead)) (let y = one.2 in omega arith) in
-      absurd (omega (arith, there, wide, low, ap (λ y. get_or bs y 0) back)))
-      (λ q. q)
-      (cases_lt end (x + len_utf8 c)))
-      (cases_lt c 128) in (
+      let u = r.here.utf8 in
+      let low = λ (a : 128 ≤ get_or bs x 0) (inside : end < length bs). h.whole x from l a inside in
+      let c = the_char bs x end h.within low l u in
+      let whole = char_whole bs x end h.within low l u in
+      let bound = len_utf8_bounds c in (
         x + len_utf8 c,
         omega (arith, bound),
         whole,
-        reached-step d bs x (x + len_utf8 c) c s s k (with_length x k b) (with_length (x + len_utf8 c) k b) r one.1 refl one.2 (sym (h.stays d x c from l lead)) ek
-            (with_length-again (x + len_utf8 c) x k b),
+        reached-step d bs x (x + len_utf8 c) c s s k (with_length x k b) (with_length (x + len_utf8 c) k b) r (char_is bs x end h.within low l u) refl (omega (arith, whole, h.within))
+            (sym (h.stays d x c from l (char_lead bs x end h.within low l u))) ek (with_length-again (x + len_utf8 c) x k b),
       )
 
   on : (fuel x : ℕ) → at ≤ x → x ≤ end → end ≤ x + fuel → Here x → Here end

@@ -75,7 +75,7 @@ iri_below x e = ⊎_elim (λ l. l) (λ l. absurd (let h : iri_byte x ≡ true = 
 short_below : (q x : ℕ) → q < 128 → is_short_byte q x ≡ false → x < 128
 short_below q x a e = ⊎_elim (λ l. l) (λ l. absurd (let h : is_short_byte q x ≡ true = grind (arith, nat_tests) in false≢true (sym e ∙ h))) (cases_lt x 128)
 
-long_below : (q x : ℕ) → q < 128 → is_long_byte q x ≡ false → x < 128
+pub long_below : (q x : ℕ) → q < 128 → is_long_byte q x ≡ false → x < 128
 long_below q x a e = ⊎_elim (λ l. l) (λ l. absurd (let h : is_long_byte q x ≡ true = grind (arith, nat_tests) in false≢true (sym e ∙ h))) (cases_lt x 128)
 
 -- a run in a name is ASCII

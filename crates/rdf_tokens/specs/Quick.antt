@@ -204,14 +204,6 @@ is_empty_string q bs =
 abbrev pub stands_thrice : Quote → List ℕ → ℕ → Bool
 stands_thrice q bs at = stands_at (quote_byte q) bs at && (stands_at (quote_byte q) bs (at + 1) && stands_at (quote_byte q) bs (at + 2))
 
--- a byte of ASCII that is neither this quote nor a backslash
-abbrev pub is_inner : Quote → ℕ → Bool
-is_inner q b = nat_lt b 128 && (not (b == quote_byte q) && not (b == 92))
-
--- such a byte stands at a place
-abbrev pub stands_inner : Quote → List ℕ → ℕ → Bool
-stands_inner q bs at = nat_lt at (length bs) && is_inner q (get_or bs at 0)
-
 -- the bytes between two places lead back to the state within a string between three of this quote
 abbrev pub RestsInLong : Quote → List ℕ → ℕ → ℕ → Type 0
 RestsInLong q bs at end = Rests (state.Text (text.Long q)) bs at end

@@ -11,7 +11,7 @@ ghost use Rattle.rdf_tokens.specs.Quick.{is_dot, begins_number, is_point, is_int
 ghost use Rattle.rdf_tokens.specs.Quick.{begins_iri, quote_byte, opens_with, begins_string, is_empty_string, begins_label, begins_label_name};
 ghost use Rattle.rdf_tokens.specs.Quick.{begins_tag, begins_directive, is_part_byte, is_tag_end, is_later_end, are_carets};
 ghost use Rattle.rdf_tokens.specs.Escapes.{FitsInString};
-ghost use Rattle.rdf_tokens.specs.Quick.{RestsInLocal, is_over, is_last, ends_local, RestsInLong, is_inner, is_plain, long_run, stands_inner, stands_thrice};
+ghost use Rattle.rdf_tokens.specs.Quick.{RestsInLocal, is_over, is_last, ends_local, RestsInLong, is_plain, long_run, stands_thrice};
 ghost use Rattle.rdf_terms.specs.Runs.{IsRun, is_name_byte};
 
 use crate::escapes::{escape_end, short_run};
@@ -236,8 +236,7 @@ fn stands_thrice(quote: Quote, bytes: &[u8], at: usize) -> bool
     stands_at(byte, bytes, at) && stands_at(byte, bytes, at + 1) && stands_at(byte, bytes, at + 2)
 }
 
-/// The place after what stands inside such a string from a place on: plain bytes, whole escapes, and quotes each of which has another byte of ASCII
-/// after it.
+/// The place after what stands inside such a string from a place on: plain bytes, whole escapes, and quotes each of which has a plain byte after it.
 pub(crate) fn long_end(quote: Quote, bytes: &[u8], from: usize) -> usize
     requires { from ≤ length bytes.now }
     ensures rests { RestsInLong quote bytes.now from result }
@@ -282,28 +281,15 @@ fn inner_end(quote: Quote, bytes: &[u8], at: usize) -> Option<usize>
     ensures fits { IfSome result (λ end. FitsInString bytes.now at end) }
     ensures on { IfSome result (λ end. at < end) }
 {
+    let run = long_run(quote);
     if stands_at(quote_byte(quote), bytes, at) {
-        if stands_inner(quote, bytes, at + 1) {
-            return Some(run_end(long_run(quote), bytes, at + 2));
+        let end = run_end(run, bytes, at + 1);
+        if end == at + 1 {
+            return None;
         }
-        return None;
+        return Some(end);
     }
-    escape_end(long_run(quote), bytes, at)
-}
-
-/// Whether a byte of ASCII stands at a place that is neither this quote nor a backslash.
-#[inline(always)]
-fn stands_inner(quote: Quote, bytes: &[u8], at: usize) -> bool
-    ensures { result ≡ stands_inner quote bytes.now at }
-{
-    at < bytes.len() && is_inner(quote, bytes[at])
-}
-
-#[inline(always)]
-fn is_inner(quote: Quote, byte: u8) -> bool
-    ensures { result ≡ is_inner quote byte }
-{
-    byte < 128 && byte != quote_byte(quote) && byte != b'\\'
+    escape_end(run, bytes, at)
 }
 
 /// Whether `_:` comes first, and a letter, a digit or `_`.
