@@ -18,6 +18,11 @@ use Rattle.rdf_terms.proofs.RunsLemmas.{run_in}
 use Rattle.rdf_terms.proofs.LocalLemmas.{local-means}
 use Rattle.rdf_terms.proofs.EscapesLemmas.{run_stands}
 
+-- if all bytes pass between the ends, the text passes
+pub all_pass : (p : ℕ → Bool) (bs : List ℕ) → PassBetween p bs 0 (length bs) → all_have p bs ≡ true
+all_pass p [] h = refl
+all_pass p (b ∷ bs) h = and_from (p b) (all_have p bs) (h 0 (omega arith) (omega arith)) (all_pass p bs (λ k from to. h (suc k) (omega arith) (omega arith)))
+
 -- a text without backslashes is what it is without them
 without : (w : List ℕ) → all_have is_unescaped w ≡ true → without_backslashes w ≡ w
 without [] h = refl
