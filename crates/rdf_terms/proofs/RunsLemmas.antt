@@ -136,12 +136,12 @@ pub lanes_decide : (p : ℕ → Bool) (bs : List ℕ) (at n m : ℕ) → at + n 
 lanes_decide p bs at n m room few e =
     ⊎_elim
     (λ (l : 0 < m).
-      let some : 0 < stop_mask p bs at n = omega (arith, e, l) in
-      let k = count_trailing_zeros 64 (stop_mask p bs at n) in
-      (k, one_stops p bs at n room few some, ne_eqb m 0 (λ z. omega (arith, z, l)) ∙ sym (ne_eqb k n (λ z. omega (arith, z, one_within p bs at n room few some)))))
+    let some : 0 < stop_mask p bs at n = omega (arith, e, l) in
+    let k = count_trailing_zeros 64 (stop_mask p bs at n) in
+    (k, one_stops p bs at n room few some, ne_eqb m 0 (λ z. omega (arith, z, l)) ∙ sym (ne_eqb k n (λ z. omega (arith, z, one_within p bs at n room few some)))))
     (λ l.
-      let none : m ≡ 0 = omega (arith, l) in
-      (n, none_stops p bs at n room (sym e ∙ none), eq-eqb m 0 none ∙ sym (eq-eqb n n refl)))
+    let none : m ≡ 0 = omega (arith, l) in
+    (n, none_stops p bs at n room (sym e ∙ none), eq-eqb m 0 none ∙ sym (eq-eqb n n refl)))
     (cases_lt 0 m)
 
 -- a mask without its lowest bits is that of the bytes after them
