@@ -55,16 +55,76 @@ module _ (names : Bor (List (Bor Text))) (known : texts names.now ≡ format_nam
   unfolding clap_on_literals
   are_read Check =
       let set = inl (refl, (refl, refl)) in
-      let flag = inr (inl (refl, omega arith)) in
-      ((refl, set), ((refl, set), ((refl, set), ((refl, set), ((refl, set), ((refl, set), ((refl, flag), ((refl, inr (inr (inl (refl, (refl, refl))))), ((refl, set), ((refl, inr (inr (inr refl))), tt))))))))))
+      let flag = inr (inl (refl, omega arith)) in (
+        (refl, set),
+        (
+          (refl, set),
+          (
+            (refl, set),
+            (
+              (refl, set),
+              (
+                (refl, set),
+                (
+                  (refl, set),
+                  (
+                    (refl, flag),
+                    ((refl, inr (inr (inl (refl, (refl, refl))))), ((refl, set), ((refl, inr (inr (inr refl))), tt))),
+                  ),
+                ),
+              ),
+            ),
+          ),
+        ),
+      )
   are_read Show =
       let set = inl (refl, (refl, refl)) in
-      let flag = inr (inl (refl, omega arith)) in
-      ((refl, set), ((refl, set), ((refl, set), ((refl, set), ((refl, set), ((refl, set), ((refl, flag), ((refl, set), ((refl, inr (inr (inr refl))), tt)))))))))
+      let flag = inr (inl (refl, omega arith)) in (
+        (refl, set),
+        (
+          (refl, set),
+          (
+            (refl, set),
+            (
+              (refl, set),
+              (
+                (refl, set),
+                (
+                  (refl, set),
+                  (
+                    (refl, flag),
+                    ((refl, set), ((refl, inr (inr (inr refl))), tt)),
+                  ),
+                ),
+              ),
+            ),
+          ),
+        ),
+      )
   are_read Convert =
       let set = inl (refl, (refl, refl)) in
-      let flag = inr (inl (refl, omega arith)) in
-      ((refl, set), ((refl, set), ((refl, set), ((refl, set), ((refl, set), ((refl, set), ((refl, flag), ((refl, set), ((refl, set), ((refl, flag), ((refl, set), ((refl, set), ((refl, set), ((refl, inr (inr (inr refl))), tt))))))))))))))
+      let flag = inr (inl (refl, omega arith)) in (
+        (refl, set),
+        (
+          (refl, set),
+          (
+            (refl, set),
+            (
+              (refl, set),
+              (
+                (refl, set),
+                (
+                  (refl, set),
+                  (
+                    (refl, flag),
+                    ((refl, set), ((refl, set), ((refl, flag), ((refl, set), ((refl, set), ((refl, set), ((refl, inr (inr (inr refl))), tt))))))),
+                  ),
+                ),
+              ),
+            ),
+          ),
+        ),
+      )
 
   -- a built subcommand of the program
   abbrev IsAction : Shape → Type 0

@@ -84,7 +84,8 @@ pub record ChecksEach (has_document : Option Text → Option (List ℕ) → Type
   pub opened : HasPrefixes has_document (prefixes_of t) prefixes
   pub bytes : Option (List ℕ)
   pub given : GivesBindings t.limits prefixes bytes
-  pub ends : EndsEach has_document is_shut (record { base = t.base; limits = t.limits; explain = t.explain; prefixes = bytes }) (documents_of t) status out_old out err_old err
+  pub ends : EndsEach has_document is_shut (record { base = t.base; limits = t.limits; explain = t.explain; prefixes = bytes }) (documents_of t)
+      status out_old out err_old err
 
 -- The file of bindings gave none, which the status and the text on the error output say, and no document was read.
 pub record ChecksNone (has_document : Option Text → Option (List ℕ) → Type 0) (t : Task) (status : ℕ) (out_old : Option (List ℕ)) (out : Written)

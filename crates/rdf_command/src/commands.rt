@@ -10,8 +10,9 @@ ghost use Rattle.rdf_lines.specs.declared.form.Escapes.TheVariants.{Ascii, Plain
 ghost use Rattle.rdf_iri.specs.Texts.{byte_len};
 ghost use Rattle.rdf_options.specs.Options.{rdfconv};
 ghost use Rattle.rdf_command.specs.Programs.{IsTaskOf, IsNoTaskOf};
-ghost use Rattle.rdf_command.specs.Words.{AreDocuments, GivesNone, GivesTask, HasLimits, HasNumber, HasSizes, IsBase, IsEntered, IsFormBy, IsFormatWord, IsTaskBy, IsUsageOf, IsWord};
-ghost use Rattle.rdf_command.specs.Words.{NoBaseOf, NoFormOf, NoFormsOf, NoGraphOf, NoTaskBy, NoWordOf, escapes_by, file_by, format_names, further_by, further_of, is_given, name_by, number_of};
+ghost use Rattle.rdf_command.specs.Words.{GivesNone, GivesTask, HasLimits, HasNumber, HasSizes, IsBase, IsEntered, IsTaskBy, IsUsageOf, IsWord, number_of};
+ghost use Rattle.rdf_command.specs.Words.{NoBaseOf, NoFormOf, NoFormsOf, NoGraphOf, NoTaskBy, NoWordOf, escapes_by, file_by, is_given};
+ghost use Rattle.rdf_command.specs.Words.{AreDocuments, IsFormBy, IsFormatWord, format_names, further_by, further_of, name_by};
 
 use crate::names::{FORMATS, action_of, form_by};
 use crate::task::{Document, Task, WordsFault};

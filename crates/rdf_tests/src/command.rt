@@ -7,6 +7,7 @@ mod hosts;
 mod rows;
 mod texts;
 
+use crate::stream::devices::slow_drain;
 use hosts::{InMemory, Making, Outputs};
 use rdf_command::{
     Action, Document, Files, Host, NoWords, Process, Task, WordsFault, command_of, refuse_words,
@@ -14,8 +15,8 @@ use rdf_command::{
 };
 use rdf_stream::{Escapes, Form, In, Limits, Out, Source};
 use rows::{
-    Asked, FILES, Fields, INPUT, INTO_FILES, IntoFile, LIMITED, Limited, RUNS, Run, STARTED,
-    Started, TASKS,
+    Asked, CUTS, Cut, FILES, Fields, INPUT, INTO_FILES, IntoFile, LIMITED, Limited, RUNS, Run,
+    STARTED, Started, TASKS,
 };
 use std::alloc::{AllocError, Global};
 use std::test::Fail;
@@ -52,6 +53,7 @@ fn task(alloc: Global, action: Action, form: Form, limits: Limits) -> Task
         form,
         base: None,
         limits,
+        explain: false,
         escapes: Escapes::Plain,
         node_prefix: None,
         graph: None,
@@ -133,6 +135,8 @@ fn other_field(task: &Task, fields: &Fields<'_>) -> Option<&'static str> {
         Some("base")
     } else if Limits::new(token, depth, bindings, iri) != Some(task.limits) {
         Some("limits")
+    } else if task.explain != fields.explain {
+        Some("explain")
     } else if task.escapes != fields.escapes {
         Some("escapes")
     } else {
@@ -324,6 +328,7 @@ fn long_task_differs_in(alloc: Global, base: &str, file: &str) -> Option<&'stati
         form: Form::Turtle,
         base: Some(base),
         limits: [1, 2, 3, 200000],
+        explain: false,
         escapes: Escapes::Plain,
         node_prefix: None,
         graph: None,
@@ -417,6 +422,60 @@ fn unlike_start(alloc: Global) -> Option<(&'static str, &'static str)> {
 #[test]
 fn the_program_does_what_its_words_say(rt: HostRuntime) {
     assert_eq!(rt; unlike_start(rt.alloc()), None);
+}
+
+/// What comes of a check of several documents whose error output takes so many bytes, one a call, and then fails.
+fn checked(alloc: Global, line: &str, calls: u64) -> Ended {
+    let host = InMemory {
+        words: Ok(line),
+        input: INPUT,
+        files: FILES.as_slice(),
+        outputs: Outputs::new(Making::NotCreated),
+    };
+    let mut written = Vec::new(alloc);
+    let mut out = Out::new(&mut written);
+    let mut err = slow_drain(alloc, 1, calls);
+    let ended = start(alloc, &host, &mut out, &mut err);
+    let status = ended.status;
+    drop(ended);
+    drop(out);
+    Ended {
+        status,
+        written,
+        reported: err.bytes,
+    }
+}
+
+/// What differs where the error output takes so many bytes of what is reported.
+fn cut_differs_in(alloc: Global, row: &Cut, count: usize) -> Option<&'static str> {
+    let ended = checked(alloc, row.line, count as u64);
+    let written = if count < row.first { "" } else { row.written };
+    if ended.status != 3 {
+        Some("status")
+    } else if ended.written.as_slice() != written.as_bytes() {
+        Some("written")
+    } else if Some(ended.reported.as_slice()) != row.reported.as_bytes().get(..count) {
+        Some("reported")
+    } else {
+        None
+    }
+}
+
+/// The first number of bytes after which the error output does not end the check at its document, and what is not so.
+fn unlike_cut(alloc: Global, row: &Cut) -> Option<(usize, &'static str)> {
+    for count in 0..row.reported.len() {
+        if let Some(other) = cut_differs_in(alloc, row, count) {
+            return Some((count, other));
+        }
+    }
+    None
+}
+
+#[test]
+fn no_document_is_read_after_an_output_has_failed(rt: HostRuntime) {
+    for row in CUTS.as_slice() {
+        assert_eq!(rt; unlike_cut(rt.alloc(), row), None, "{}", row.line);
+    }
 }
 
 /// What differs in a run whose lines go to a file.

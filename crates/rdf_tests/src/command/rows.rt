@@ -135,6 +135,7 @@ pub(crate) struct Fields<'a> {
     pub(crate) base: Option<&'a str>,
     /// Those of a token, of open brackets, of bindings and of an IRI.
     pub(crate) limits: [u64; 4],
+    pub(crate) explain: bool,
     pub(crate) escapes: Escapes,
     pub(crate) node_prefix: Option<&'a str>,
     pub(crate) graph: Option<&'a str>,
@@ -160,6 +161,7 @@ pub(crate) static TASKS: [Asked; 6] = [
             form: Form::TriG,
             base: None,
             limits: [16777216, 1024, 65536, 1048576],
+            explain: false,
             escapes: Escapes::Plain,
             node_prefix: None,
             graph: None,
@@ -170,12 +172,13 @@ pub(crate) static TASKS: [Asked; 6] = [
         },
     },
     Asked {
-        line: "rdfconv convert --iri 12 --format=nt --base http://a/b/c --token=1 --depth 0 data.nt --ascii --bindings 2 --prefixes ex.txt --node-prefix Ab1 --graph http://a/b/g -o out.nq",
+        line: "rdfconv convert --iri 12 --format=nt --base http://a/b/c --token=1 --depth 0 data.nt --ascii --bindings 2 --prefixes ex.txt --node-prefix Ab1 --graph http://a/b/g --explain -o out.nq",
         fields: Fields {
             action: Action::Convert,
             form: Form::NTriples,
             base: Some("http://a/b/c"),
             limits: [1, 0, 2, 12],
+            explain: true,
             escapes: Escapes::Ascii,
             node_prefix: Some("Ab1"),
             graph: Some("http://a/b/g"),
@@ -192,6 +195,7 @@ pub(crate) static TASKS: [Asked; 6] = [
             form: Form::TriG,
             base: Some("http://a/b"),
             limits: [16777216, 1024, 65536, 10],
+            explain: false,
             escapes: Escapes::Plain,
             node_prefix: None,
             graph: None,
@@ -208,6 +212,7 @@ pub(crate) static TASKS: [Asked; 6] = [
             form: Form::TriG,
             base: None,
             limits: [16777216, 1024, 65536, 9],
+            explain: false,
             escapes: Escapes::Plain,
             node_prefix: None,
             graph: None,
@@ -224,6 +229,7 @@ pub(crate) static TASKS: [Asked; 6] = [
             form: Form::Turtle,
             base: None,
             limits: [16777216, 1024, 65536, 1048576],
+            explain: false,
             escapes: Escapes::Plain,
             node_prefix: None,
             graph: None,
@@ -244,6 +250,7 @@ pub(crate) static TASKS: [Asked; 6] = [
             form: Form::NQuads,
             base: None,
             limits: [16777216, 1024, 65536, 1048576],
+            explain: false,
             escapes: Escapes::Plain,
             node_prefix: None,
             graph: None,
@@ -266,9 +273,10 @@ pub(crate) struct Started {
 
 pub(crate) const INPUT: &str = "<a:> <b:> _:input .";
 
-pub(crate) static FILES: [(&str, &str); 6] = [
+pub(crate) static FILES: [(&str, &str); 7] = [
     ("data.nt", "<a:> <b:> \"file\" ."),
     ("data.ttl", "ex:s ex:p ex:o ."),
+    ("open.ttl", "<a:> <b:> [ <c:> 1\n."),
     (
         "graphs.trig",
         "<a:> <b:> [] . <a:g> { <a:> <b:> _:x } [ <b:> 1 ] .",
@@ -278,7 +286,7 @@ pub(crate) static FILES: [(&str, &str); 6] = [
     ("bad.txt", "ex: http://e/\nex: e\n"),
 ];
 
-pub(crate) static STARTED: [Started; 27] = [
+pub(crate) static STARTED: [Started; 31] = [
     Started {
         line: "rdfconv show x x x x x x x x x x x x x x x x x x x x x x x x x x x x x x x x x x x x x x x x x x x x x x x x",
         status: 2,
@@ -440,6 +448,57 @@ pub(crate) static STARTED: [Started; 27] = [
         status: 0,
         written: "<a:> <b:> \"file\" .\n",
         reported: "",
+    },
+    Started {
+        line: "rdfconv check --explain open.ttl",
+        status: 1,
+        written: "",
+        reported: "rdfconv: unexpected token at byte 19, line 2\nopen.ttl:2: unexpected token; expected \";\", \",\" or \"]\"\n",
+    },
+    Started {
+        line: "rdfconv convert --format=ttl open.ttl --explain",
+        status: 1,
+        written: "<a:> <b:> _:a10 .\n",
+        reported: "rdfconv: unexpected token at byte 19, line 2\nopen.ttl:2: unexpected token; expected \";\", \",\" or \"]\"\n",
+    },
+    Started {
+        line: "rdfconv show --token=1 --explain",
+        status: 1,
+        written: "",
+        reported: "rdfconv: token too long at byte 0, line 1\n-:1: token too long\n",
+    },
+    Started {
+        line: "rdfconv check --explain open.ttl no.nt - data.ttl",
+        status: 3,
+        written: "-: accepted, 1 quads, 19 bytes\n",
+        reported: "open.ttl: unexpected token at byte 19, line 2\nopen.ttl:2: unexpected token; expected \";\", \",\" or \"]\"\nno.nt: cannot open file\ndata.ttl: unbound prefix at byte 0, line 1\ndata.ttl:1: unbound prefix\n",
+    },
+];
+
+/// A check of a document that is refused, one that is accepted, and one that is refused, and what comes of it where the
+/// error output takes all bytes.
+pub(crate) struct Cut {
+    /// The words, with a space between each two.
+    pub(crate) line: &'static str,
+    pub(crate) reported: &'static str,
+    /// The bytes that are reported of the first document.
+    pub(crate) first: usize,
+    /// What is written of the second.
+    pub(crate) written: &'static str,
+}
+
+pub(crate) static CUTS: [Cut; 2] = [
+    Cut {
+        line: "rdfconv check data.ttl - open.ttl",
+        reported: "data.ttl: unbound prefix at byte 0, line 1\nopen.ttl: unexpected token at byte 19, line 2\n",
+        first: 43,
+        written: "-: accepted, 1 quads, 19 bytes\n",
+    },
+    Cut {
+        line: "rdfconv check --explain data.ttl - open.ttl",
+        reported: "data.ttl: unbound prefix at byte 0, line 1\ndata.ttl:1: unbound prefix\nopen.ttl: unexpected token at byte 19, line 2\nopen.ttl:2: unexpected token; expected \";\", \",\" or \"]\"\n",
+        first: 70,
+        written: "-: accepted, 1 quads, 19 bytes\n",
     },
 ];
 

@@ -14,13 +14,14 @@ returns-in-Ok-act-clause-ends g c =
 pub returns-clause-ends : goal.returns-clause-ends
 returns-clause-ends g c =
     let h = c.in-Ok.ensures.job in
+    let stop = c.in-Err-act.stop in
     let name : c.name_by.result.now ≡ name_of c.args.task =
     c.name_by.ensures ∙ ap name_by (c.as_deref.ensures.value ∙ ap (option_map string_bytes) c.take-file.ensures.value) in
     let told_so =
-    subst (λ n. ReportsExplained c.args.task.explain n c.in-Err-act.stop.fault c.in-Err-act.stop.expected (g.E.Drain.contents c.args.err.now) (g.E.Drain.contents c.tell_stop.new.err)
+    subst (λ n. ReportsExplained c.args.task.explain n stop.fault stop.expected (g.E.Drain.contents c.args.err.now) (g.E.Drain.contents c.tell_stop.new.err)
     (g.E.Drain.has_failed c.tell_stop.new.err)) name c.tell_stop.ensures in
-    run_stopped c.args.task _ _ h.0 h.1 c.in-Ok.job h.2 _ (told g.I.Source c.act.new.source) _ _ _ _ c.act.ensures.prompt c.in-Err-act.stop.fault _ c.status.ensures
-    c.in-Err-act.ensures.stops c.in-Err-act.ensures.sent c.in-Err-act.stop.expected c.in-Err-act.ensures.expected told_so
+    run_stopped c.args.task _ _ h.0 h.1 c.in-Ok.job h.2 _ (told g.I.Source c.act.new.source) _ _ _ _ c.act.ensures.prompt stop.fault _ c.status.ensures
+    c.in-Err-act.ensures.stops c.in-Err-act.ensures.sent stop.expected c.in-Err-act.ensures.expected told_so
 
 pub returns-clause-untold : goal.returns-clause-untold
 returns-clause-untold g c none = absurd (some_status c.in-Err-act.stop.fault (sym c.status.ensures ∙ none))

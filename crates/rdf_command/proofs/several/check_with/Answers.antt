@@ -19,7 +19,8 @@ loop-document-init g c =
     let out_next = written g.O.Drain c.check_next-turn.new.out in
     let err_next = written g.E.Drain c.check_next-turn.new.err in
     let turn = c.check_next-turn.result in
-    let one = subst (λ name. EndsOne has_document is_shut shared (c.args.task.now.form, name) turn.status out.contents out_next err.contents err_next) (c.name_by.ensures ∙ ap name_by c.as_deref.ensures.value) c.check_next-turn.ensures.ends in
+    let one = subst (λ name. EndsOne has_document is_shut shared (c.args.task.now.form, name) turn.status out.contents out_next err.contents err_next)
+    (c.name_by.ensures ∙ ap name_by c.as_deref.ensures.value) c.check_next-turn.ensures.ends in
     let next = next_completes has_document is_shut shared whole out.contents err.contents _ _ 0 turn.status turn.has_failed out err out_next err_next
     (first_completes has_document is_shut shared whole out err) one c.check_next-turn.ensures.failed in
     let at = subst (λ so_far. Completes has_document is_shut shared whole out.contents err.contents (further_of c.args.task.now.more.items) turn.has_failed so_far out_next err_next)

@@ -16,7 +16,21 @@ returns c r reads =
     let arguments = c.format_option.result ∷ c.base_option.result ∷ c.token_option.result ∷ c.depth_option.result ∷ c.bindings_option.result ∷ c.iri_option.result
     ∷ c.explain_option.result ∷ c.args.reads ∷ [] in
     let rules = format_rule (Names c.args.formats) ∷ base_rule ∷ token_rule ∷ depth_rule ∷ bindings_rule ∷ iri_rule ∷ explain_rule ∷ r ∷ [] in
-    let have : HaveRules arguments rules =
-    (c.format_option.ensures, (c.base_option.ensures, (c.token_option.ensures, (c.depth_option.ensures, (c.bindings_option.ensures, (c.iri_option.ensures, (c.explain_option.ensures, (reads, tt)))))))) in
+    let have : HaveRules arguments rules = (
+      c.format_option.ensures,
+      (
+        c.base_option.ensures,
+        (
+          c.token_option.ensures,
+          (
+            c.depth_option.ensures,
+            (
+              c.bindings_option.ensures,
+              (c.iri_option.ensures, (c.explain_option.ensures, (reads, tt))),
+            ),
+          ),
+        ),
+      ),
+    ) in
     IfOk-weaker c.args-2.result _ _ (λ made added. with_arguments _ made arguments rules (new_app c.args.about.name.now) (subst (λ xs. AddsInTurn AddsArg c.after_help.result xs made) c.in_ok-arguments.ensures.items added) (globals, app) have)
     c.args-2.ensures
