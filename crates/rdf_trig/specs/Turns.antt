@@ -1,6 +1,5 @@
 -- What a turn does, in the words of the machine: its reply, the tokens that it takes, and the texts that it needs.
-use Rattle.std.specs.Prelude.{◌≡◌, ℕ, ◌+◌, ◌-◌, ◌≤◌, true, List, [], codes, Option, Some, None, is_some, ⊤, MatchOption, length}
-use Rattle.std.specs.String.{string_bytes}
+use Rattle.std.specs.Prelude.{◌≡◌, ℕ, ◌+◌, ◌-◌, ◌≤◌, true, List, codes, Option, Some, None, is_some, ⊤, MatchOption, length}
 use Rattle.rdf_terms.specs.declared.kind.Kind.{Kind}
 use Rattle.rdf_terms.specs.declared.kind.Kind.TheVariants.{LabelNode, ShortString, LongString, True, False}
 use Rattle.rdf_terms.specs.Terms.{Cell, Anon, Blank, Quad}
@@ -18,7 +17,6 @@ use Rattle.rdf_trig.specs.declared.state.Level.TheVariants as level
 use Rattle.rdf_trig.specs.declared.state.Mode.{Mode}
 use Rattle.rdf_trig.specs.declared.state.Mode.TheVariants as mode
 use Rattle.rdf_trig.specs.declared.state.Outer.{Outer}
-use Rattle.rdf_trig.specs.declared.state.Outer.TheVariants as outer
 use Rattle.rdf_trig.specs.declared.state.State.{State}
 use Rattle.rdf_trig.specs.declared.turn.SubjectStart.{SubjectStart}
 use Rattle.rdf_trig.specs.declared.turn.SubjectStart.TheVariants as subject
@@ -250,13 +248,8 @@ Begins old rest b l new =
 abbrev pub StillFits : {A : Type 0} → State A → State A → Type 0
 StillFits old new = (n : ℕ) → Fits n old → Fits n new
 
--- the state stands outside of statements, with no frame in hand and nothing held; its text may have been emptied
+-- the state stands outside of statements, with no frame in hand and nothing held
 abbrev pub Leads : {A : Type 0} → State A → Outer → State A → Type 0
 Leads old o new =
     let empty = record old.frame { container = container.Cells 0 0 } in
-    new ≡ record old { level = level.Top; frame = empty; text = new.text; rest = None; held = held.Nothing; mode = mode.Outer o }
-
--- the text is empty, but for the prefix of a directive
-abbrev pub KeepsPrefix : {A : Type 0} → Outer → State A → State A → Type 0
-KeepsPrefix (outer.WantPrefixIri w) old new = string_bytes new.text ≡ string_bytes old.text
-KeepsPrefix o old new = string_bytes new.text ≡ []
+    new ≡ record old { level = level.Top; frame = empty; rest = None; held = held.Nothing; mode = mode.Outer o }

@@ -8,7 +8,7 @@ ghost use Rattle.rdf_tokens.specs.Leaves.{Leaf};
 ghost use Rattle.rdf_terms.specs.declared.kind.Kind.TheVariants as Kind;
 ghost use Rattle.rdf_trig.specs.declared.turn.Turn.TheVariants as Turn;
 ghost use Rattle.rdf_trig.specs.States.{leaf, IsTurtleToken};
-ghost use Rattle.rdf_trig.specs.Turns.{Leads, KeepsPrefix, Takes, TakesFit, TurnFits, FramesTaken};
+ghost use Rattle.rdf_trig.specs.Turns.{Leads, Takes, TakesFit, TurnFits, FramesTaken};
 
 use crate::fault::StepFault;
 use crate::spelled::parts;
@@ -23,7 +23,6 @@ impl<A: Allocator + Copy> State<A> {
     #[inline(always)]
     pub fn lead(&mut self, outer: Outer)
         ensures same { Leads self.old outer self.new }
-        ensures text { KeepsPrefix outer self.old self.new }
         ensures takes { (l : Leaf) → Takes self.old (Turn.Lead outer) l self.new }
         ensures depth { self.new.depth ≡ self.old.depth }
         ensures stack { FramesTaken self.old (Turn.Lead outer) self.new }
@@ -31,20 +30,7 @@ impl<A: Allocator + Copy> State<A> {
     {
         self.level = Level::Top;
         self.frame.container = Container::none();
-        self.let_go(outer);
         self.stand(Mode::Outer(outer));
-    }
-
-    // The text is emptied, but for the prefix of a directive.
-    #[inline(always)]
-    fn let_go(&mut self, outer: Outer)
-        ensures same { self.new ≡ record self.old { text = self.new.text } }
-        ensures text { KeepsPrefix outer self.old self.new }
-    {
-        match outer {
-            Outer::WantPrefixIri(_) => {}
-            _ => self.text.clear(),
-        }
     }
 
     // The prefix of a directive.

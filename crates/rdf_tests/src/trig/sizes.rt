@@ -147,12 +147,12 @@ fn held_after(alloc: Global, limits: [u64; 4], piece: &str) -> Option<u64> {
     Some(report.held)
 }
 
-/// Limits, a piece, and how many bytes are held after it.
+/// Limits, a piece, and how many bytes are held after it. The prefix of a directive is held until another text takes its place.
 static HELD: [([u64; 4], &str, u64); 3] = [
     (
         [16, 2, 1, 64],
         "@base <http://a.org/b> . PREFIX x: <http://x/> ",
-        24,
+        25,
     ),
     ([1, 0, 0, 1], "", 0),
     (

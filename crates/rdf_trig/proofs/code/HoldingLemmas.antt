@@ -1,5 +1,5 @@
 -- The texts that a token brings are no longer than the token, and the stack of frames keeps what holds of each.
-use Rattle.std.proofs.Common.{◌≡◌, ℕ, Option, Some, None, ◌+◌, ◌^◌, ◌*◌, ◌≤◌, List, [], ◌∷◌, ◌++◌, length, drop, refl, subst, sym, ap, ap₂, ◌∙◌, arith, length-append}
+use Rattle.std.proofs.Common.{◌≡◌, ℕ, Option, Some, None, ◌+◌, ◌^◌, ◌*◌, ◌≤◌, List, [], ◌∷◌, ◌++◌, length, drop, subst, sym, ap, ap₂, ◌∙◌, arith, length-append}
 use Rattle.std.specs.List.{AllByRecursion, sum_by}
 use Rattle.std.proofs.lemmas.Nat.{mul-le}
 use native.Mathlib.Nat.{le-max_left, le-max_right, max-le, mul-add, mul_comm, mul_assoc}
@@ -17,8 +17,6 @@ use Rattle.rdf_trig.specs.declared.form.DocForm.{DocForm}
 use Rattle.rdf_trig.specs.declared.state.Frame.{Frame}
 use Rattle.rdf_trig.specs.declared.state.Mode.{Mode}
 use Rattle.rdf_trig.specs.declared.state.Mode.TheVariants as mode
-use Rattle.rdf_trig.specs.declared.state.Outer.{Outer}
-use Rattle.rdf_trig.specs.declared.state.Outer.TheVariants as outer
 use Rattle.rdf_trig.specs.declared.state.Held.{Held}
 use Rattle.rdf_trig.specs.declared.state.Held.TheVariants as held
 use Rattle.rdf_trig.specs.declared.state.State.{State}
@@ -26,8 +24,7 @@ use Rattle.rdf_tokens.specs.declared.token.Token.{Token as Given}
 use Rattle.rdf_tokens.specs.Good.{most_bytes}
 use Rattle.rdf_iri.specs.Limits.{Sizes, InRange}
 use Rattle.rdf_iri.specs.Scope.{most_bytes_held}
-use Rattle.rdf_trig.specs.States.{leaf, outer_of, text_in}
-use Rattle.rdf_trig.specs.Turns.{KeepsPrefix}
+use Rattle.rdf_trig.specs.States.{leaf}
 use Rattle.rdf_trig.specs.Steps.{Keeps}
 use Rattle.rdf_trig.specs.Owed.{iri_size, most_kept}
 use Rattle.rdf_trig.specs.Machine.{Topic}
@@ -78,16 +75,6 @@ held_fits n old new o x e t f h =
 -- a subject without a text fits
 pub empty_fits : (n : ℕ) (x : Topic) (k : SubjectKind) → x ≡ topic_at k [] → x.size ≤ n
 empty_fits n x k e = let z : x.size ≡ 0 = ap (λ (t : Topic). t.size) e in omega (arith, z)
-
--- outside of statements the text is no longer than before, and the prefix of a directive is what it was
-pub kept_less : {A : Type 0} (o : Outer) (old new : State A) → KeepsPrefix o old new → length (string_bytes new.text) ≤ length (string_bytes old.text)
-kept_less (outer.WantPrefixIri w) old new e = let l = ap length e in omega (arith, l)
-kept_less o old new e = let l = ap length e in omega (arith, l)
-
-pub kept_prefix : {A : Type 0} (o : Outer) (old new : State A) (n : ℕ) (g : Topic) → KeepsPrefix o old new →
-    outer_of o n (text_in new) g ≡ outer_of o n (text_in old) g
-kept_prefix (outer.WantPrefixIri w) old new n g e = ap (λ b. outer_of (outer.WantPrefixIri w) n (chars b) g) e
-kept_prefix o old new n g e = refl
 
 -- the label that a token spells fits where the token does
 pub label_fits : (n : ℕ) (x : Topic) (v w : List ℕ) → x ≡ topic_at kind.Label v → v ≡ drop 2 w → 4 * length w ≤ n → x.size ≤ n

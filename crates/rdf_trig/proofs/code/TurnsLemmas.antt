@@ -1,6 +1,6 @@
 -- What parts of the table mean, and what is known of each turn and of the states after it.
 use Rattle.std.proofs.Common.{◌≡◌, ℕ, Option, None, List, Result, Ok, Err, true, Some, refl, sym, ap, subst, ◌∙◌}
-use Rattle.std.specs.Prelude.{OnOk, IfErr, IfSome, MatchOption, is_some, String}
+use Rattle.std.specs.Prelude.{OnOk, IfErr, IfSome, MatchOption, is_some}
 use Rattle.rdf_iri.specs.Scope.{InForce}
 use Rattle.rdf_terms.specs.declared.kind.Kind.{Kind}
 use Rattle.rdf_terms.specs.Terms as term
@@ -12,14 +12,10 @@ use Rattle.rdf_trig.specs.declared.fault.StepFault.{StepFault}
 use Rattle.rdf_trig.specs.declared.slots.SubjectKind.{SubjectKind}
 use Rattle.rdf_trig.specs.declared.slots.SubjectKind.TheVariants as kind
 use Rattle.rdf_trig.specs.declared.state.Block.{Block}
-use Rattle.rdf_trig.specs.declared.state.Container.{Container}
-use Rattle.rdf_trig.specs.declared.state.Container.TheVariants as container
 use Rattle.rdf_trig.specs.declared.state.Level.{Level}
 use Rattle.rdf_trig.specs.declared.state.Level.TheVariants as level
 use Rattle.rdf_trig.specs.declared.state.State.{State}
 use Rattle.rdf_trig.specs.declared.state.Mode.{Mode}
-use Rattle.rdf_trig.specs.declared.state.Mode.TheVariants as mode
-use Rattle.rdf_trig.specs.declared.state.Outer.{Outer}
 use Rattle.rdf_trig.specs.declared.state.Held.TheVariants as held
 use Rattle.rdf_trig.specs.declared.turn.ObjectStart.{ObjectStart}
 use Rattle.rdf_trig.specs.declared.turn.ObjectStart.TheVariants as object
@@ -31,7 +27,7 @@ use Rattle.rdf_trig.specs.Quads.{Setting, cell_at, rest_quad}
 use Rattle.rdf_trig.specs.Machine as M
 use Rattle.rdf_trig.specs.Machine.{Reply, Go}
 use Rattle.rdf_trig.specs.States.{IsNamedIn, NameIn, is_go, name_at, use_in, scope_in, cells_quad, first_of, cell_of, after_semicolon_at, up_in, place_in, level_of, graph_of, graph_at, setting, setting_in, mode_at, moved}
-use Rattle.rdf_trig.specs.Turns.{Means, Decides, IsTurn, IsSuited, Suits, Leads, begun, turned}
+use Rattle.rdf_trig.specs.Turns.{Means, Decides, IsTurn, IsSuited, Suits, begun, turned}
 
 -- what a success brings leads on to what it is to bring
 pub on_ok : {T E : Type 0} (r : Result T E) (P Q : Type 0) → (P → Q) → OnOk r P → OnOk r Q
@@ -173,13 +169,3 @@ pub turned_named : {A : Type 0} (form : DocForm) (r : State A) (x : Option (List
     turned form (record r { name = x }) s u i t l ≡ turned form r s u i t l
 turned_named form r x s u i (turn.Lead o) l = refl
 turned_named form r x s u i t l = refl
-
--- what leads outside of statements, step by step
-pub leads_by : {A : Type 0} (o : Outer) (old mid new : State A) (z : Container) → new ≡ record mid { rest = None; held = held.Nothing; mode = mode.Outer o } →
-    mid ≡ record old { level = level.Top; frame = record old.frame { container = z }; text = mid.text } → z ≡ container.Cells 0 0 → Leads old o new
-leads_by {A} o old mid new z e f h =
-    e
-    ∙ ap (λ (y : State A). record y { rest = None; held = held.Nothing; mode = mode.Outer o }) f
-    ∙ ap (λ (y : Container). record old { level = level.Top; frame = record old.frame { container = y }; text = mid.text; rest = None; held = held.Nothing; mode = mode.Outer o }) h
-    ∙ ap (λ (t : String A). record old { level = level.Top; frame = record old.frame { container = container.Cells 0 0 }; text = t; rest = None; held = held.Nothing; mode = mode.Outer o })
-    (sym (ap (λ (y : State A). y.text) e))
