@@ -29,7 +29,7 @@ TOP = os.path.dirname(os.path.dirname(os.path.abspath(__file__)))
 PROGRAM = os.environ.get('RDFCONV', os.path.join(TOP, 'rdfconv'))
 PAGES = ['README.md', 'docs/REFUSALS.md', 'docs/GUIDE.md']
 # Programs that a line may use and a machine may lack.
-OTHERS = ['parallel', 'pv', 'rapper', 'sqlite3', 'perl', 'iconv']
+OTHERS = ['parallel', 'pv', 'rapper', 'sqlite3', 'perl', 'iconv', 'git']
 
 
 def read(path):

@@ -177,7 +177,8 @@ def is_front(out, whole):
 def calls(tries):
     """Each growth refused, and each read and write interrupted, in turn."""
     runs = [(['convert', '--format', 'nt'], SMALL), (['convert'], LARGE), (['check'], LARGE), (['show'], SMALL), (['convert'], SMALL + 'x'),
-            (['convert', '--base', 'http://a/', '--node-prefix', 'w', '--ascii'], '<a> <b> [] .')]
+            (['convert', '--base', 'http://a/', '--node-prefix', 'w', '--ascii'], '<a> <b> [] .'),
+            (['check', '--explain'], '<a:s> <a:p> [ <a:q> 1 .')]
     for words, text in runs:
         path = tries.file('of_calls', text)
         whole = tries.run([*words, path])

@@ -22,10 +22,10 @@ rdfconv zz|
 rdfconv help con|convert
 rdfconv show --|--format --base --token --depth --bindings --iri --explain --help
 rdfconv check --|--format --base --token --depth --bindings --iri --explain --prefixes --help
-rdfconv convert --|--format --base --token --depth --bindings --iri --explain --prefixes --ascii --node-prefix --graph --help
+rdfconv convert --|--format --base --token --depth --bindings --iri --explain --prefixes --ascii --node-prefix --graph --output --help
 rdfconv check --as|
 rdfconv convert --f|--format
-rdfconv convert --format |nt nq ttl trig
+rdfconv convert --format |nt nq ttl trig name
 rdfconv convert --format t|ttl trig
 rdfconv convert --format=t|ttl trig
 rdfconv convert --format lib|
