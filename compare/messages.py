@@ -60,6 +60,8 @@ def said(words, path):
     if not lines:
         return 'nothing, status %d' % ran.returncode
     line = lines[0].replace('file://' + path, 'D').replace(path, 'D')
+    # rapper shows bytes of memory that it has given back.
+    line = re.sub(r'(Illegal string escape \\. in ).*', r'\1..', line)
     return re.sub(r'^(?:serdi|rapper): |^error: |^Error - ', '', re.sub(r'^rapper: Error - (?:URI D:)?', 'D:', line))
 
 
