@@ -6,9 +6,10 @@ use Rattle.std.proofs.lemmas.List.{append-nil}
 use Rattle.rdf_terms.specs.Terms.{Quad}
 use Rattle.rdf_tokens.specs.Tokens.{is_line_end}
 use Rattle.rdf_tokens.specs.Good.{good, has_byte_order_mark, most_bytes}
+use Rattle.rdf_tokens.specs.Grammars.{Language}
 use Rattle.rdf_lines.specs.declared.form.LineForm.{LineForm}
 use Rattle.rdf_lines.specs.Documents.{in_lines}
-use Rattle.rdf_lines.specs.SplitLines.{put_byte, split_lines, AreGoodLines, Sifts, DocumentsAreTheirLines, GoodLinesAreRead}
+use Rattle.rdf_lines.specs.SplitLines.{put_byte, split_lines, IsGoodLine, AreGoodLines, Sifts, DocumentsAreTheirLines, GoodLinesAreRead}
 use Rattle.rdf_lines.proofs.LineEnds.{IsEnd, tested_end}
 use Rattle.rdf_lines.proofs.DocumentLines.{IsRun, split, joined, mark_same, accepted_run, run_accepted, nothing_run, nothing_unmarked, run_utf8}
 
@@ -181,3 +182,18 @@ good_read form limit iri bytes kept bad qs l s =
     let k = sifted form limit iri true (split_lines bytes) kept bad qs (split_ended bytes) s in
     let size : length (concat kept) ≤ most_bytes = let a = k.size in let b : length (concat (split_lines bytes)) ≡ length bytes = ap length (split_whole bytes) in omega (arith, a, b, l) in
     run_accepted form limit iri (concat kept) qs size (lines_joined form limit iri true kept qs k.ended k.good).0
+
+-- good lines are sifted so that none is bad
+all_kept : (l : Language) (first : Bool) (ls : List (List ℕ)) (qs : List Quad) → AreGoodLines l first ls qs → Sifts l first ls ls [] qs
+all_kept l first [] qs e = (refl, refl, e)
+all_kept l first (x ∷ xs) qs (ps, rs, h, n, s) =
+    inl (record { kept_after = xs; quads = ps; quads_after = rs; is_good = h; after = all_kept l false xs rs n; lines = refl; all = s })
+
+-- Lines that are a document in a row are all good.
+pub good_sifted : (form : LineForm) (limit iri : ℕ) (first : Bool) (bytes : List ℕ) (qs : List Quad) → IsGoodLine (in_lines form limit iri) first bytes qs →
+    Sifts (in_lines form limit iri) first (split_lines bytes) (split_lines bytes) [] qs
+good_sifted form limit iri first bytes qs g =
+    let whole = split_whole bytes in
+    all_kept (in_lines form limit iri) first (split_lines bytes) qs
+    (lines_split form limit iri first (split_lines bytes) qs (split_ended bytes) (subst (λ w. length w ≤ most_bytes) (sym whole) g.accepted.within.size)
+    (subst (λ w. IsRun form limit iri w qs) (sym whole) (accepted_run form limit iri bytes qs g.accepted)) (λ f. ap (λ w. has_byte_order_mark (good w)) whole ∙ g.marked f))

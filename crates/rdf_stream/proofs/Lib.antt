@@ -18,3 +18,6 @@ pub mod TokenOutLemmas
 pub mod ShowsLemmas
 pub mod LoadsLemmas
 mod WithoutCrsLemmas
+pub mod LineCuts
+pub mod SieveLemmas
+pub mod SkipLemmas

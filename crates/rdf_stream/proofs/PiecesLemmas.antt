@@ -9,7 +9,6 @@ use Rattle.rdf_tokens.specs.Tokens.{Place}
 use Rattle.rdf_tokens.specs.Good.{end_of}
 use Rattle.rdf_tokens.specs.Grammars.{IsTooLong}
 use Rattle.rdf_tokens.specs.Scans.{most_bytes}
-use Rattle.rdf_driver.specs.declared.summary.Summary.{Summary}
 use Rattle.rdf_stream.specs.declared.fault.StreamFault.{StreamFault}
 use Rattle.rdf_stream.specs.declared.fault.StreamFault.TheVariants as stream
 use Rattle.rdf_stream.specs.Devices.{HasGiven, Reading}
@@ -81,7 +80,7 @@ pub record IsReading {R : Type 0} (taken : R → List ℕ → R → Type 0) (sta
   pub live : left.has_failed ≡ false
   pub has_room : 0 < room
 
-module _ {R : Type 0} (taken : R → List ℕ → R → Type 0) (halts : StreamFault → R → List ℕ → Bool → R → Type 0) (ends : Summary → R → List ℕ → R → Type 0) (stays : R → R → Type 0)
+module _ {R T : Type 0} (taken : R → List ℕ → R → Type 0) (halts : StreamFault → R → List ℕ → Bool → R → Type 0) (ends : T → R → List ℕ → R → Type 0) (stays : R → R → Type 0)
     (known : Option (List ℕ)) (left left' : Reading) (first now : R) (room : ℕ) (i : IsReading taken stays known left first now room) where
   -- the source failed
   pub read_stops : Keeps left.remaining left'.remaining → left'.has_failed ≡ true → left'.has_ended ≡ false → ReadStops taken halts stream.Read known left' first now
@@ -121,13 +120,13 @@ module _ {R : Type 0} (taken : R → List ℕ → R → Type 0) (halts : StreamF
       whole_consumed = subst (Consumes known left'.remaining) (append-nil i.bytes) (Consumes-trans known left.remaining left'.remaining i.bytes [] i.consumed c)
 
       -- all was read
-      pub end_read : (r : Result Summary StreamFault) → IfOk r (λ s. ReadsEnd taken ends s now now') → IfOk r (λ s. ReadsAll ends known left' s first now')
+      pub end_read : (r : Result T StreamFault) → IfOk r (λ s. ReadsEnd taken ends s now now') → IfOk r (λ s. ReadsAll ends known left' s first now')
       end_read r h =
           if_ok r (λ s. ReadsEnd taken ends s now now') (λ s. ReadsAll ends known left' s first now')
           (λ s e. record { bytes = i.bytes; consumed = whole_consumed; reported = reported; at_end = ended; is_end = e first i.bytes i.is_taken }) h
 
       -- a fault at the end
-      pub end_stops : (r : Result Summary StreamFault) → IfErr r (λ f. HaltsOn taken halts f now (λ bytes. bytes) true now') → IfErr r (λ f. ReadStops taken halts f known left' first now')
+      pub end_stops : (r : Result T StreamFault) → IfErr r (λ f. HaltsOn taken halts f now (λ bytes. bytes) true now') → IfErr r (λ f. ReadStops taken halts f known left' first now')
       end_stops r h =
           if_err r (λ f. HaltsOn taken halts f now (λ bytes. bytes) true now') (λ f. ReadStops taken halts f known left' first now')
           (λ f e.

@@ -8,6 +8,7 @@ pub mod Graphs
 pub mod Languages
 pub mod WrittenForms
 pub mod Converts
+pub mod Skips
 pub mod Faults
 pub mod Checks
 pub mod Expected
@@ -22,5 +23,6 @@ pub mod Pieces
 pub mod Parts
 pub mod Passes
 pub mod Converting
+pub mod Sieves
 pub mod TokenWords
 pub mod Showing

@@ -1,7 +1,6 @@
 -- What reading a source by pieces does to what takes them. A run has taken some bytes from a first state on.
 use Rattle.std.specs.Prelude.{◌≡◌, ◌⊎◌, ◌≤◌, ℕ, Bool, true, List, ◌++◌, length, Option}
 use Rattle.std.specs.Io.KnownBytes.{Consumes, IsAtEnd}
-use Rattle.rdf_driver.specs.declared.summary.Summary.{Summary}
 use Rattle.rdf_stream.specs.declared.fault.StreamFault.{StreamFault}
 use Rattle.rdf_stream.specs.declared.fault.StreamFault.TheVariants.{Read}
 use Rattle.rdf_stream.specs.Devices.{HasBroken, HasGiven, Reading}
@@ -24,12 +23,12 @@ abbrev pub HaltsOn : {R : Type 0} → (R → List ℕ → R → Type 0) → (Str
 HaltsOn {R} taken halts f old so_far is_end new = (first : R) (bytes : List ℕ) → taken first bytes old → halts f first (so_far bytes) is_end new
 
 -- The bytes are all that there are, and were read, whatever was taken before.
-abbrev pub ReadsEnd : {R : Type 0} → (R → List ℕ → R → Type 0) → (Summary → R → List ℕ → R → Type 0) → Summary → R → R → Type 0
-ReadsEnd {R} taken ends summary old new = (first : R) (bytes : List ℕ) → taken first bytes old → ends summary first bytes new
+abbrev pub ReadsEnd : {R T : Type 0} → (R → List ℕ → R → Type 0) → (T → R → List ℕ → R → Type 0) → T → R → R → Type 0
+ReadsEnd {R} {T} taken ends summary old new = (first : R) (bytes : List ℕ) → taken first bytes old → ends summary first bytes new
 
 -- All bytes of the source were read.
-pub record ReadsAll {R : Type 0} (ends : Summary → R → List ℕ → R → Type 0)
-    (known : Option (List ℕ)) (left : Reading) (summary : Summary) (first now : R) : Type 0 where
+pub record ReadsAll {R T : Type 0} (ends : T → R → List ℕ → R → Type 0)
+    (known : Option (List ℕ)) (left : Reading) (summary : T) (first now : R) : Type 0 where
   pub bytes : List ℕ
   pub consumed : Consumes known left.remaining bytes
   pub reported : left.has_ended ≡ true

@@ -106,8 +106,8 @@ pub fn convert_expecting<A: Allocator + Copy, S: Source, D: Drain>(
     }
 }
 
-// Converts what the reader reads to the lines of its quads.
-fn convert_with<A: Allocator + Copy, G: Passes<A>, S: Source, D: Drain>(
+/// Converts what the reader reads to the lines of its quads.
+pub(crate) fn convert_with<A: Allocator + Copy, G: Passes<A>, S: Source, D: Drain>(
     alloc: A,
     reader: Reader<G, A>,
     output: OutputView<'_>,

@@ -1,0 +1,25 @@
+use Rattle.std.proofs.Common.{◌≡◌, false, ◌+◌, ◌∷◌, ◌<◌, ℕ, List, [], suc, length, take, drop, sym, ap, ◌∙◌, arith}
+use Rattle.std.specs.Prelude.{slice_index}
+use Rattle.std.proofs.lemmas.Bool.{false_from_ne_true}
+use Rattle.std.proofs.lemmas.List.{take_all, drop_all}
+use Rattle.rdf_tokens.specs.Tokens.{is_line_end}
+use Rattle.rdf_lines.specs.SplitLines.{split_lines}
+use Rattle.rdf_stream.proofs.LineCuts.{first_line, only_line}
+use Rattle.rdf_stream.proofs.sieve.line_len.Goals as goal
+
+pub returns-in-Some-clause-line : goal.returns-in-Some-clause-line
+returns-in-Some-clause-line c =
+    let w = c.args.bytes.now in
+    let at = c.in-Some.at in
+    let next : suc at ≡ at + 1 = omega arith in
+    first_line w at (λ k l. false_from_ne_true _ (c.in-Some.ensures.0.before k (omega arith) l)) c.in-Some.ensures.1 c.in-Some.ensures.0.high
+    ∙ ap (λ n. take n w ∷ split_lines (drop n w)) next
+
+pub returns-in-None-clause-line : goal.returns-in-None-clause-line
+returns-in-None-clause-line c = one c.args.bytes.now c.requires.some (λ k l. false_from_ne_true _ (c.in-None.ensures k (omega arith) l))
+  where
+    one : (w : List ℕ) → 0 < length w → ((k : ℕ) → k < length w → is_line_end (slice_index w k) ≡ false) → split_lines w ≡ take (length w) w ∷ split_lines (drop (length w) w)
+    one [] l f = absurd (omega (arith, l))
+    one (b ∷ w) l f =
+        only_line b w f
+        ∙ (ap (λ v. v ∷ []) (sym (take_all (length (b ∷ w)) (b ∷ w) (omega arith))) ∙ ap (λ v. take (length (b ∷ w)) (b ∷ w) ∷ split_lines v) (sym (drop_all (length (b ∷ w)) (b ∷ w) (omega arith))))

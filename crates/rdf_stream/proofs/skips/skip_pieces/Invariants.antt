@@ -1,0 +1,14 @@
+-- What left the source was taken.
+use Rattle.std.proofs.Common.{◌-◌, ◌^◌, length}
+use Rattle.rdf_stream.specs.Devices.{reading}
+use Rattle.rdf_stream.specs.Sieves.{IsSkipping}
+use Rattle.rdf_stream.proofs.PiecesLemmas.{IsReading}
+use Rattle.rdf_stream.proofs.skips.skip_pieces.Given as goal
+
+abbrev pub invariant-loop-count : goal.invariant-loop-count
+invariant-loop-count g l =
+    IsReading (IsSkipping g.D.Drain g.B.Drain) (λ a b. Unit) (g.S.Source.remaining l.initial.source) (reading g.S.Source.remaining g.S.Source.last g.S.Source.has_ended g.S.Source.has_failed l.source)
+    (l.initial.held, l.initial.drain, l.initial.bad) (l.held, l.drain, l.bad) (length l.piece)
+
+abbrev pub decreases-loop-count : goal.decreases-loop-count
+decreases-loop-count g l = 2 ^ 63 - l.held.bytes

@@ -1,0 +1,102 @@
+-- What a conversion of a line format that goes on after bad lines writes, and why it stops.
+use Rattle.std.specs.Prelude.{◌≡◌, ◌⊎◌, ◌-◌, ◌^◌, ℕ, Bool, true, false, List, ◌++◌, length, min, Option, IfSome}
+use Rattle.std.specs.Io.KnownBytes.{Appends, Consumes}
+use Rattle.std.specs.List.{AllByRecursion, concat}
+use Rattle.rdf_terms.specs.Terms.{Quad}
+use Rattle.rdf_terms.specs.declared.reason.Reason.TheVariants.{DocumentTooLong}
+use Rattle.rdf_tokens.specs.Grammars.{IsTooLong}
+use Rattle.rdf_tokens.specs.Scans.{place_of}
+use Rattle.rdf_tokens.specs.Tokens.{is_line_end}
+use Rattle.rdf_lines.specs.SplitLines.{Sifts, split_lines}
+use Rattle.rdf_lines.specs.declared.form.LineForm.{LineForm}
+use Rattle.rdf_stream.specs.declared.fault.StreamFault.{StreamFault}
+use Rattle.rdf_stream.specs.declared.fault.StreamFault.TheVariants.{Refused, Read, Write, Memory}
+use Rattle.rdf_stream.specs.declared.form.Form.{Form}
+use Rattle.rdf_stream.specs.declared.form.Kind.TheVariants.{Line}
+use Rattle.rdf_stream.specs.declared.skips.SkipSummary.{SkipSummary}
+use Rattle.rdf_stream.specs.Converts.{IsConverted, lines_of}
+use Rattle.rdf_stream.specs.Devices.{AppendsFront, HasBroken, HasGiven, Reading}
+use Rattle.rdf_stream.specs.Kinds.{kind_of}
+use Rattle.rdf_stream.specs.Languages.{Conversion, put_quads}
+
+-- a format that is read line by line
+abbrev pub HasLines : Form → Type 0
+HasLines form = (f : LineForm) × (kind_of form ≡ Line f)
+
+-- a number as it is counted in 64 bits, where a count stops at the highest number
+abbrev pub counted_up : ℕ → ℕ
+counted_up n = min n (2 ^ 64 - 1)
+
+-- These lines are the first of a document, or others, and were sifted: the lines of the quads of the good ones were written, and the bad ones
+-- were put aside as they stand.
+pub record PutsAside (job : Conversion) (first : Bool) (lines : List (List ℕ)) (old new old_bad new_bad : Option (List ℕ)) : Type 0 where
+  pub kept : List (List ℕ)
+  pub bad : List (List ℕ)
+  pub quads : List Quad
+  pub sifts : Sifts job.language first lines kept bad quads
+  pub written : Appends old new (lines_of job.form (put_quads job quads))
+  pub put_aside : Appends old_bad new_bad (concat bad)
+
+-- the same of a beginning of what is written for them, and of the bad ones
+pub record PutsFrontAside (job : Conversion) (first : Bool) (lines : List (List ℕ)) (old new old_bad new_bad : Option (List ℕ)) : Type 0 where
+  pub kept : List (List ℕ)
+  pub bad : List (List ℕ)
+  pub quads : List Quad
+  pub sifts : Sifts job.language first lines kept bad quads
+  pub written : AppendsFront old new (lines_of job.form (put_quads job quads))
+  pub put_aside : AppendsFront old_bad new_bad (concat bad)
+
+-- All lines of the bytes were sifted. What was written is what `convert` writes for the document that is left without the bad ones.
+pub record Skips (job : Conversion) (bytes : List ℕ) (old new old_bad new_bad : Option (List ℕ)) (s : SkipSummary) : Type 0 where
+  pub aside : PutsAside job true (split_lines bytes) old new old_bad new_bad
+  pub converted : IsConverted job (concat aside.kept) old new
+  -- the numbers of a summary have 64 bits, so they are these counts
+  pub quads : counted_up s.quads ≡ counted_up (length aside.quads)
+  pub bad_lines : counted_up s.bad_lines ≡ counted_up (length aside.bad)
+  pub size : s.bytes ≡ length bytes
+
+-- all bytes of a source were read so, where they are known
+abbrev pub SkipsAll : Conversion → Option (List ℕ) → Option (List ℕ) → Option (List ℕ) → Option (List ℕ) → Option (List ℕ) → SkipSummary → Type 0
+SkipsAll job known old new old_bad new_bad s = IfSome known (λ bytes. Skips job bytes old new old_bad new_bad s)
+
+-- The first of the lines of the bytes were sifted.
+pub record SkipsSome (job : Conversion) (bytes : List ℕ) (old new old_bad new_bad : Option (List ℕ)) : Type 0 where
+  pub ahead : List (List ℕ)
+  pub later : List (List ℕ)
+  pub lines : split_lines bytes ≡ ahead ++ later
+  pub aside : PutsAside job true ahead old new old_bad new_bad
+
+-- A beginning was written of what is written for the first of the lines, and a beginning of the bad ones of them put aside.
+pub record SkipsFront (job : Conversion) (bytes : List ℕ) (old new old_bad new_bad : Option (List ℕ)) : Type 0 where
+  pub ahead : List (List ℕ)
+  pub later : List (List ℕ)
+  pub lines : split_lines bytes ≡ ahead ++ later
+  pub aside : PutsFrontAside job true ahead old new old_bad new_bad
+
+-- All lines of the bytes that have ended were sifted; what comes after them is a part of a line, or nothing.
+pub record SkipsEnded (job : Conversion) (bytes : List ℕ) (old new old_bad new_bad : Option (List ℕ)) : Type 0 where
+  pub ahead : List (List ℕ)
+  pub part : List ℕ
+  pub whole : bytes ≡ concat ahead ++ part
+  pub lines : split_lines bytes ≡ ahead ++ split_lines part
+  pub no_end : AllByRecursion (λ b. is_line_end b ≡ false) part
+  pub aside : PutsAside job true ahead old new old_bad new_bad
+
+-- the source has given these bytes and failed then
+pub record SkipBreaksOff (job : Conversion) (known left old new old_bad new_bad : Option (List ℕ)) : Type 0 where
+  pub bytes : List ℕ
+  pub consumed : Consumes known left bytes
+  pub ended : SkipsEnded job bytes old new old_bad new_bad
+
+-- Why such a conversion stopped, by what the source gave, and what it had written and put aside: whole lines, but where a drain failed a beginning
+-- of them. Only a document of too many bytes is refused.
+abbrev pub SkipStops : StreamFault → Conversion → Option (List ℕ) → Reading → Option (List ℕ) → Option (List ℕ) → Option (List ℕ) → Option (List ℕ) → Bool → Bool → Type 0
+SkipStops (Refused f) job known left old new old_bad new_bad failed bad_failed =
+    (failed ≡ false) × (bad_failed ≡ false) × (f.reason ≡ DocumentTooLong)
+    × (given : HasGiven known left) × IsTooLong given.bytes (place_of f) × SkipsSome job given.bytes old new old_bad new_bad
+SkipStops Read job known left old new old_bad new_bad failed bad_failed =
+    (failed ≡ false) × (bad_failed ≡ false) × HasBroken left × SkipBreaksOff job known left.remaining old new old_bad new_bad
+SkipStops Write job known left old new old_bad new_bad failed bad_failed =
+    ((failed ≡ true) ⊎ (bad_failed ≡ true)) × (given : HasGiven known left) × SkipsFront job given.bytes old new old_bad new_bad
+SkipStops Memory job known left old new old_bad new_bad failed bad_failed =
+    (failed ≡ false) × (bad_failed ≡ false) × (given : HasGiven known left) × SkipsSome job given.bytes old new old_bad new_bad
