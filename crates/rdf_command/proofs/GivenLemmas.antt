@@ -14,7 +14,7 @@ use Rattle.rdf_stream.specs.declared.form.Form.{Form}
 use Rattle.rdf_command.specs.declared.task.Document.{Document}
 use Rattle.rdf_command.specs.declared.task.WordsFault.{WordsFault}
 use Rattle.rdf_command.specs.declared.task.WordsFault.TheVariants.{Usage, BadBase, BadNodePrefix, BadGraph, NoFormat, Memory}
-use Rattle.rdf_command.specs.Words.{AreDocuments, Entered, GivesNone, IsFormBy, IsFormless, NoBaseOf, NoFormOf, NoFormsOf, NoGraphOf, NoTaskBy, NoWordOf, fault_by, further_by, further_of, name_by, number_of}
+use Rattle.rdf_command.specs.Words.{AreDocuments, Entered, GivesNone, IsFormBy, IsFormless, NoBaseOf, NoFormOf, NoFormsOf, NoGraphOf, NoTaskBy, NoWordOf, base_by, fault_by, further_by, further_of, name_by, number_of}
 
 -- what is there is not none
 some≢none : {X : Type 0} (x : X) → None ≡ Some x → ⊥
@@ -87,7 +87,7 @@ refused_by a words p (NoFormat name) none is h = record { entered = p; taken = n
 refused_by a words p Memory none is h = tt
 
 -- a base that is none is the base of the matches
-pub no_task : (p : Entered) (most : ℕ) (base : Option Text) (fault : WordsFault) → base ≡ first_of (codes "base") p.1 → number_of (codes "iri") p.1 ≡ Some most → NoBaseOf most base fault → NoTaskBy p fault
+pub no_task : (p : Entered) (most : ℕ) (base : Option Text) (fault : WordsFault) → base ≡ base_by (first_of (codes "base") p.1) → number_of (codes "iri") p.1 ≡ Some most → NoBaseOf most base fault → NoTaskBy p fault
 no_task p most base (Usage e) is limit h = absurd h
 no_task p most base BadBase is limit h = (h.0, most, sym is ∙ h.1, limit, h.2)
 no_task p most base BadNodePrefix is limit h = absurd h

@@ -10,9 +10,10 @@ use Rattle.rdf_stream.specs.declared.form.Form.{Form}
 use Rattle.rdf_command.specs.declared.task.Document.{Document}
 use Rattle.rdf_command.specs.declared.task.Task.{Task}
 use Rattle.rdf_command.specs.Outputs.{Outputs}
-use Rattle.rdf_command.specs.Programs.{EndsBy, OneEnds, SeveralEnd}
+use Rattle.rdf_command.specs.Addresses.{Folders}
+use Rattle.rdf_command.specs.Programs.{EndsBy, OneEndsAt, SeveralEnd}
 use Rattle.rdf_command.specs.Runs.{FilesRead}
-use Rattle.rdf_command.specs.Several.{Either, EndsEach, EndsLeft, EndsOne, GivesNoBindings, Shared, has_failed_output, status_after}
+use Rattle.rdf_command.specs.Several.{Either, EndsAt, EndsEach, EndsLeft, GivesNoBindings, Shared, has_failed_output, status_after}
 
 module _ (has_document : Option (List ℕ) → Option (List ℕ) → Type 0) (is_shut : List ℕ → Type 0) (shared : Shared) (whole : List (Form × List ℕ))
     (out_old err_old : Option (List ℕ)) where
@@ -25,7 +26,7 @@ module _ (has_document : Option (List ℕ) → Option (List ℕ) → Type 0) (is
 
   -- a document more
   pub next_completes : (d : Form × List ℕ) (left : List (Form × List ℕ)) (so_far own : ℕ) (failed : Bool) (out_now err_now out_next err_next : Written)
-      → Completes (d ∷ left) false so_far out_now err_now → EndsOne has_document is_shut shared d own out_now.contents out_next err_now.contents err_next
+      → Completes (d ∷ left) false so_far out_now err_now → EndsAt shared.folder has_document is_shut shared d own out_now.contents out_next err_now.contents err_next
       → failed ≡ has_failed_output out_next err_next → Completes left failed (status_after so_far own failed) out_next err_next
   next_completes d left so_far own failed out_now err_now out_next err_next before one is status out err rest =
       before status out err (own, out_next, err_next, one, subst (λ b. Either b Stops Goes) is (go failed rest))
@@ -82,16 +83,16 @@ none_by_bytes Memory sizes known left bytes h r = (left, record { bytes = bytes;
 -- ---- a task
 
 -- A task with further documents ends as a check of several does.
-pub several_end : (more : List Document) (has_document : Option (List ℕ) → Option (List ℕ) → Type 0) (is_shut : List ℕ → Type 0) (says : Outputs) (t : Task) (status : ℕ)
+pub several_end : (more : List Document) (folders : Folders) (has_document : Option (List ℕ) → Option (List ℕ) → Type 0) (is_shut : List ℕ → Type 0) (says : Outputs) (t : Task) (status : ℕ)
     (out_old : Option (List ℕ)) (out : Written) (err_old : Option (List ℕ)) (err : Written) → (length more == 0) ≡ false
-    → SeveralEnd has_document is_shut t status out_old out err_old err → EndsBy more has_document is_shut says t None status out_old out err_old err
-several_end [] has_document is_shut says t status out_old out err_old err some ends = absurd (true≢false some)
-several_end (d ∷ ds) has_document is_shut says t status out_old out err_old err some ends = (refl, ends)
+    → SeveralEnd folders has_document is_shut t status out_old out err_old err → EndsBy more folders has_document is_shut says t None status out_old out err_old err
+several_end [] folders has_document is_shut says t status out_old out err_old err some ends = absurd (true≢false some)
+several_end (d ∷ ds) folders has_document is_shut says t status out_old out err_old err some ends = (refl, ends)
 
 -- one without ends as its run does
-pub one_ends : (more : List Document) (has_document : Option (List ℕ) → Option (List ℕ) → Type 0) (is_shut : List ℕ → Type 0) (says : Outputs) (t : Task) (files : Option FilesRead) (status : ℕ)
+pub one_ends : (more : List Document) (folders : Folders) (has_document : Option (List ℕ) → Option (List ℕ) → Type 0) (is_shut : List ℕ → Type 0) (says : Outputs) (t : Task) (files : Option FilesRead) (status : ℕ)
     (out_old : Option (List ℕ)) (out : Written) (err_old : Option (List ℕ)) (err : Written) → (length more == 0) ≡ true
-    → OneEnds has_document is_shut says t files status out_old out err_old err → EndsBy more has_document is_shut says t files status out_old out err_old err
-one_ends [] has_document is_shut says t files status out_old out err_old err none ends = ends
-one_ends (d ∷ ds) has_document is_shut says t files status out_old out err_old err none ends =
+    → OneEndsAt t.addressed folders has_document is_shut says t files status out_old out err_old err → EndsBy more folders has_document is_shut says t files status out_old out err_old err
+one_ends [] folders has_document is_shut says t files status out_old out err_old err none ends = ends
+one_ends (d ∷ ds) folders has_document is_shut says t files status out_old out err_old err none ends =
     let same : length (d ∷ ds) ≡ 0 = eqb-true _ _ none in absurd (omega arith)

@@ -1,5 +1,6 @@
 -- what has to be believed
 pub mod Words
+pub mod Addresses
 pub mod Statuses
 pub mod Runs
 pub mod Several

@@ -12,24 +12,29 @@ use Rattle.rdf_stream.specs.declared.fault.LoadFault.{LoadFault}
 use Rattle.rdf_stream.specs.declared.fault.LoadFault.TheVariants.{Memory}
 use Rattle.rdf_stream.specs.declared.fault.StreamFault.{StreamFault}
 use Rattle.rdf_stream.specs.declared.form.Form.{Form}
+use Rattle.rdf_terms.specs.declared.fault.TermFault.{TermFault}
+use Rattle.rdf_terms.specs.declared.fault.TermFault.TheVariants.{BadTerm}
 use Rattle.rdf_command.specs.declared.several.Plan.{Plan}
+use Rattle.rdf_command.specs.Addresses.{HasNoAddress, IsAddress}
 use Rattle.rdf_command.specs.Runs.{IsCheckedAs, StopsCheckAs}
-use Rattle.rdf_command.specs.Statuses.{ReportsExplainedOf, ReportsLoad, ReportsOf, load_status, status_of}
+use Rattle.rdf_command.specs.Statuses.{ReportsExplainedOf, ReportsLoad, ReportsNoAddressOf, ReportsOf, address_status, load_status, status_of}
 use Rattle.rdf_command.specs.Words.{file_by}
 
 -- the greater of two statuses
 abbrev pub worse : ℕ → ℕ → ℕ
 worse a b = cond (nat_lt a b) b a
 
--- what all documents are read with: the base, the limits, and the bytes of the file of bindings where there is one; and whether refusals are explained
+-- what all documents are read with: the base, the limits, and the bytes of the file of bindings where there is one; and whether refusals are explained.
+-- Where there is a folder each has its address as its base, in this folder.
 pub record Shared : Type 0 where
   pub base : Option (List ℕ)
+  pub folder : Option (List ℕ)
   pub limits : Sizes
   pub explain : Bool
   pub prefixes : Option (List ℕ)
 
 abbrev pub shared_of : Plan → Shared
-shared_of p = record { base = option_map (λ b. b.now) p.base; limits = p.limits; explain = p.explain; prefixes = option_map (λ b. b.now) p.prefixes }
+shared_of p = record { base = option_map (λ b. b.now) p.base; folder = option_map (λ b. b.now) p.folder; limits = p.limits; explain = p.explain; prefixes = option_map (λ b. b.now) p.prefixes }
 
 -- the bindings of these bytes, or none where there are no bytes
 abbrev pub BindsFrom : Sizes → Option (List ℕ) → List (List ℕ × List ℕ) → Type 0
@@ -105,6 +110,24 @@ EndsOne has_document is_shut shared d status out_old out err_old err =
     ReadsOne has_document shared d status out_old out err_old err
     ⊎ (OpensNone is_shut d status out_old out err_old err ⊎ BindsNone shared status out_old out err_old err)
 
+-- The document has no address to be its base, which the status and its line on the error output say, and it was not opened.
+pub record AddressesNone (folder : List ℕ) (shared : Shared) (d : Form × List ℕ) (status : ℕ) (out_old : Option (List ℕ)) (out : Written)
+    (err_old : Option (List ℕ)) (err : Written) : Type 0 where
+  pub fault : TermFault
+  pub why : fault ≡ BadTerm → HasNoAddress shared.limits.iri folder (file_by (Some d.1))
+  pub status_is : status ≡ address_status fault
+  pub unwritten : out.contents ≡ out_old
+  pub reported : ReportsNoAddressOf d.1 fault err_old err.contents err.has_failed
+
+-- By the folder: without one the document ended so with the base of all, and else with its address in the folder as its base; or it has none.
+abbrev pub EndsAt : Option (List ℕ) → (Option (List ℕ) → Option (List ℕ) → Type 0) → (List ℕ → Type 0) → Shared → Form × List ℕ → ℕ
+    → Option (List ℕ) → Written → Option (List ℕ) → Written → Type 0
+EndsAt None has_document is_shut shared d status out_old out err_old err = EndsOne has_document is_shut shared d status out_old out err_old err
+EndsAt (Some folder) has_document is_shut shared d status out_old out err_old err =
+    ((base : List ℕ) × IsAddress shared.limits.iri folder (file_by (Some d.1)) base
+    × EndsOne has_document is_shut (record shared { base = Some base }) d status out_old out err_old err)
+    ⊎ AddressesNone folder shared d status out_old out err_old err
+
 -- one of the outputs has failed
 abbrev pub has_failed_output : Written → Written → Bool
 has_failed_output out err = out.has_failed || err.has_failed
@@ -124,7 +147,7 @@ abbrev pub EndsLeft : (Option (List ℕ) → Option (List ℕ) → Type 0) → (
     → Written → Written → Written → Written → Type 0
 EndsLeft has_document is_shut shared [] so_far status out_now out err_now err = (status ≡ so_far) × (out ≡ out_now) × (err ≡ err_now)
 EndsLeft has_document is_shut shared (d ∷ ds) so_far status out_now out err_now err =
-    (own : ℕ) × (out_next : Written) × (err_next : Written) × EndsOne has_document is_shut shared d own out_now.contents out_next err_now.contents err_next
+    (own : ℕ) × (out_next : Written) × (err_next : Written) × EndsAt shared.folder has_document is_shut shared d own out_now.contents out_next err_now.contents err_next
     × Either (has_failed_output out_next err_next)
     ((status ≡ status_after so_far own true) × (out ≡ out_next) × (err ≡ err_next))
     (EndsLeft has_document is_shut shared ds (status_after so_far own false) status out_next out err_next err)

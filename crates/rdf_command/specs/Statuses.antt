@@ -13,6 +13,8 @@ use Rattle.rdf_stream.specs.declared.fault.LoadFault.TheVariants as load
 use Rattle.rdf_stream.specs.declared.fault.LoadFault.TheVariants.{Bad}
 use Rattle.rdf_stream.specs.declared.fault.StreamFault.{StreamFault}
 use Rattle.rdf_stream.specs.declared.fault.StreamFault.TheVariants.{Refused, Read, Write, Memory}
+use Rattle.rdf_terms.specs.declared.fault.TermFault.{TermFault}
+use Rattle.rdf_terms.specs.declared.fault.TermFault.TheVariants as term
 use Rattle.rdf_command.specs.declared.host.NoOutput.{NoOutput}
 use Rattle.rdf_command.specs.declared.host.NoOutput.TheVariants as output
 use Rattle.rdf_command.specs.declared.task.WordsFault.{WordsFault}
@@ -87,6 +89,21 @@ output_status output.Memory = 4
 abbrev pub output_text : NoOutput → List ℕ
 output_text output.NotOpen = codes "rdfconv: cannot open file\n"
 output_text output.Memory = report_text Memory
+
+-- the status where a document has no address to be its base
+abbrev pub address_status : TermFault → ℕ
+address_status term.BadTerm = 2
+address_status term.Memory = 4
+
+-- what is reported then
+abbrev pub address_text : TermFault → List ℕ
+address_text term.BadTerm = codes "rdfconv: bad base\n"
+address_text term.Memory = report_text Memory
+
+-- what is reported then of one of several documents, that of this name
+abbrev pub ReportsNoAddressOf : List ℕ → TermFault → Option (List ℕ) → Option (List ℕ) → Bool → Type 0
+ReportsNoAddressOf name term.BadTerm old new failed = ReportsOf name (codes "bad base\n") old new failed
+ReportsNoAddressOf name term.Memory old new failed = Reports (report_text Memory) old new failed
 
 -- help or the version was asked for
 abbrev pub IsAskedFor : ErrorKind → Type 0

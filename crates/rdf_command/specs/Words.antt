@@ -107,6 +107,20 @@ EndsIn name f = (front : Text) × (name ≡ front ++ codes "." ++ form_name f)
 abbrev pub IsFormBy : Text → Text → Form → Type 0
 IsFormBy word name f = (form_name f ≡ word) ⊎ ((word ≡ by_name) × EndsIn name f)
 
+-- the value of --base that asks for each document's own address
+abbrev pub by_address : Text
+by_address = codes "file"
+
+-- whether a value of --base asks for that
+abbrev pub is_addressed : Option Text → Bool
+is_addressed None = false
+is_addressed (Some text) = bytes_eq text by_address
+
+-- the base that a value of --base names, the same for all documents; none where it asks for their addresses
+abbrev pub base_by : Option Text → Option Text
+base_by None = None
+base_by (Some text) = cond (bytes_eq text by_address) None (Some text)
+
 -- the limits are the numbers of their options
 pub record HasSizes (rows : List Row) (sizes : Sizes) : Type 0 where
   pub token : number_of (codes "token") rows ≡ Some sizes.token
@@ -161,8 +175,9 @@ pub record HasForms (p : Entered) (t : Task) : Type 0 where
 pub record IsTaskBy (p : Entered) (t : Task) : Type 0 where
   pub action : action_name t.action ≡ p.0
   pub forms : HasForms p t
-  pub base : t.base ≡ option_map chars (first_of (codes "base") p.1)
-  pub good_base : IfSome (first_of (codes "base") p.1) (IsBase t.limits.iri)
+  pub base : t.base ≡ option_map chars (base_by (first_of (codes "base") p.1))
+  pub good_base : IfSome (base_by (first_of (codes "base") p.1)) (IsBase t.limits.iri)
+  pub addressed : t.addressed ≡ is_addressed (first_of (codes "base") p.1)
   pub limits : HasSizes p.1 t.limits
   pub explain : t.explain ≡ is_given (first_of (codes "explain") p.1)
   pub escapes : t.escapes ≡ escapes_by (is_given (first_of (codes "ascii") p.1))
@@ -176,7 +191,7 @@ pub record IsTaskBy (p : Entered) (t : Task) : Type 0 where
 
 -- the base among the matches is no IRI, or too long
 abbrev pub HasBadBase : Entered → Type 0
-HasBadBase p = (text : Text) × (most : ℕ) × (first_of (codes "base") p.1 ≡ Some text)
+HasBadBase p = (text : Text) × (most : ℕ) × (base_by (first_of (codes "base") p.1) ≡ Some text)
     × (number_of (codes "iri") p.1 ≡ Some most) × (IsBase most text → ⊥)
 
 -- the text of --node-prefix among the matches is no such word

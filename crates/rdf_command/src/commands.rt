@@ -11,7 +11,7 @@ ghost use Rattle.rdf_iri.specs.Texts.{byte_len};
 ghost use Rattle.rdf_options.specs.Options.{rdfconv};
 ghost use Rattle.rdf_command.specs.Programs.{IsTaskOf, IsNoTaskOf};
 ghost use Rattle.rdf_command.specs.Words.{GivesNone, GivesTask, HasLimits, HasNumber, HasSizes, IsBase, IsEntered, IsTaskBy, IsUsageOf, IsWord, number_of};
-ghost use Rattle.rdf_command.specs.Words.{NoBaseOf, NoFormOf, NoFormsOf, NoGraphOf, NoTaskBy, NoWordOf, escapes_by, file_by, is_given};
+ghost use Rattle.rdf_command.specs.Words.{NoBaseOf, NoFormOf, NoFormsOf, NoGraphOf, NoTaskBy, NoWordOf, base_by, escapes_by, file_by, is_addressed, is_given};
 ghost use Rattle.rdf_command.specs.Words.{AreDocuments, IsFormBy, IsFormatWord, format_names, further_by, further_of, name_by};
 
 use crate::names::{FORMATS, action_of, form_by};
@@ -78,7 +78,7 @@ fn task_of(alloc: Global, name: &str, found: &ArgMatches<'_>) -> Result<Task, Wo
     let word = found.get_str("format").unwrap();
     let form = form_in(alloc, word, name_by(found.get_str("file")))?;
     let limits = limits_of(found);
-    let base = base_of(alloc, found.get_str("base"), limits.iri())?;
+    let base = base_of(alloc, base_by(found.get_str("base")), limits.iri())?;
     let explain = is_given(found.get_str("explain"));
     let escapes = escapes_by(is_given(found.get_str("ascii")));
     let node_prefix = node_prefix_of(alloc, found.get_str("node-prefix"))?;
@@ -86,11 +86,13 @@ fn task_of(alloc: Global, name: &str, found: &ArgMatches<'_>) -> Result<Task, Wo
     let prefixes = owned(alloc, found.get_str("prefixes"))?;
     let file = owned(alloc, file_by(found.get_str("file")))?;
     let output = owned(alloc, file_by(found.get_str("output")))?;
+    let addressed = is_addressed(found.get_str("base"));
     let more = documents_of(alloc, word, further_by(name, found.get_strs("file")))?;
     Ok(Task {
         action,
         form,
         base,
+        addressed,
         limits,
         explain,
         escapes,
@@ -217,6 +219,32 @@ fn limit_of(found: &ArgMatches<'_>, id: &str) -> u64
     found.get_str(id).unwrap().parse::<u64>().unwrap()
 }
 
+// Whether the word for the base asks for each document's address.
+fn is_addressed(text: Option<&str>) -> bool
+    ensures { result ≡ is_addressed (option_map (λ s. s.now) text.entry) }
+{
+    match text {
+        Some(text) => text == "file",
+        None => false,
+    }
+}
+
+// The text of the base that a word names: none where there is no word, or where it asks for addresses.
+fn base_by(text: Option<&str>) -> Option<&str>
+    ensures { option_map (λ s. s.now) result ≡ base_by (option_map (λ s. s.now) text.entry) }
+{
+    match text {
+        Some(text) => base_named(text),
+        None => None,
+    }
+}
+
+fn base_named(text: &str) -> Option<&str>
+    ensures { option_map (λ s. s.now) result ≡ base_by (Some text.now) }
+{
+    if text == "file" { None } else { Some(text) }
+}
+
 fn base_of(alloc: Global, text: Option<&str>, most: u64) -> Result<Option<Iri>, WordsFault>
     ensures base { IfOk result (λ base. base ≡ option_map chars (option_map (λ s. s.now) text.entry)) }
     ensures good { OnOk result (IfSome (option_map (λ s. s.now) text.entry) (IsBase most)) }
@@ -242,8 +270,8 @@ fn base_within(alloc: Global, text: &str, most: u64) -> Result<Iri, WordsFault>
     }
 }
 
-// The IRI of a text of at most so many bytes.
-fn iri_within(alloc: Global, text: &str, most: u64) -> Result<Iri, TermFault>
+/// The IRI of a text of at most so many bytes.
+pub(crate) fn iri_within(alloc: Global, text: &str, most: u64) -> Result<Iri, TermFault>
     ensures iri { IfOk result (λ iri. iri ≡ chars text.now) }
     ensures good { OnOk result (IsBase most text.now) }
     ensures fits { IfOk result (λ iri. byte_len iri ≤ most) }

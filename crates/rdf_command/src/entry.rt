@@ -1,19 +1,23 @@
 // The whole program, over what it is started with.
 
-ghost use Rattle.std.specs.Prelude.{◌≡◌, ◌⊎◌, false, IfErr, IfOk, IfSome, List, map, OnErr, option_map, Some, string_bytes};
+ghost use Rattle.std.specs.Prelude.{◌≡◌, ◌⊎◌, ◌≤◌, false, IfErr, IfOk, IfSome, List, map, OnErr, option_map, Some, string_bytes};
 ghost use Rattle.clap.specs.Words.{Text};
 ghost use Rattle.rdf_iri.specs.Scope.{BaseFits};
-ghost use Rattle.rdf_command.specs.Programs.{HasPrefixes, HostEnds, IsGiven, IsNotGiven, OneEnds, TaskEnds, file_of, outputs_of, prefixes_of};
+ghost use Rattle.std.specs.Result.{IsErrOf};
+ghost use Rattle.rdf_iri.specs.Texts.{byte_len};
+ghost use Rattle.rdf_command.specs.Addresses.{IsAddress, LacksAddress};
+ghost use Rattle.rdf_command.specs.Programs.{HasPrefixes, HostEnds, IsGiven, IsNotGiven, OneEnds, OneEndsAt, TaskEnds, file_of, folders_of, outputs_of, prefixes_of};
 ghost use Rattle.rdf_command.specs.Runs.{AreFresh, AsWritten, files_told};
 
+use crate::addresses::address_within;
 use crate::commands::{command_of, not_utf8};
-use crate::host::{Host, NoWords, NotOpen};
+use crate::host::{Host, NoFolder, NoWords, NotOpen};
 use crate::output::run_over;
-use crate::reports::{refuse_file, refuse_words};
+use crate::reports::{refuse_address, refuse_file, refuse_words};
 use crate::runs::Files;
 use crate::several::check_each;
 use crate::task::{Task, WordsFault};
-use rdf_stream::Drain;
+use rdf_stream::{Drain, Iri, TermFault};
 use std::alloc::{AllocError, Global};
 
 /// How the program ended.
@@ -77,15 +81,73 @@ fn run_task<H: Host, O: Drain, E: Drain>(
     requires base { BaseFits task.base task.limits }
     requires out { O.has_failed out.old ≡ false }
     requires err { E.has_failed err.old ≡ false }
-    ensures { AsWritten (TaskEnds (H.has_document host.now) (H.is_shut host.now) (outputs_of H.Host host.now) task (option_map (files_told H.Input.Source) result.files) result.status)
+    ensures { AsWritten (TaskEnds (folders_of H.Host host.now) (H.has_document host.now) (H.is_shut host.now) (outputs_of H.Host host.now) task (option_map (files_told H.Input.Source) result.files) result.status)
         O.Drain E.Drain out.old out.new err.old err.new }
 {
     if task.more.as_slice().is_empty() {
-        return run_one(alloc, task, host, out, err);
+        return run_alone(alloc, task, host, out, err);
     }
     Ended {
         status: check_each(alloc, &task, host, out, err),
         files: None,
+    }
+}
+
+// Runs a task over its document, the only one, whose address is its base where that is asked for.
+fn run_alone<H: Host, O: Drain, E: Drain>(
+    alloc: Global,
+    task: Task,
+    host: &H,
+    out: &mut O,
+    err: &mut E,
+) -> Ended<H::Input>
+    requires base { BaseFits task.base task.limits }
+    requires out { O.has_failed out.old ≡ false }
+    requires err { E.has_failed err.old ≡ false }
+    ensures { AsWritten (OneEndsAt task.addressed (folders_of H.Host host.now) (H.has_document host.now) (H.is_shut host.now) (outputs_of H.Host host.now)
+        task (option_map (files_told H.Input.Source) result.files) result.status)
+        O.Drain E.Drain out.old out.new err.old err.new }
+{
+    if !task.addressed {
+        return run_one(alloc, task, host, out, err);
+    }
+    let mut task = task;
+    match address_at(alloc, host, task.file.as_deref(), task.limits.iri()) {
+        Ok(base) => {
+            task.base = Some(base);
+            run_one(alloc, task, host, out, err)
+        }
+        Err(fault) => Ended {
+            status: refuse_address(fault, err),
+            files: None,
+        },
+    }
+}
+
+// The address of the file of this name as a base of at most so many bytes.
+fn address_at<H: Host>(
+    alloc: Global,
+    host: &H,
+    file: Option<&str>,
+    most: u64,
+) -> Result<Iri, TermFault>
+    ensures address { IfOk result (λ base. (folder : Text) × H.has_folder host.now folder × IsAddress most folder (option_map (λ s. s.now) file.entry) base) }
+    ensures fits { IfOk result (λ base. byte_len base ≤ most) }
+    ensures none { IsErrOf result TermFault.BadTerm → LacksAddress (folders_of H.Host host.now) most (option_map (λ s. s.now) file.entry) }
+{
+    let folder = folder_of(alloc, host)?;
+    address_within(alloc, folder.as_str(), file, most)
+}
+
+/// The path of the folder that names start from.
+pub fn folder_of<H: Host>(alloc: Global, host: &H) -> Result<String, TermFault>
+    ensures folder { IfOk result (λ folder. H.has_folder host.now (string_bytes folder)) }
+    ensures untold { IsErrOf result TermFault.BadTerm → H.has_no_folder host.now }
+{
+    match host.folder(alloc) {
+        Ok(folder) => Ok(folder),
+        Err(NoFolder::NotTold) => Err(TermFault::BadTerm),
+        Err(NoFolder::Memory) => Err(TermFault::Memory),
     }
 }
 

@@ -3,6 +3,7 @@
 ghost use Rattle.std.specs.Prelude.{◌≡◌, false, true, IfErr, IfOk, List, map, None, OnErr, OnOk, Option, option_map, Some, string_bytes, ℕ, ⊤};
 ghost use Rattle.clap.specs.Words.{Text};
 ghost use Rattle.rdf_command.specs.Outputs.{IsEmpty};
+ghost use Rattle.rdf_command.specs.declared.host.NoFolder.{NoFolder};
 ghost use Rattle.rdf_command.specs.declared.host.NoOutput.{NoOutput};
 ghost use Rattle.rdf_command.specs.declared.host.NoWords.{NoWords};
 
@@ -32,6 +33,23 @@ impl From<AllocError> for NoWords {
 /// A file did not open.
 #[derive(Clone, Copy, Debug, PartialEq, Eq)]
 pub struct NotOpen;
+
+/// Why there is no folder that names start from.
+#[derive(Clone, Copy, Debug, PartialEq, Eq)]
+pub enum NoFolder {
+    /// It can't be told, or its path is no UTF-8.
+    NotTold,
+    /// A growth of memory was refused.
+    Memory,
+}
+
+impl From<AllocError> for NoFolder {
+    ghost from_gives = { λ _ why. why ≡ NoFolder.Memory };
+
+    fn from(_: AllocError) -> NoFolder {
+        NoFolder::Memory
+    }
+}
 
 /// Why there is no output.
 #[derive(Clone, Copy, Debug, PartialEq, Eq)]
@@ -65,6 +83,10 @@ pub trait Host {
     ghost has_document: { Self → Option Text → Option (List ℕ) → Type 0 };
     /// The file of this name does not open.
     ghost is_shut: { Self → Text → Type 0 };
+    /// This is the path of the folder that names of files start from.
+    ghost has_folder: { Self → Text → Type 0 };
+    /// That path can't be told.
+    ghost has_no_folder: { Self → Type 0 };
     /// The file of this name has these bytes now, where they are known.
     ghost has_output: { Self → Text → Option (List ℕ) → Type 0 };
     /// The file of this name is what it was before an output was created for it, if it was there.
@@ -83,6 +105,11 @@ pub trait Host {
         ensures more { IfOk result (λ input. Self.Input.has_ended input ≡ false) }
         ensures live { IfOk result (λ input. Self.Input.has_failed input ≡ false) }
         ensures shut { OnErr result ((path : Text) × (option_map (λ s. s.now) file.entry ≡ Some path) × is_shut self.now path) };
+
+    /// The path of the folder that names of files start from.
+    fn folder(&self, alloc: Global) -> Result<String, NoFolder>
+        ensures folder { IfOk result (λ folder. has_folder self.now (string_bytes folder)) }
+        ensures untold { IfErr result (λ why. why ≡ NoFolder.NotTold → has_no_folder self.now) };
 
     /// Creates an empty output that can become the file of this name.
     fn create(&self, alloc: Global, name: &str) -> Result<Self::Output, NoOutput>
@@ -210,6 +237,10 @@ impl<'a> Host for Process<'a> {
 
     ghost is_shut = { λ _ _. ⊤ };
 
+    ghost has_folder = { λ _ _. ⊤ };
+
+    ghost has_no_folder = { λ _. ⊤ };
+
     ghost has_output = { λ _ _ _. ⊤ };
 
     ghost is_left = { λ _ _. ⊤ };
@@ -233,6 +264,15 @@ impl<'a> Host for Process<'a> {
             },
         };
         Ok(In::new(opened))
+    }
+
+    fn folder(&self, _alloc: Global) -> Result<String, NoFolder> {
+        match env::current_dir(self.rt) {
+            Ok(path) if path.is_absolute() => Ok(path.into_string()),
+            Ok(_) => Err(NoFolder::NotTold),
+            Err(error) if matches!(error.kind(), ErrorKind::OutOfMemory) => Err(NoFolder::Memory),
+            Err(_) => Err(NoFolder::NotTold),
+        }
     }
 
     // A file that is there already beside it is not overwritten: it may be that of another run.

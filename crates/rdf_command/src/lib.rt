@@ -1,6 +1,7 @@
 //! What the words of the command line of `rdfconv` ask for, and its run, over whatever gives these words, the documents and the outputs.
 #![tactic(auto)]
 
+mod addresses;
 mod commands;
 mod entry;
 mod host;
@@ -13,7 +14,7 @@ mod task;
 
 pub use commands::command_of;
 pub use entry::{Ended, start};
-pub use host::{Destination, Device, Host, NoOutput, NoWords, NotOpen, Opened, Process};
+pub use host::{Destination, Device, Host, NoFolder, NoOutput, NoWords, NotOpen, Opened, Process};
 pub use reports::refuse_words;
 pub use runs::{Files, run};
 pub use task::{Action, Document, Task, WordsFault};

@@ -3,7 +3,7 @@
 ghost use Rattle.std.specs.Prelude.{◌≡◌, ◌⊎◌, ◌++◌, false, codes, decimal, IfOk, OnErr, OnOk};
 ghost use Rattle.rdf_stream.specs.Messages.{report_text};
 ghost use Rattle.rdf_stream.specs.declared.fault.StreamFault.{StreamFault};
-ghost use Rattle.rdf_command.specs.Statuses.{GoesTo, RefusesWords, Reports, ReportsExplained, ReportsExplainedOf, ReportsLoad, ReportsOf, explanation, load_status};
+ghost use Rattle.rdf_command.specs.Statuses.{GoesTo, RefusesWords, Reports, ReportsExplained, ReportsExplainedOf, ReportsLoad, ReportsNoAddressOf, ReportsOf, address_status, address_text, explanation, load_status};
 ghost use Rattle.rdf_command.specs.Statuses.{no_format_text, output_status, output_text, prefixes_text, status_of};
 
 use crate::host::NoOutput;
@@ -11,8 +11,8 @@ use crate::task::WordsFault;
 use clap::Error;
 use itoa::Buffer;
 use rdf_stream::{
-    Drain, Failed, Kinds, LoadFault, StreamFault, explain as explain_line, out_of_memory, put_all,
-    read_failed, report, write_failed,
+    Drain, Failed, Kinds, LoadFault, StreamFault, TermFault, explain as explain_line,
+    out_of_memory, put_all, read_failed, report, write_failed,
 };
 use std::alloc::{AllocError, Global};
 
@@ -172,6 +172,36 @@ pub fn refuse_file<E: Drain>(err: &mut E) -> u8
 {
     tell("rdfconv: cannot open file\n", err);
     3
+}
+
+/// The text and the status of a document that has no address to be its base.
+pub fn refuse_address<E: Drain>(fault: TermFault, err: &mut E) -> u8
+    requires { E.has_failed err.old ≡ false }
+    ensures status { result ≡ address_status fault }
+    ensures reported { Reports (address_text fault) (E.contents err.old) (E.contents err.new) (E.has_failed err.new) }
+{
+    match fault {
+        TermFault::BadTerm => {
+            tell("rdfconv: bad base\n", err);
+            2
+        }
+        TermFault::Memory => tell_memory(err),
+    }
+}
+
+/// The line and the status of one of several documents, that of this name, which has no address to be its base.
+pub fn refuse_address_of<E: Drain>(alloc: Global, name: &str, fault: TermFault, err: &mut E) -> u8
+    requires { E.has_failed err.old ≡ false }
+    ensures status { result ≡ address_status fault }
+    ensures reported { ReportsNoAddressOf name.now fault (E.contents err.old) (E.contents err.new) (E.has_failed err.new) }
+{
+    match fault {
+        TermFault::BadTerm => {
+            tell_of(alloc, name, b"bad base\n", err);
+            2
+        }
+        TermFault::Memory => tell_memory(err),
+    }
 }
 
 /// The text and the status of an output that was not created.

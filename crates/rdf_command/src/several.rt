@@ -1,17 +1,22 @@
 // A check of several documents, one after the other.
 
-ghost use Rattle.std.specs.Prelude.{◌≡◌, ◌⊎◌, false, IfErr, IfOk, IfSome, List, None, Option, Some, map, option_map, string_bytes, ℕ};
+ghost use Rattle.std.specs.Prelude.{◌≡◌, ◌⊎◌, false, true, IfErr, IfOk, IfSome, List, None, OnErr, Option, Some, map, option_map, string_bytes, ℕ};
 ghost use Rattle.rdf_iri.specs.Scope.{BaseFits};
 ghost use Rattle.rdf_stream.specs.Devices.{Reading};
 ghost use Rattle.rdf_stream.specs.Told.{told, written};
-ghost use Rattle.rdf_command.specs.Programs.{SeveralEnd, documents_of};
+ghost use Rattle.std.specs.Result.{IsErrOf};
+ghost use Rattle.rdf_command.specs.Addresses.{IsFolderFor};
+ghost use Rattle.rdf_command.specs.Programs.{SeveralEnd, documents_of, folders_of};
 ghost use Rattle.rdf_command.specs.Runs.{AsWritten};
-ghost use Rattle.rdf_command.specs.Several.{AcceptsOne, BindsNotFrom, EndsEach, EndsOne, GivesBindings, GivesNoBindings, IsCheckJob, StopsOne, has_failed_output, shared_of, status_after, worse};
+ghost use Rattle.rdf_command.specs.Several.{AcceptsOne, BindsNotFrom, EndsAt, EndsEach, EndsOne, GivesBindings, GivesNoBindings, IsCheckJob, StopsOne, has_failed_output, shared_of, status_after, worse};
 
+use crate::addresses::address_within;
 use crate::commands::{name_by, named};
-use crate::entry::open_prefixes;
+use crate::entry::{folder_of, open_prefixes};
 use crate::host::{Host, NotOpen};
-use crate::reports::{refuse_file, refuse_prefixes, status, tell_of, tell_stop_of};
+use crate::reports::{
+    refuse_address, refuse_address_of, refuse_file, refuse_prefixes, status, tell_of, tell_stop_of,
+};
 use crate::runs::check_to;
 use crate::task::Task;
 use rdf_stream::{
@@ -26,12 +31,31 @@ pub struct Plan<'a> {
     pub alloc: Global,
     /// What relative references are resolved against.
     pub base: Option<&'a Iri>,
+    /// The folder in which each document's address stands in place of the base, or None where that is for all.
+    pub folder: Option<&'a str>,
     /// How large the parts of a document may be.
     pub limits: Limits,
     /// Whether a refusal is explained, by a line more.
     pub explain: bool,
     /// The bytes of the file of the prefixes that are bound before each document, or None where none are.
     pub prefixes: Option<&'a [u8]>,
+}
+
+impl<'a> Plan<'a> {
+    /// The plan with this base.
+    fn with_base<'b>(&'b self, base: &'b Iri) -> Plan<'b>
+        ensures shared { shared_of result ≡ record (shared_of self.now) { base = Some base.now } }
+        ensures limits { result.limits ≡ self.now.limits }
+    {
+        Plan {
+            alloc: self.alloc,
+            base: Some(base),
+            folder: self.folder,
+            limits: self.limits,
+            explain: self.explain,
+            prefixes: self.prefixes,
+        }
+    }
 }
 
 /// The status after a document, and whether an output had failed by then, so that no more are read.
@@ -52,9 +76,13 @@ pub fn check_each<H: Host, O: Drain, E: Drain>(
     requires base { BaseFits task.now.base task.now.limits }
     requires out { O.has_failed out.old ≡ false }
     requires err { E.has_failed err.old ≡ false }
-    ensures { AsWritten (SeveralEnd (H.has_document host.now) (H.is_shut host.now) task.now result)
+    ensures { AsWritten (SeveralEnd (folders_of H.Host host.now) (H.has_document host.now) (H.is_shut host.now) task.now result)
         O.Drain E.Drain out.old out.new err.old err.new }
 {
+    let folder = match folder_for(alloc, host, task.addressed) {
+        Ok(folder) => folder,
+        Err(fault) => return refuse_address(fault, err),
+    };
     let source = match open_prefixes(host, task) {
         Ok(source) => source,
         Err(NotOpen) => return refuse_file(err),
@@ -66,11 +94,29 @@ pub fn check_each<H: Host, O: Drain, E: Drain>(
     let plan = Plan {
         alloc,
         base: task.base.as_ref(),
+        folder: folder.as_deref(),
         limits: task.limits,
         explain: task.explain,
         prefixes: prefixes.as_deref(),
     };
     check_with(&plan, task, host, out, err)
+}
+
+// The path of the folder that names start from, where addresses are asked for.
+fn folder_for<H: Host>(
+    alloc: Global,
+    host: &H,
+    addressed: bool,
+) -> Result<Option<String>, TermFault>
+    ensures found { IfOk result (λ folder. IsFolderFor (folders_of H.Host host.now) addressed (option_map string_bytes folder)) }
+    ensures asked { OnErr result (addressed ≡ true) }
+    ensures untold { IsErrOf result TermFault.BadTerm → H.has_no_folder host.now }
+{
+    if addressed {
+        Ok(Some(folder_of(alloc, host)?))
+    } else {
+        Ok(None)
+    }
 }
 
 // The bytes of the file of bindings, once they are seen to be bindings.
@@ -150,7 +196,7 @@ fn check_next<H: Host, O: Drain, E: Drain>(
     requires base { BaseFits (shared_of plan.now).base plan.now.limits }
     requires out { O.has_failed out.old ≡ false }
     requires err { E.has_failed err.old ≡ false }
-    ensures ends { AsWritten (EndsOne (H.has_document host.now) (H.is_shut host.now) (shared_of plan.now) (document.entry.0, document.entry.1.now) result.status)
+    ensures ends { AsWritten (EndsAt (shared_of plan.now).folder (H.has_document host.now) (H.is_shut host.now) (shared_of plan.now) (document.entry.0, document.entry.1.now) result.status)
         O.Drain E.Drain out.old out.new err.old err.new }
     ensures failed { result.has_failed ≡ has_failed_output (written O.Drain out.new) (written E.Drain err.new) }
 {
@@ -161,8 +207,49 @@ fn check_next<H: Host, O: Drain, E: Drain>(
     }
 }
 
-// Checks a document, and answers its status.
+// Checks a document, with its address as its base where that is asked for, and answers its status.
 fn check_one<H: Host, O: Drain, E: Drain>(
+    plan: &Plan<'_>,
+    host: &H,
+    document: (Form, &str),
+    out: &mut O,
+    err: &mut E,
+) -> u8
+    requires base { BaseFits (shared_of plan.now).base plan.now.limits }
+    requires out { O.has_failed out.old ≡ false }
+    requires err { E.has_failed err.old ≡ false }
+    ensures { AsWritten (EndsAt (shared_of plan.now).folder (H.has_document host.now) (H.is_shut host.now) (shared_of plan.now) (document.entry.0, document.entry.1.now) result)
+        O.Drain E.Drain out.old out.new err.old err.new }
+{
+    match plan.folder {
+        Some(folder) => check_at(plan, folder, host, document, out, err),
+        None => check_based(plan, host, document, out, err),
+    }
+}
+
+// Checks a document with its address in this folder as its base, and answers its status.
+fn check_at<H: Host, O: Drain, E: Drain>(
+    plan: &Plan<'_>,
+    folder: &str,
+    host: &H,
+    document: (Form, &str),
+    out: &mut O,
+    err: &mut E,
+) -> u8
+    requires out { O.has_failed out.old ≡ false }
+    requires err { E.has_failed err.old ≡ false }
+    ensures { AsWritten (EndsAt (Some folder.now) (H.has_document host.now) (H.is_shut host.now) (shared_of plan.now) (document.entry.0, document.entry.1.now) result)
+        O.Drain E.Drain out.old out.new err.old err.new }
+{
+    let (_, name) = document;
+    match address_within(plan.alloc, folder, named(name), plan.limits.iri()) {
+        Ok(base) => check_based(&plan.with_base(&base), host, document, out, err),
+        Err(fault) => refuse_address_of(plan.alloc, name, fault, err),
+    }
+}
+
+// Checks a document with the base of the plan, and answers its status.
+fn check_based<H: Host, O: Drain, E: Drain>(
     plan: &Plan<'_>,
     host: &H,
     document: (Form, &str),

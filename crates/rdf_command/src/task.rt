@@ -39,6 +39,8 @@ pub struct Task {
     pub form: Form,
     /// What relative references are resolved against.
     pub base: Option<Iri>,
+    /// Whether each document's own address stands in place of the base, which is None then.
+    pub addressed: bool,
     /// How large the parts of the document may be.
     pub limits: Limits,
     /// Whether a refusal is explained, by a line more.

@@ -29,7 +29,8 @@ Options of a command, which reads FILE, or standard input where there is none or
   --format FORMAT  nt (N-Triples), nq (N-Quads), ttl (Turtle), trig (TriG) [default: trig], or
                    name: the one that the file's name ends in, as `.nt`; it is not guessed unasked
   --base IRI       absolute IRI that relative references start from, at most --iri bytes;
-                   without one they are refused; line formats have none
+                   without one they are refused; line formats have none; `file` is the
+                   address of FILE, as `file:///home/a/x%20y.ttl`; standard input has none
   --token N        characters of one token, 1 to 268435456 [default: 16777216]
   --depth N        brackets and parentheses open at one time, 0 to 1048576 [default: 1024]
   --bindings N     prefixes bound at one time, 0 to 16777216 [default: 65536]
@@ -243,7 +244,7 @@ fn base_option<'a>(alloc: Global) -> Arg<'a>
         .action(ArgAction::Set)
         .value_name("IRI")
         .help(
-            "Absolute IRI that relative references start from, at most --iri bytes; line formats have none",
+            "Absolute IRI that relative references start from, at most --iri bytes; `file`: the address of FILE; line formats have none",
         )
 }
 

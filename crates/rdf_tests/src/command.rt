@@ -52,6 +52,7 @@ fn task(alloc: Global, action: Action, form: Form, limits: Limits) -> Task
         action,
         form,
         base: None,
+        addressed: false,
         limits,
         explain: false,
         escapes: Escapes::Plain,

@@ -3,7 +3,7 @@
 ghost use Rattle.std.specs.Prelude.{⊤};
 
 use crate::stream::devices::{SlowDrain, slow_drain};
-use rdf_command::{Host, NoOutput, NoWords, NotOpen};
+use rdf_command::{Host, NoFolder, NoOutput, NoWords, NotOpen};
 use rdf_stream::{Failed, In};
 use std::alloc::Global;
 use std::cell::{Cell, OnceCell};
@@ -63,6 +63,10 @@ impl<'a> Host for InMemory<'a> {
 
     ghost is_shut = { λ _ _. ⊤ };
 
+    ghost has_folder = { λ _ _. ⊤ };
+
+    ghost has_no_folder = { λ _. ⊤ };
+
     ghost has_output = { λ _ _ _. ⊤ };
 
     ghost is_left = { λ _ _. ⊤ };
@@ -89,6 +93,10 @@ impl<'a> Host for InMemory<'a> {
             }
         }
         Err(NotOpen)
+    }
+
+    fn folder(&self, alloc: Global) -> Result<String, NoFolder> {
+        Ok(String::from_str(alloc, "/my home")?)
     }
 
     fn create(&self, alloc: Global, _name: &str) -> Result<SlowDrain, NoOutput> {

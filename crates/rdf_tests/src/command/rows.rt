@@ -273,7 +273,7 @@ pub(crate) struct Started {
 
 pub(crate) const INPUT: &str = "<a:> <b:> _:input .";
 
-pub(crate) static FILES: [(&str, &str); 7] = [
+pub(crate) static FILES: [(&str, &str); 9] = [
     ("data.nt", "<a:> <b:> \"file\" ."),
     ("data.ttl", "ex:s ex:p ex:o ."),
     ("open.ttl", "<a:> <b:> [ <c:> 1\n."),
@@ -282,11 +282,13 @@ pub(crate) static FILES: [(&str, &str); 7] = [
         "<a:> <b:> [] . <a:g> { <a:> <b:> _:x } [ <b:> 1 ] .",
     ),
     ("accents.ttl", "<a:é> <b:> \"😀\" , _:é ."),
+    ("é~+.ttl", "<> <p> <#o> ."),
+    ("/a/../é.ttl", "<> <p> <#o> ."),
     ("ex.txt", "ex: http://e/\n"),
     ("bad.txt", "ex: http://e/\nex: e\n"),
 ];
 
-pub(crate) static STARTED: [Started; 31] = [
+pub(crate) static STARTED: [Started; 35] = [
     Started {
         line: "rdfconv show x x x x x x x x x x x x x x x x x x x x x x x x x x x x x x x x x x x x x x x x x x x x x x x x",
         status: 2,
@@ -442,6 +444,30 @@ pub(crate) static STARTED: [Started; 31] = [
         status: 3,
         written: "",
         reported: "rdfconv: cannot open file\n",
+    },
+    Started {
+        line: "rdfconv convert --base file é~+.ttl",
+        status: 0,
+        written: "<file:///my%20home/%C3%A9~%2B.ttl> <file:///my%20home/p> <file:///my%20home/%C3%A9~%2B.ttl#o> .\n",
+        reported: "",
+    },
+    Started {
+        line: "rdfconv convert --base=file /a/../é.ttl",
+        status: 0,
+        written: "<file:///a/../%C3%A9.ttl> <file:///p> <file:///a/../%C3%A9.ttl#o> .\n",
+        reported: "",
+    },
+    Started {
+        line: "rdfconv convert --base file",
+        status: 2,
+        written: "",
+        reported: "rdfconv: bad base\n",
+    },
+    Started {
+        line: "rdfconv check --base file --iri 31 /a/../é.ttl - é~+.ttl data.nt",
+        status: 2,
+        written: "/a/../é.ttl: accepted, 1 quads, 13 bytes\ndata.nt: accepted, 1 quads, 18 bytes\n",
+        reported: "-: bad base\né~+.ttl: bad base\n",
     },
     Started {
         line: "rdfconv convert --format name data.nt",

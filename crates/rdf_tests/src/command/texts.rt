@@ -21,7 +21,8 @@ Options of a command, which reads FILE, or standard input where there is none or
   --format FORMAT  nt (N-Triples), nq (N-Quads), ttl (Turtle), trig (TriG) [default: trig], or
                    name: the one that the file's name ends in, as `.nt`; it is not guessed unasked
   --base IRI       absolute IRI that relative references start from, at most --iri bytes;
-                   without one they are refused; line formats have none
+                   without one they are refused; line formats have none; `file` is the
+                   address of FILE, as `file:///home/a/x%20y.ttl`; standard input has none
   --token N        characters of one token, 1 to 268435456 [default: 16777216]
   --depth N        brackets and parentheses open at one time, 0 to 1048576 [default: 1024]
   --bindings N     prefixes bound at one time, 0 to 16777216 [default: 65536]
@@ -95,7 +96,7 @@ Arguments:
 
 Options:
       --format <FORMAT>      Format: nt N-Triples, nq N-Quads, ttl Turtle, trig TriG, name the one that the file's name ends in [default: trig] [possible values: nt, nq, ttl, trig, name]
-      --base <IRI>           Absolute IRI that relative references start from, at most --iri bytes; line formats have none
+      --base <IRI>           Absolute IRI that relative references start from, at most --iri bytes; `file`: the address of FILE; line formats have none
       --token <N>            Characters of one token, 1 to 268435456 [default: 16777216]
       --depth <N>            Brackets and parentheses open at one time, 0 to 1048576 [default: 1024]
       --bindings <N>         Prefixes bound at one time, 0 to 16777216 [default: 65536]
@@ -112,7 +113,7 @@ Arguments:
 
 Options:
       --format <FORMAT>      Format: nt N-Triples, nq N-Quads, ttl Turtle, trig TriG, name the one that the file's name ends in [default: trig] [possible values: nt, nq, ttl, trig, name]
-      --base <IRI>           Absolute IRI that relative references start from, at most --iri bytes; line formats have none
+      --base <IRI>           Absolute IRI that relative references start from, at most --iri bytes; `file`: the address of FILE; line formats have none
       --token <N>            Characters of one token, 1 to 268435456 [default: 16777216]
       --depth <N>            Brackets and parentheses open at one time, 0 to 1048576 [default: 1024]
       --bindings <N>         Prefixes bound at one time, 0 to 16777216 [default: 65536]
@@ -133,7 +134,7 @@ Arguments:
 
 Options:
       --format <FORMAT>  Format: nt N-Triples, nq N-Quads, ttl Turtle, trig TriG, name the one that the file's name ends in [default: trig] [possible values: nt, nq, ttl, trig, name]
-      --base <IRI>       Absolute IRI that relative references start from, at most --iri bytes; line formats have none
+      --base <IRI>       Absolute IRI that relative references start from, at most --iri bytes; `file`: the address of FILE; line formats have none
       --token <N>        Characters of one token, 1 to 268435456 [default: 16777216]
       --depth <N>        Brackets and parentheses open at one time, 0 to 1048576 [default: 1024]
       --bindings <N>     Prefixes bound at one time, 0 to 16777216 [default: 65536]

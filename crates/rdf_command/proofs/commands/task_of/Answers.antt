@@ -3,7 +3,7 @@ use Rattle.std.proofs.Common.{◌∙◌, ap, sym, subst, codes, chars, map, opti
 use Rattle.clap.proofs.WalkLemmas.{first_value-rows, raw_values-rows}
 use Rattle.clap.proofs.TakesLemmas.{passed_up}
 use Rattle.clap.specs.Words.{found_of, rows_of}
-use Rattle.rdf_command.specs.Words.{AreDocuments, IsBase, IsFormBy, IsFormatWord, IsWord, NoFormOf, NoFormsOf, escapes_by, file_by, further_by, further_of, is_given, name_by}
+use Rattle.rdf_command.specs.Words.{AreDocuments, IsBase, IsFormBy, IsFormatWord, IsWord, NoFormOf, NoFormsOf, base_by, escapes_by, file_by, further_by, further_of, is_addressed, is_given, name_by}
 use Rattle.rdf_command.proofs.GivenLemmas.{no_form, no_forms, no_graph, no_task, no_word, text_given, text_is}
 use Rattle.rdf_command.proofs.commands.task_of.Goals as goal
 
@@ -27,7 +27,7 @@ returns-in_err-form-clause-refused c =
 pub returns-in_err-base-clause-refused : goal.returns-in_err-base-clause-refused
 returns-in_err-base-clause-refused c =
     let found = found_of c.args.found.now in
-    let base = c.get_str-3.ensures ∙ first_value-rows found (codes "base") in
+    let base = c.base_by.ensures ∙ ap base_by (c.get_str-3.ensures ∙ first_value-rows found (codes "base")) in
     passed_up c.from_residual-in_err-base.result c.in_err-base.field-0.0 _ c.from_residual-in_err-base.ensures.1
     (no_task (c.args.name.now, rows_of found) c.iri.result _ c.in_err-base.field-0.0 base (c.limits_of-limits.ensures.iri ∙ ap (λ n. Some n) (sym c.iri.ensures)) c.in_err-base.ensures.bad)
 
@@ -48,7 +48,7 @@ returns-in_err-graph-clause-refused c =
 pub returns-clause-task : goal.returns-clause-task
 returns-clause-task c =
     let found = found_of c.args.found.now in
-    let base = c.get_str-3.ensures ∙ first_value-rows found (codes "base") in
+    let base = c.base_by.ensures ∙ ap base_by (c.get_str-3.ensures ∙ first_value-rows found (codes "base")) in
     let explain = c.get_str-4.ensures ∙ first_value-rows found (codes "explain") in
     let ascii = c.get_str-5.ensures ∙ first_value-rows found (codes "ascii") in
     let word = c.get_str-6.ensures ∙ first_value-rows found (codes "node-prefix") in
@@ -70,6 +70,7 @@ returns-clause-task c =
       };
       base = c.in_ok-base.ensures.base ∙ ap (option_map chars) base;
       good_base = subst (λ text. IfSome text (IsBase c.limits_of-limits.result.iri)) base (rw c.iri.ensures at c.in_ok-base.ensures.good);
+      addressed = c.is_addressed-addressed.ensures ∙ ap is_addressed (c.get_str-11.ensures ∙ first_value-rows found (codes "base"));
       limits = c.limits_of-limits.ensures;
       explain = c.is_given-explain.ensures ∙ ap is_given explain;
       escapes = c.escapes_by-escapes.ensures ∙ ap escapes_by (c.is_given.ensures ∙ ap is_given ascii);
