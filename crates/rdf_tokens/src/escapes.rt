@@ -7,7 +7,7 @@ ghost use Rattle.rdf_terms.specs.Pieces.{hex_value};
 ghost use Rattle.rdf_terms.specs.Runs.{IsRun, goes_over};
 ghost use Rattle.rdf_tokens.specs.Escapes.{is_hex, is_letter, is_surrogate, is_plane, is_in_first_plane, is_in_planes, is_iri_four, writes_iri_char};
 ghost use Rattle.rdf_tokens.specs.Escapes.{begins_long_uchar, are_four_of_character, are_eight_of_character};
-ghost use Rattle.rdf_tokens.specs.Escapes.{IsHexes, IsNumber, IsUchar, IsIriUchar, FitsInIri, FitsInString, IsEscapeThen, RestsInIri};
+ghost use Rattle.rdf_tokens.specs.Escapes.{IsEchar, IsHexes, IsNumber, IsUchar, IsIriUchar, FitsInIri, FitsInString, IsEscapeThen, RestsInIri};
 ghost use Rattle.rdf_tokens.specs.Quick.{short_run};
 ghost use Rattle.rdf_tokens.specs.Strings.{RestsInQuotes};
 
@@ -54,23 +54,34 @@ pub(crate) fn short_run(quote: Quote) -> Run
     }
 }
 
-/// Where the escape at a place and the run after it end, if all of the escape is there and it is not bad.
+/// Where the escape at a place and the run after it end, if all of the escape is there and it is not bad. The run is sought in one place, so that
+/// this stays small enough for its mark.
 #[inline(always)]
 pub(crate) fn escape_end(run: Run, bytes: &[u8], at: usize) -> Option<usize>
     requires within { at ≤ length bytes.now }
     requires backslash { goes_over run 92 ≡ false }
     ensures { IfSome result (λ end. IsEscapeThen run bytes.now at end) }
 {
-    if let Some(next) = short_uchar_end(bytes, at) {
-        return Some(plain_end(run, bytes, next));
-    }
-    if is_echar(bytes, at) {
-        return Some(run_end(run, bytes, at + 2));
-    }
-    match long_uchar_end(bytes, at) {
+    match whole_escape_end(bytes, at) {
         Some(next) => Some(plain_end(run, bytes, next)),
         None => None,
     }
+}
+
+/// Where the escape at a place ends, if all of it is there and it is not bad.
+#[inline(always)]
+fn whole_escape_end(bytes: &[u8], at: usize) -> Option<usize>
+    requires { at ≤ length bytes.now }
+    ensures escape { IfSome result (λ end. IsEchar bytes.now at end ⊎ IsUchar bytes.now at end) }
+    ensures within { IfSome result (λ end. end ≤ length bytes.now) }
+{
+    if let Some(next) = short_uchar_end(bytes, at) {
+        return Some(next);
+    }
+    if is_echar(bytes, at) {
+        return Some(at + 2);
+    }
+    long_uchar_end(bytes, at)
 }
 
 /// The end of a run in which no backslash stands. Escapes by number often come in a row, and between two of them nothing is looked for.
