@@ -161,7 +161,7 @@ static STEPS: [(Step, Answer); 245] = [
     (Step::See, Answer::Unseen),
     (Step::PassBlanks, Answer::Passed),
     (Step::See, Answer::PlainName(29, 3, 3, 1)),
-    (Step::PassBlanks, Answer::Passed),
+    (Step::PassBlanks, Answer::Stayed),
     (Step::See, Answer::Unseen),
     (Step::PassBlanks, Answer::Stayed),
     (Step::Next, Answer::Token(Kind::Semicolon, 33, 3, 1)),
