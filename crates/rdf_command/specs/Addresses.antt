@@ -20,11 +20,11 @@ abbrev pub is_absolute : Text → Bool
 is_absolute [] = false
 is_absolute (byte ∷ rest) = byte == code "/"
 
--- a folder with a slash behind it; the root has one already
+-- a folder with a slash after it, which the folder of all has already
 abbrev pub in_folder : Text → Text
 in_folder folder = cond (bytes_eq folder (codes "/")) folder (folder ++ codes "/")
 
--- the absolute path of the file of this name, where names start from this folder
+-- the absolute path of the file of a name, where names start from this folder
 abbrev pub path_of : Text → Text → Text
 path_of folder name = cond (is_absolute name) name (in_folder folder ++ name)
 
@@ -53,7 +53,7 @@ pub record Folders : Type 1 where
 abbrev pub LacksAddress : Folders → ℕ → Option Text → Type 0
 LacksAddress folders most file = folders.is_untold ⊎ ((folder : Text) × folders.is folder × HasNoAddress most folder file)
 
--- the folder of a run, by whether it needs one
+-- The folder that a run starts from, by whether it needs one.
 abbrev pub IsFolderFor : Folders → Bool → Option Text → Type 0
 IsFolderFor folders false None = ⊤
 IsFolderFor folders false (Some folder) = ⊥
