@@ -1,27 +1,30 @@
 -- Lines that are sifted, one after another.
-use Rattle.std.proofs.Common.{◌≡◌, ℕ, zero, suc, ◌+◌, ◌<◌, ◌≤◌, ◌==◌, cond, Bool, true, false, List, [], ◌∷◌, ◌++◌, inl, inr, Option, Some, IfSome, refl, sym, ap, ◌∙◌, subst, append_assoc, length, take, drop, arith, length-append}
+use Rattle.std.proofs.Common.{◌≡◌, ℕ, zero, suc, ◌+◌, ◌<◌, ◌≤◌, ◌==◌, cond, Bool, true, false, List, [], ◌∷◌, ◌++◌, inl, inr, Option, Some, IfSome, refl, sym, ap, ◌∙◌, subst, append_assoc, length, take, drop, arith, length-append, length-drop, length-take}
 use Rattle.std.specs.Io.KnownBytes.{Appends}
-use Rattle.std.specs.List.{concat}
+use Rattle.std.specs.List.{All, concat}
 use Rattle.std.specs.Prelude.{encode_utf8_all, map, slice_index, count_by}
 use Rattle.std.specs.Str.{IsUtf8, chars}
 use Rattle.std.specs.Str.Lossy.{utf8_valid_len}
 use Rattle.std.proofs.Math.Utf8.{encode, encodes}
 use Rattle.std.proofs.KnownBytes.{Appends-nil, Appends-trans}
-use Rattle.std.proofs.lemmas.List.{append-nil, map-append, take-append-drop}
+use Rattle.std.proofs.lemmas.List.{append-nil, length-take-le, map-append, take-append-drop}
+use Rattle.std.proofs.lemmas.List.Elements.{All-head, All-tail}
 use Rattle.std.proofs.lemmas.List.Concat.{flat_map-append}
-use Rattle.std.proofs.lemmas.List.Folds.{concat-append}
 use Rattle.std.proofs.lemmas.Str.{encodes-append, chars-encodes, encodes-chars}
 use Rattle.std.proofs.lemmas.Bool.{false≢true, false_from_ne_true, eqb-true}
-use Rattle.rdf_tokens.specs.Good.{good, has_byte_order_mark}
+use Rattle.rdf_tokens.specs.Good.{good, has_byte_order_mark, most_bytes}
 use Rattle.rdf_tokens.proofs.GoodLemmas.{good_front}
+use Rattle.rdf_tokens.proofs.LawLemmas.{places}
 use Rattle.rdf_tokens.proofs.PlaceLemmas.{feeds-append}
 use Rattle.rdf_tokens.proofs.PastGood.{good_past}
 use Rattle.rdf_driver.specs.declared.summary.Summary.{Summary}
 use Rattle.rdf_terms.specs.Terms.{Quad}
 use Rattle.rdf_terms.specs.declared.reason.Reason.{Reason}
-use Rattle.rdf_terms.specs.declared.reason.Reason.TheVariants.{DocumentTooLong}
-use Rattle.rdf_tokens.specs.Grammars.{Language, Refused}
-use Rattle.rdf_tokens.specs.Tokens.{Place}
+use Rattle.rdf_terms.specs.declared.reason.Reason.TheVariants.{BadEscape, BadUtf8, DocumentTooLong, Ended, Memory, NoToken, Sink, TokenTooLong}
+use Rattle.rdf_tokens.specs.Grammars.{IsTooLong, Language, Refused, StopsAt, reading_of}
+use Rattle.rdf_tokens.specs.Laws.{IsPlaceIn, StandsIn}
+use Rattle.rdf_tokens.specs.Tokens.{Place, Token}
+use Rattle.rdf_tokens.specs.Tokens.{Outcome}
 use Rattle.rdf_tokens.specs.Tokens.Outcome.{complete, token_too_long}
 use Rattle.rdf_tokens.specs.Scans.{place_of}
 use Rattle.rdf_tokens.specs.declared.token.Fault.{Fault}
@@ -34,13 +37,15 @@ use Rattle.rdf_lines.proofs.SplitLemmas.{good_sifted}
 use Rattle.rdf_stream.specs.declared.devices.Drain as drain
 use Rattle.rdf_stream.specs.declared.fault.StreamFault.{StreamFault}
 use Rattle.rdf_stream.specs.declared.fault.StreamFault.TheVariants as fault
+use Rattle.rdf_stream.specs.declared.sieve.LineStart.{LineStart}
 use Rattle.rdf_stream.specs.declared.sieve.Sieve.{Sieve}
 use Rattle.rdf_stream.specs.Converts.{Accepts, RefusesDocument, StopsFor, lines_of}
 use Rattle.rdf_stream.specs.Devices.{AppendsFront, Reading}
 use Rattle.rdf_stream.specs.Graphs.{all_in_graph, in_graph}
 use Rattle.rdf_stream.specs.Languages.{Conversion, put_quads}
-use Rattle.rdf_stream.specs.Sieves.{Counts, HasMarkBytes, HasNoMark, HasSifted, PutBadFails, PutGoodFails, PutsBad, PutsGood, PutsNone, SameSieve, SiftFails, first_after, job_of}
-use Rattle.rdf_stream.specs.Skips.{PutsAside, counted_up}
+use Rattle.rdf_stream.specs.Sieves.{Counts, HasRoom, HasMarkBytes, HasNoMark, HasSifted, PutBadFails, PutGoodFails, PutsBad, PutsGood, PutsNone, SameSieve, SiftFails, first_after, job_of, place_past, start_of}
+use Rattle.rdf_stream.specs.Checks.{IsRefusedFor}
+use Rattle.rdf_stream.specs.Skips.{IsAside, IsBadFor, comment_text, counted_up, fault_from, place_after}
 use Rattle.rdf_stream.proofs.LineCuts.{some_lines}
 
 -- counts that stop are added up
@@ -85,6 +90,33 @@ sifts_append l first (x ∷ xs) ys kept more bad others qs rs (inr s) t =
       lines = ap (λ b. b ++ others) s.lines;
     })
 
+-- what is put aside of lines, and then of others
+pub aside_append : (l : Language) (first : Bool) (start : Place) (xs ys : List (List ℕ)) (t u : List ℕ) → IsAside l first start xs t → IsAside l (first_after first xs) (place_past start xs) ys u →
+    IsAside l first start (xs ++ ys) (t ++ u)
+aside_append l first start [] ys t u a b = subst (λ t. IsAside l first start ys (t ++ u)) (sym a) b
+aside_append l first start (x ∷ xs) ys t u (inl a) b =
+    inl (a.0, a.1, aside_append l false (place_after start x) xs ys t u a.2 (subst (λ f. IsAside l f (place_past (place_after start x) xs) ys u) (sym (still xs)) b))
+aside_append l first start (x ∷ xs) ys t u (inr a) b =
+    inr
+    (record {
+      fault = a.fault;
+      is_bad = a.is_bad;
+      text_after = a.text_after ++ u;
+      after = aside_append l false (place_after start x) xs ys a.text_after u a.after (subst (λ f. IsAside l f (place_past (place_after start x) xs) ys u) (sym (still xs)) b);
+      all = ap (λ t. t ++ u) a.all ∙ append_assoc (comment_text (fault_from start a.fault) ++ x) a.text_after u;
+    })
+
+-- of good lines nothing is
+pub aside_good : (l : Language) (first : Bool) (start : Place) (xs kept bad : List (List ℕ)) (qs : List Quad) → bad ≡ [] → Sifts l first xs kept bad qs → IsAside l first start xs []
+aside_good l first start [] kept bad qs e s = refl
+aside_good l first start (x ∷ xs) kept bad qs e (inl s) = inl (s.quads, s.is_good, aside_good l false (place_after start x) xs s.kept_after bad s.quads_after e s.after)
+aside_good l first start (x ∷ xs) kept bad qs e (inr s) = absurd (let z = ap length (sym e ∙ s.lines) in omega (arith, z))
+
+-- of a bad one its fault and the line are
+aside_bad : (l : Language) (first : Bool) (start : Place) (line : List ℕ) (f : Fault) → IsBadFor l first line f → IsAside l first start (line ∷ []) (comment_text (fault_from start f) ++ line)
+aside_bad l first start line f h =
+    inr (record { fault = f; is_bad = h; text_after = []; after = refl; all = sym (append-nil (comment_text (fault_from start f) ++ line)) })
+
 -- some bytes and then a beginning of others
 front_then : (a b c : Option (List ℕ)) (us vs : List ℕ) → Appends a b us → AppendsFront b c vs → AppendsFront a c (us ++ vs)
 front_then a b c us vs p (f, r, w, t) = (us ++ f, r, ap (λ x. us ++ x) w ∙ sym (append_assoc us f r), Appends-trans a b c us f p t)
@@ -127,13 +159,10 @@ counts_both old mid new q r b c h k = record {
 }
 
 module _ {A D B : Type 0} (takes : drain.Ghosts D) (sets : drain.Ghosts B) where
-  abbrev In : Sieve A → Bool → List (List ℕ) → D → B → D → B → Type 0
-  In s first lines d b d' b' = PutsAside (job_of s) first lines (takes.contents d) (takes.contents d') (sets.contents b) (sets.contents b')
-
   -- no line was sifted
-  pub sifted_none : (s : Sieve A) (d : D) (b : B) → takes.has_failed d ≡ false → sets.has_failed b ≡ false → HasSifted takes sets s d b [] s d b
-  sifted_none s d b l m = record {
-    aside = record { kept = []; bad = []; quads = []; sifts = (refl, refl, refl); written = Appends-nil (takes.contents d); put_aside = Appends-nil (sets.contents b) };
+  pub sifted_none : (start : Place) (s : Sieve A) (d : D) (b : B) → takes.has_failed d ≡ false → sets.has_failed b ≡ false → HasSifted takes sets start s d b [] s d b
+  sifted_none start s d b l m = record {
+    aside = record { kept = []; bad = []; quads = []; sifts = (refl, refl, refl); written = Appends-nil (takes.contents d); text = []; aside = refl; put_aside = Appends-nil (sets.contents b) };
     counts = record { quads_counted = omega arith; bad_counted = omega arith };
     first = refl;
     same = record { form = refl; limits = refl; output = refl };
@@ -142,14 +171,16 @@ module _ {A D B : Type 0} (takes : drain.Ghosts D) (sets : drain.Ghosts B) where
   }
 
   -- a good line was put
-  pub line_good : (old new : Sieve A) (d d' : D) (b : B) (line : List ℕ) → sets.has_failed b ≡ false → PutsGood takes old d line new d' → HasSifted takes sets old d b (line ∷ []) new d' b
-  line_good old new d d' b line m g = record {
+  pub line_good : (start : Place) (old new : Sieve A) (d d' : D) (b : B) (line : List ℕ) → sets.has_failed b ≡ false → PutsGood takes old d line new d' → HasSifted takes sets start old d b (line ∷ []) new d' b
+  line_good start old new d d' b line m g = record {
     aside = record {
       kept = line ∷ [];
       bad = [];
       quads = g.quads;
       sifts = one_good (job_of old).language old.is_first line g.quads g.is_good;
       written = g.written;
+      text = [];
+      aside = inl (g.quads, g.is_good, refl);
       put_aside = Appends-nil (sets.contents b);
     };
     counts = g.counts;
@@ -160,15 +191,18 @@ module _ {A D B : Type 0} (takes : drain.Ghosts D) (sets : drain.Ghosts B) where
   }
 
   -- good lines were put at once
-  pub block_good : (old new : Sieve A) (d d' : D) (b : B) (block : List ℕ) → 0 < length block → sets.has_failed b ≡ false → PutsGood takes old d block new d' → HasSifted takes sets old d b (split_lines block) new d' b
-  block_good old new d d' b [] n m g = absurd (omega (arith, n))
-  block_good old new d d' b (c ∷ w) n m g = record {
+  pub block_good : (start : Place) (old new : Sieve A) (d d' : D) (b : B) (block : List ℕ) → 0 < length block → sets.has_failed b ≡ false → PutsGood takes old d block new d' → HasSifted takes sets start old d b (split_lines block) new d' b
+  block_good start old new d d' b [] n m g = absurd (omega (arith, n))
+  block_good start old new d d' b (c ∷ w) n m g = record {
     aside = record {
       kept = split_lines (c ∷ w);
       bad = [];
       quads = g.quads;
       sifts = good_sifted old.form old.limits.token old.limits.iri old.is_first (c ∷ w) g.quads g.is_good;
       written = g.written;
+      text = [];
+      aside = aside_good (job_of old).language old.is_first start (split_lines (c ∷ w)) (split_lines (c ∷ w)) [] g.quads refl
+          (good_sifted old.form old.limits.token old.limits.iri old.is_first (c ∷ w) g.quads g.is_good);
       put_aside = Appends-nil (sets.contents b);
     };
     counts = g.counts;
@@ -179,18 +213,21 @@ module _ {A D B : Type 0} (takes : drain.Ghosts D) (sets : drain.Ghosts B) where
   }
 
   -- a bad line was put aside
-  pub line_bad : (old mid new : Sieve A) (d d' : D) (b b' : B) (line : List ℕ) → takes.has_failed d ≡ false → PutsNone old d line mid d' → PutsBad sets mid b line new b' → HasSifted takes sets old d b (line ∷ []) new d' b'
-  line_bad old mid new d d' b b' line l none bad =
-      let p : PutsBad sets old b line new b' = subst (λ s. PutsBad sets s b line new b') none.sieve bad in
-      subst (λ x. HasSifted takes sets old d b (line ∷ []) new x b') (sym none.drain)
+  pub line_bad : (start : Place) (f : Fault) (old mid new : Sieve A) (d d' : D) (b b' : B) (line : List ℕ) → takes.has_failed d ≡ false → PutsNone old d line f mid d' → PutsBad sets mid b (fault_from start f) line new b' →
+      HasSifted takes sets start old d b (line ∷ []) new d' b'
+  line_bad start f old mid new d d' b b' line l none bad =
+      let p : PutsBad sets old b (fault_from start f) line new b' = subst (λ s. PutsBad sets s b (fault_from start f) line new b') none.sieve bad in
+      subst (λ x. HasSifted takes sets start old d b (line ∷ []) new x b') (sym none.drain)
       (record {
         aside = record {
           kept = [];
           bad = line ∷ [];
           quads = [];
-          sifts = one_bad (job_of old).language old.is_first line none.is_bad;
+          sifts = one_bad (job_of old).language old.is_first line none.why.is_bad;
           written = Appends-nil (takes.contents d);
-          put_aside = subst (Appends (sets.contents b) (sets.contents b')) (sym (append-nil line)) p.put;
+          text = comment_text (fault_from start f) ++ line;
+          aside = aside_bad (job_of old).language old.is_first start line f none.why.why;
+          put_aside = p.put;
         };
         counts = p.counts;
         first = p.first;
@@ -200,39 +237,40 @@ module _ {A D B : Type 0} (takes : drain.Ghosts D) (sets : drain.Ghosts B) where
       })
 
   -- why a good line was not put
-  pub good_fails : (lines : List (List ℕ)) (f : StreamFault) (old new : Sieve A) (d d' : D) (b : B) (bytes : List ℕ) → takes.has_failed d ≡ false → sets.has_failed b ≡ false →
+  pub good_fails : (start : Place) (lines : List (List ℕ)) (f : StreamFault) (old new : Sieve A) (d d' : D) (b : B) (bytes : List ℕ) → takes.has_failed d ≡ false → sets.has_failed b ≡ false →
       ((qs : List Quad) → IsGoodLine (job_of old).language old.is_first bytes qs → Sifts (job_of old).language old.is_first lines lines [] qs) →
-      PutGoodFails takes f old d bytes new d' → SiftFails takes sets f old d b lines new d' b
-  good_fails lines fault.Write old new d d' b bytes l m s h = (
+      PutGoodFails takes f old d bytes new d' → SiftFails takes sets f start old d b lines new d' b
+  good_fails start lines fault.Write old new d d' b bytes l m s h = (
     inl h.0,
     lines,
     [],
     sym (append-nil lines),
-    record { kept = lines; bad = []; quads = h.1; sifts = s h.1 h.2; written = h.3; put_aside = no_front (sets.contents b) },
+    record { kept = lines; bad = []; quads = h.1; sifts = s h.1 h.2; written = h.3; text = []; aside = aside_good (job_of old).language old.is_first start lines lines [] h.1 refl (s h.1 h.2); put_aside = no_front (sets.contents b) },
   )
-  good_fails lines fault.Memory old new d d' b bytes l m s h = (
+  good_fails start lines fault.Memory old new d d' b bytes l m s h = (
     [],
     lines,
     refl,
-    subst (λ x. HasSifted takes sets old d b [] new x b) (sym h.1) (subst (λ x. HasSifted takes sets old d b [] x d b) (sym h.0) (sifted_none old d b l m)),
+    subst (λ x. HasSifted takes sets start old d b [] new x b) (sym h.1) (subst (λ x. HasSifted takes sets start old d b [] x d b) (sym h.0) (sifted_none start old d b l m)),
   )
-  good_fails lines (fault.Refused f) old new d d' b bytes l m s h = absurd h
-  good_fails lines fault.Read old new d d' b bytes l m s h = absurd h
+  good_fails start lines (fault.Refused f) old new d d' b bytes l m s h = absurd h
+  good_fails start lines fault.Read old new d d' b bytes l m s h = absurd h
 
   -- a line
-  pub line_fails : (f : StreamFault) (old new : Sieve A) (d d' : D) (b : B) (line : List ℕ) → takes.has_failed d ≡ false → sets.has_failed b ≡ false →
-      PutGoodFails takes f old d line new d' → SiftFails takes sets f old d b (line ∷ []) new d' b
-  line_fails f old new d d' b line l m h = good_fails (line ∷ []) f old new d d' b line l m (λ qs g. one_good (job_of old).language old.is_first line qs g) h
+  pub line_fails : (start : Place) (f : StreamFault) (old new : Sieve A) (d d' : D) (b : B) (line : List ℕ) → takes.has_failed d ≡ false → sets.has_failed b ≡ false →
+      PutGoodFails takes f old d line new d' → SiftFails takes sets f start old d b (line ∷ []) new d' b
+  line_fails start f old new d d' b line l m h = good_fails start (line ∷ []) f old new d d' b line l m (λ qs g. one_good (job_of old).language old.is_first line qs g) h
 
   -- or a block
-  pub block_fails : (f : StreamFault) (old new : Sieve A) (d d' : D) (b : B) (block : List ℕ) → takes.has_failed d ≡ false → sets.has_failed b ≡ false →
-      PutGoodFails takes f old d block new d' → SiftFails takes sets f old d b (split_lines block) new d' b
-  block_fails f old new d d' b block l m h =
-      good_fails (split_lines block) f old new d d' b block l m (λ qs g. good_sifted old.form old.limits.token old.limits.iri old.is_first block qs g) h
+  pub block_fails : (start : Place) (f : StreamFault) (old new : Sieve A) (d d' : D) (b : B) (block : List ℕ) → takes.has_failed d ≡ false → sets.has_failed b ≡ false →
+      PutGoodFails takes f old d block new d' → SiftFails takes sets f start old d b (split_lines block) new d' b
+  block_fails start f old new d d' b block l m h =
+      good_fails start (split_lines block) f old new d d' b block l m (λ qs g. good_sifted old.form old.limits.token old.limits.iri old.is_first block qs g) h
 
   -- why a bad line was not put aside
-  pub bad_fails : (f : StreamFault) (old mid new : Sieve A) (d d' : D) (b b' : B) (line : List ℕ) → PutsNone old d line mid d' → PutBadFails sets f b line b' → SiftFails takes sets f old d b (line ∷ []) new d' b'
-  bad_fails fault.Write old mid new d d' b b' line none h = (
+  pub bad_fails : (start : Place) (f : StreamFault) (why : Fault) (old mid new : Sieve A) (d d' : D) (b b' : B) (line : List ℕ) → takes.has_failed d ≡ false → sets.has_failed b ≡ false →
+      PutsNone old d line why mid d' → PutBadFails sets f mid b (fault_from start why) line new b' → SiftFails takes sets f start old d b (line ∷ []) new d' b'
+  bad_fails start fault.Write why old mid new d d' b b' line l m none h = (
     inr h.0,
     line ∷ [],
     [],
@@ -241,14 +279,22 @@ module _ {A D B : Type 0} (takes : drain.Ghosts D) (sets : drain.Ghosts B) where
       kept = [];
       bad = line ∷ [];
       quads = [];
-      sifts = one_bad (job_of old).language old.is_first line none.is_bad;
+      sifts = one_bad (job_of old).language old.is_first line none.why.is_bad;
       written = subst (λ x. AppendsFront (takes.contents d) (takes.contents x) []) (sym none.drain) (no_front (takes.contents d));
-      put_aside = subst (AppendsFront (sets.contents b) (sets.contents b')) (sym (append-nil line)) h.1;
+      text = comment_text (fault_from start why) ++ line;
+      aside = aside_bad (job_of old).language old.is_first start line why none.why.why;
+      put_aside = h.1;
     },
   )
-  bad_fails fault.Memory old mid new d d' b b' line none h = absurd h
-  bad_fails (fault.Refused f) old mid new d d' b b' line none h = absurd h
-  bad_fails fault.Read old mid new d d' b b' line none h = absurd h
+  bad_fails start fault.Memory why old mid new d d' b b' line l m none h = (
+    [],
+    line ∷ [],
+    refl,
+    subst (λ x. HasSifted takes sets start old d b [] new d' x) (sym h.1)
+        (subst (λ x. HasSifted takes sets start old d b [] new x b) (sym none.drain) (subst (λ x. HasSifted takes sets start old d b [] x d b) (sym (h.0 ∙ none.sieve)) (sifted_none start old d b l m))),
+  )
+  bad_fails start (fault.Refused f) why old mid new d d' b b' line l m none h = absurd h
+  bad_fails start fault.Read why old mid new d d' b b' line l m none h = absurd h
 
   -- what is sifted after other lines, by the job and from the place before them
   moved : (old mid : Sieve A) (xs ys kept bad : List (List ℕ)) (qs : List Quad) → SameSieve old mid → mid.is_first ≡ first_after old.is_first xs → Sifts (job_of mid).language mid.is_first ys kept bad qs →
@@ -256,10 +302,16 @@ module _ {A D B : Type 0} (takes : drain.Ghosts D) (sets : drain.Ghosts B) where
   moved old mid xs ys kept bad qs s f h =
       subst (λ x. Sifts (job_of old).language x ys kept bad qs) f (subst (λ (j : Conversion). Sifts j.language mid.is_first ys kept bad qs) (job_same old mid s) h)
 
+  -- and what is put aside of them
+  moved_aside : (start : Place) (old mid : Sieve A) (xs ys : List (List ℕ)) (t : List ℕ) → SameSieve old mid → mid.is_first ≡ first_after old.is_first xs → IsAside (job_of mid).language mid.is_first (place_past start xs) ys t →
+      IsAside (job_of old).language (first_after old.is_first xs) (place_past start xs) ys t
+  moved_aside start old mid xs ys t s f h =
+      subst (λ x. IsAside (job_of old).language x (place_past start xs) ys t) f (subst (λ (j : Conversion). IsAside j.language mid.is_first (place_past start xs) ys t) (job_same old mid s) h)
+
   -- Lines were sifted, and then others.
-  pub sifted_then : (old mid new : Sieve A) (d dm d' : D) (b bm b' : B) (xs ys : List (List ℕ)) → HasSifted takes sets old d b xs mid dm bm → HasSifted takes sets mid dm bm ys new d' b' →
-      HasSifted takes sets old d b (xs ++ ys) new d' b'
-  sifted_then old mid new d dm d' b bm b' xs ys p q =
+  pub sifted_then : (start : Place) (old mid new : Sieve A) (d dm d' : D) (b bm b' : B) (xs ys : List (List ℕ)) → HasSifted takes sets start old d b xs mid dm bm → HasSifted takes sets (place_past start xs) mid dm bm ys new d' b' →
+      HasSifted takes sets start old d b (xs ++ ys) new d' b'
+  sifted_then start old mid new d dm d' b bm b' xs ys p q =
       let lines : lines_of (job_of mid).form (put_quads (job_of mid) q.aside.quads) ≡ lines_of (job_of old).form (put_quads (job_of old) q.aside.quads) =
       ap (λ (j : Conversion). lines_of j.form (put_quads j q.aside.quads)) (job_same old mid p.same) in
       record {
@@ -271,8 +323,9 @@ module _ {A D B : Type 0} (takes : drain.Ghosts D) (sets : drain.Ghosts B) where
               (moved old mid xs ys q.aside.kept q.aside.bad q.aside.quads p.same p.first q.aside.sifts);
           written = subst (Appends (takes.contents d) (takes.contents d')) (sym (lines_append (job_of old) p.aside.quads q.aside.quads))
               (Appends-trans (takes.contents d) (takes.contents dm) (takes.contents d') _ _ p.aside.written (subst (Appends (takes.contents dm) (takes.contents d')) lines q.aside.written));
-          put_aside = subst (Appends (sets.contents b) (sets.contents b')) (sym (concat-append p.aside.bad q.aside.bad))
-              (Appends-trans (sets.contents b) (sets.contents bm) (sets.contents b') (concat p.aside.bad) (concat q.aside.bad) p.aside.put_aside q.aside.put_aside);
+          text = p.aside.text ++ q.aside.text;
+          aside = aside_append (job_of old).language old.is_first start xs ys p.aside.text q.aside.text p.aside.aside (moved_aside start old mid xs ys q.aside.text p.same p.first q.aside.aside);
+          put_aside = Appends-trans (sets.contents b) (sets.contents bm) (sets.contents b') p.aside.text q.aside.text p.aside.put_aside q.aside.put_aside;
         };
         counts = let c = counts_both old mid new _ _ _ _ p.counts q.counts in record {
           quads_counted = c.quads_counted ∙ ap (λ n. counted_up (old.quads + n)) (sym (length-append p.aside.quads q.aside.quads));
@@ -289,9 +342,9 @@ module _ {A D B : Type 0} (takes : drain.Ghosts D) (sets : drain.Ghosts B) where
       first (x ∷ xs) ys e = e ∙ still ys
 
   -- Lines were sifted, and not all of others.
-  pub fails_then : (f : StreamFault) (old mid new : Sieve A) (d dm d' : D) (b bm b' : B) (xs ys : List (List ℕ)) → HasSifted takes sets old d b xs mid dm bm → SiftFails takes sets f mid dm bm ys new d' b' →
-      SiftFails takes sets f old d b (xs ++ ys) new d' b'
-  fails_then fault.Write old mid new d dm d' b bm b' xs ys p (failed, ahead, later, split, q) =
+  pub fails_then : (start : Place) (f : StreamFault) (old mid new : Sieve A) (d dm d' : D) (b bm b' : B) (xs ys : List (List ℕ)) → HasSifted takes sets start old d b xs mid dm bm → SiftFails takes sets f (place_past start xs) mid dm bm ys new d' b' →
+      SiftFails takes sets f start old d b (xs ++ ys) new d' b'
+  fails_then start fault.Write old mid new d dm d' b bm b' xs ys p (failed, ahead, later, split, q) =
       let lines : lines_of (job_of mid).form (put_quads (job_of mid) q.quads) ≡ lines_of (job_of old).form (put_quads (job_of old) q.quads) =
       ap (λ (j : Conversion). lines_of j.form (put_quads j q.quads)) (job_same old mid p.same) in (
         failed,
@@ -306,14 +359,15 @@ module _ {A D B : Type 0} (takes : drain.Ghosts D) (sets : drain.Ghosts B) where
               (moved old mid xs ahead q.kept q.bad q.quads p.same p.first q.sifts);
           written = subst (AppendsFront (takes.contents d) (takes.contents d')) (sym (lines_append (job_of old) p.aside.quads q.quads))
               (front_then (takes.contents d) (takes.contents dm) (takes.contents d') _ _ p.aside.written (subst (AppendsFront (takes.contents dm) (takes.contents d')) lines q.written));
-          put_aside = subst (AppendsFront (sets.contents b) (sets.contents b')) (sym (concat-append p.aside.bad q.bad))
-              (front_then (sets.contents b) (sets.contents bm) (sets.contents b') (concat p.aside.bad) (concat q.bad) p.aside.put_aside q.put_aside);
+          text = p.aside.text ++ q.text;
+          aside = aside_append (job_of old).language old.is_first start xs ahead p.aside.text q.text p.aside.aside (moved_aside start old mid xs ahead q.text p.same p.first q.aside);
+          put_aside = front_then (sets.contents b) (sets.contents bm) (sets.contents b') p.aside.text q.text p.aside.put_aside q.put_aside;
         },
       )
-  fails_then fault.Memory old mid new d dm d' b bm b' xs ys p (ahead, later, split, q) =
-      (xs ++ ahead, later, ap (λ z. xs ++ z) split ∙ sym (append_assoc xs ahead later), sifted_then old mid new d dm d' b bm b' xs ahead p q)
-  fails_then (fault.Refused f) old mid new d dm d' b bm b' xs ys p h = absurd h
-  fails_then fault.Read old mid new d dm d' b bm b' xs ys p h = absurd h
+  fails_then start fault.Memory old mid new d dm d' b bm b' xs ys p (ahead, later, split, q) =
+      (xs ++ ahead, later, ap (λ z. xs ++ z) split ∙ sym (append_assoc xs ahead later), sifted_then start old mid new d dm d' b bm b' xs ahead p q)
+  fails_then start (fault.Refused f) old mid new d dm d' b bm b' xs ys p h = absurd h
+  fails_then start fault.Read old mid new d dm d' b bm b' xs ys p h = absurd h
 
 -- What is refused is no good line.
 pub refused_bad : (job : Conversion) (form : LineForm) (limit iri : ℕ) → job.language ≡ in_lines form limit iri → (first : Bool) (bytes : List ℕ) (why : Reason) (at : Place) (old new : Option (List ℕ)) →
@@ -321,6 +375,51 @@ pub refused_bad : (job : Conversion) (form : LineForm) (limit iri : ℕ) → job
 refused_bad job form limit iri same first bytes DocumentTooLong at old new h qs g = let a = h.0.0 in let b = g.accepted.within.size in omega (arith, a, b)
 refused_bad job form limit iri same first bytes why at old new h qs g =
     refused_none form limit iri bytes qs why at (subst (λ (l : Language). Refused l bytes true why at) same (h.0, h.1)) g.accepted.document g.accepted.within
+
+-- and it is bad for that reason
+pub refused_for : (job : Conversion) (form : LineForm) (limit iri : ℕ) → job.language ≡ in_lines form limit iri → (first : Bool) (bytes : List ℕ) (f : Fault) (old new : Option (List ℕ)) → (first ≡ false → HasNoMark bytes) →
+    RefusesDocument f.reason job bytes true (place_of f) old new → IsBadFor (in_lines form limit iri) first bytes f × IsRefusedFor f.reason (in_lines form limit iri) bytes true (place_of f)
+refused_for job form limit iri same first bytes f old new n h = let r = subst (λ (l : Language). IsRefusedFor f.reason l bytes true (place_of f)) same (by f.reason h) in (inr (n, r), r)
+  where
+    by : (r : Reason) → RefusesDocument r job bytes true (place_of f) old new → IsRefusedFor r job.language bytes true (place_of f)
+    by DocumentTooLong h = (h.0, h.1)
+    by r h = (h.0, h.1)
+
+-- a token of a list
+all_at : (P : Token → Type 0) (ahead later all : List Token) (t : Token) → all ≡ ahead ++ t ∷ later → All P all → P t
+all_at P ahead later all t e h = at ahead (subst (All P) e h)
+  where
+    at : (ahead : List Token) → All P (ahead ++ t ∷ later) → P t
+    at [] h = All-head P t later h
+    at (x ∷ ahead) h = at ahead (All-tail P x (ahead ++ t ∷ later) h)
+
+-- a document that is too long has its place in the bytes
+too_long_place : (bytes : List ℕ) (at : Place) → IsTooLong bytes at → IsPlaceIn bytes at
+too_long_place bytes at x =
+    let size : length (take most_bytes bytes) ≡ most_bytes = length-take-le most_bytes bytes (omega arith) in
+    let same : take (length (take most_bytes bytes)) bytes ≡ take most_bytes bytes = ap (λ n. take n bytes) size in
+    subst (IsPlaceIn bytes) (sym x.1) (record { within = omega arith; line = ap (λ w. 1 + count_by (λ b. b == 10) w) (sym same) })
+
+-- A refusal has its place in the bytes.
+pub refused_place : (l : Language) (bytes : List ℕ) (why : Reason) (at : Place) → IsRefusedFor why l bytes true at → IsPlaceIn bytes at
+refused_place l bytes why at h = by why h
+  where
+    stop : (ahead : List Token) (o : Outcome) → StopsAt l (reading_of l bytes true) o at ahead → IsPlaceIn bytes at
+    stop ahead o s = subst (IsPlaceIn bytes) s.place (places l.dialect l.limit bytes true).1
+
+    token : (ahead later : List Token) (t : Token) → (reading_of l bytes true).tokens ≡ ahead ++ t ∷ later → t.at ≡ at → IsPlaceIn bytes at
+    token ahead later t s p = subst (IsPlaceIn bytes) p (all_at (StandsIn bytes) ahead later (reading_of l bytes true).tokens t s (places l.dialect l.limit bytes true).0).place
+
+    by : (why : Reason) → IsRefusedFor why l bytes true at → IsPlaceIn bytes at
+    by BadUtf8 (ahead, s) = stop ahead _ s
+    by NoToken (ahead, s) = stop ahead _ s
+    by BadEscape (ahead, s) = stop ahead _ s
+    by TokenTooLong (ahead, s) = stop ahead _ s
+    by DocumentTooLong x = too_long_place bytes at x.0
+    by Memory (ahead, s) = absurd s
+    by Ended (ahead, s) = absurd s
+    by Sink (ahead, s) = absurd s
+    by why (ahead, s) = token ahead s.after s.token s.tokens s.place
 
 -- What is converted is a good line.
 pub converted_good : (form : LineForm) (limit iri : ℕ) (f : Form) (g : Option (List ℕ)) (first : Bool) (bytes old new : List ℕ) (s : Summary) → old ≡ [] → (first ≡ false → HasNoMark bytes) →
@@ -343,9 +442,9 @@ converted_good form limit iri f g first bytes old new s none mark a = (
   a.counts.quads,
 )
 
--- what is known of a source
-pub known : (P : List ℕ → Type 0) (o : Option (List ℕ)) (bytes : List ℕ) → o ≡ Some bytes → IfSome o P → P bytes
-known P o bytes e h = let x : IfSome (Some bytes) P = subst (λ o. IfSome o P) e h in x
+-- what is known of an option's value
+pub known : {X : Type 0} (P : X → Type 0) (o : Option X) (x : X) → o ≡ Some x → IfSome o P → P x
+known P o x e h = let y : IfSome (Some x) P = subst (λ o. IfSome o P) e h in y
 
 -- bytes that begin with a mark have one
 pub mark_had : (bytes : List ℕ) → HasMarkBytes bytes → has_byte_order_mark (good bytes) ≡ true
@@ -388,7 +487,7 @@ feed_one b = one (cond (b == 10) 1 0)
     one n = omega arith
 
 -- those of a byte and of the others
-feeds_cons : (b : ℕ) (w : List ℕ) → feeds (b ∷ w) ≡ cond (b == 10) 1 0 + feeds w
+pub feeds_cons : (b : ℕ) (w : List ℕ) → feeds (b ∷ w) ≡ cond (b == 10) 1 0 + feeds w
 feeds_cons b w = feeds-append (b ∷ []) w ∙ ap (λ n. n + feeds w) (feed_one b)
 
 -- up to the first there is none
@@ -419,14 +518,57 @@ few_feeds (b ∷ w) = let h = few_feeds w in let e = feeds_cons b w in let c = o
     one false = omega arith
 
 -- lines are sifted in part, and others come after them
-pub fails_more : {A D B : Type 0} (takes : drain.Ghosts D) (sets : drain.Ghosts B) (f : StreamFault) (old new : Sieve A) (d d' : D) (b b' : B) (xs ys : List (List ℕ)) →
-    SiftFails takes sets f old d b xs new d' b' → SiftFails takes sets f old d b (xs ++ ys) new d' b'
-fails_more takes sets fault.Write old new d d' b b' xs ys (failed, ahead, later, split, q) = (failed, ahead, later ++ ys, ap (λ z. z ++ ys) split ∙ append_assoc ahead later ys, q)
-fails_more takes sets fault.Memory old new d d' b b' xs ys (ahead, later, split, q) = (ahead, later ++ ys, ap (λ z. z ++ ys) split ∙ append_assoc ahead later ys, q)
-fails_more takes sets (fault.Refused f) old new d d' b b' xs ys h = absurd h
-fails_more takes sets fault.Read old new d d' b b' xs ys h = absurd h
+pub fails_more : {A D B : Type 0} (takes : drain.Ghosts D) (sets : drain.Ghosts B) (start : Place) (f : StreamFault) (old new : Sieve A) (d d' : D) (b b' : B) (xs ys : List (List ℕ)) →
+    SiftFails takes sets f start old d b xs new d' b' → SiftFails takes sets f start old d b (xs ++ ys) new d' b'
+fails_more takes sets start fault.Write old new d d' b b' xs ys (failed, ahead, later, split, q) = (failed, ahead, later ++ ys, ap (λ z. z ++ ys) split ∙ append_assoc ahead later ys, q)
+fails_more takes sets start fault.Memory old new d d' b b' xs ys (ahead, later, split, q) = (ahead, later ++ ys, ap (λ z. z ++ ys) split ∙ append_assoc ahead later ys, q)
+fails_more takes sets start (fault.Refused f) old new d d' b b' xs ys h = absurd h
+fails_more takes sets start fault.Read old new d d' b b' xs ys h = absurd h
 
 -- what a refusal tells of the bytes of a source
 pub refusal : (r : StreamFault) (f : Fault) → r ≡ fault.Refused f → (job : Conversion) (o : Option (List ℕ)) (left : Reading) (old new : Option (List ℕ)) (failed : Bool) → StopsFor r job o left old new failed →
     IfSome o (λ bytes. RefusesDocument f.reason job bytes true (place_of f) old new)
 refusal r f e job o left old new failed h = let x : StopsFor (fault.Refused f) job o left old new failed = subst (λ r. StopsFor r job o left old new failed) e h in x.1
+
+-- places are equal where their numbers are
+pub place_same : (p q : Place) → p.offset ≡ q.offset → p.line ≡ q.line → p ≡ q
+place_same p q a b =
+    let z : (let x : Place = record { offset = p.offset; line = p.line } in x) ≡ record { offset = q.offset; line = q.line } = cc in z
+
+-- the place after some bytes and others
+after_append : (p : Place) (v w : List ℕ) → place_after p (v ++ w) ≡ place_after (place_after p v) w
+after_append p v w =
+    place_same (place_after p (v ++ w)) (place_after (place_after p v) w) (let l = length-append v w in omega (arith, l))
+    (let l : feeds (v ++ w) ≡ feeds v + feeds w = feeds-append v w in omega (arith, l))
+
+-- the place after some lines is that after their bytes
+pub past_concat : (p : Place) (xs : List (List ℕ)) → place_past p xs ≡ place_after p (concat xs)
+past_concat p [] = place_same p (place_after p []) (omega arith) (omega arith)
+past_concat p (x ∷ xs) = past_concat (place_after p x) xs ∙ sym (after_append p x (concat xs))
+
+-- and so is that after more of them
+pub past_more : (p : Place) (xs : List (List ℕ)) (x : List ℕ) → place_past p (xs ++ x ∷ []) ≡ place_after (place_past p xs) x
+past_more p [] x = refl
+past_more p (y ∷ xs) x = past_more (place_after p y) xs x
+
+-- a fault of a line fits behind the place where the line begins
+pub fault_fits : (w : List ℕ) (f : Fault) → IsPlaceIn w (place_of f) → (f.offset ≤ length w) × (f.line ≤ f.offset + 1) × (0 < f.line)
+fault_fits w f p =
+    let n : f.offset ≤ length w = p.within in
+    let l : f.line ≡ 1 + feeds (take f.offset w) = p.line in
+    let k = few_feeds (take f.offset w) in
+    let t = length-take f.offset w in (n, omega (arith, l, k, t), omega (arith, l))
+
+-- the front of some bytes fits where they fit, and behind it the rest does
+pub room_left : (at : LineStart) (w : List ℕ) (n : ℕ) → HasRoom at w → HasRoom at (take n w) × ((next : LineStart) → start_of next ≡ place_after (start_of at) (take n w) → HasRoom next (drop n w))
+room_left at w n room =
+    let few = room.few in
+    let lines = room.lines in
+    let t = length-take n w in
+    let d = length-drop n w in
+    let k = few_feeds (take n w) in (
+      record { few = omega (arith, few, t); lines = lines },
+      λ next e.
+          let o : next.offset ≡ at.offset + length (take n w) = ap (λ (p : Place). p.offset) e in
+          let l : next.line ≡ at.line + feeds (take n w) = ap (λ (p : Place). p.line) e in record { few = omega (arith, few, t, d, o); lines = omega (arith, lines, k, o, l) },
+    )

@@ -1,5 +1,5 @@
 -- A run that goes on after bad lines: what it has done after each piece, and at the end.
-use Rattle.std.proofs.Common.{◌≡◌, ℕ, suc, ◌+◌, ◌<◌, ◌≤◌, ◌-◌, Bool, true, false, List, [], ◌∷◌, ◌++◌, ◌⊎◌, inl, inr, Option, refl, sym, ap, ◌∙◌, subst, ⊎_elim, append_assoc, length, take, count_by, ◌==◌, arith, length-append, length-take}
+use Rattle.std.proofs.Common.{◌≡◌, ℕ, suc, ◌+◌, ◌<◌, ◌≤◌, ◌-◌, ◌||◌, cond, Bool, true, false, List, [], ◌∷◌, ◌++◌, ◌⊎◌, inl, inr, Option, refl, sym, ap, ◌∙◌, subst, ⊎_elim, append_assoc, length, take, count_by, ◌==◌, arith, length-append, length-take}
 use Rattle.std.specs.Io.KnownBytes.{Appends, Keeps}
 use Rattle.std.specs.List.{AllByRecursion, concat}
 use Rattle.std.proofs.KnownBytes.{Appends-kept, Appends-nil, Consumes-whole}
@@ -7,7 +7,7 @@ use Rattle.std.proofs.lemmas.List.{append-nil}
 use Rattle.std.proofs.lemmas.List.Folds.{concat-append}
 use Rattle.rdf_terms.specs.Terms.{Quad}
 use Rattle.rdf_terms.specs.declared.kind.Dialect.TheVariants.{Lines}
-use Rattle.rdf_tokens.specs.Good.{end_of, tokens_of}
+use Rattle.rdf_tokens.specs.Good.{end_of, first_place, tokens_of}
 use Rattle.rdf_tokens.specs.Grammars.{IsTooLong, counted}
 use Rattle.rdf_tokens.specs.Scans.{most_bytes, place_of}
 use Rattle.rdf_tokens.specs.Tokens.{Place, is_line_end}
@@ -27,6 +27,7 @@ use Rattle.rdf_stream.specs.declared.devices.Drain as drain
 use Rattle.rdf_stream.specs.declared.fault.StreamFault.{StreamFault}
 use Rattle.rdf_stream.specs.declared.fault.StreamFault.TheVariants as fault
 use Rattle.rdf_stream.specs.declared.output.OutputView.{OutputView}
+use Rattle.rdf_stream.specs.declared.sieve.LineStart.{LineStart}
 use Rattle.rdf_stream.specs.declared.sieve.Sieve.{Sieve}
 use Rattle.rdf_stream.specs.declared.skips.Held.{Held}
 use Rattle.rdf_stream.specs.declared.skips.SkipSummary.{SkipSummary}
@@ -38,18 +39,27 @@ use Rattle.rdf_stream.specs.declared.form.Kind.TheVariants.{Line}
 use Rattle.rdf_stream.specs.Languages.{Conversion, conversion_of, output, put_quads}
 use Rattle.rdf_stream.specs.Pieces.{ReadStops, ReadsAll, SourceFails}
 use Rattle.rdf_stream.specs.Outputs.{output_of}
-use Rattle.rdf_stream.specs.Sieves.{Begins, HasSifted, Holds, IsEndedFront, IsSkipping, RefusesPiece, SiftFails, SiftFrontFails, SiftsFront, SkipEnds, SkipHalts, job_of}
-use Rattle.rdf_stream.specs.Skips.{PutsAside, PutsFrontAside, SkipStops, Skips, SkipsAll, SkipsEnded, counted_up}
+use Rattle.rdf_stream.specs.Sieves.{Begins, HasRoom, HasSifted, Holds, IsEndedFront, IsSkipping, RefusesPiece, SiftFails, SiftFrontFails, SiftsFront, SkipEnds, SkipHalts, job_of, place_past, start_of}
+use Rattle.rdf_stream.specs.Skips.{IsAside, PutsAside, PutsFrontAside, SkipStops, Skips, SkipsAll, SkipsEnded, counted_up, place_after}
 use Rattle.rdf_stream.proofs.ConvertingLemmas.{graph_had, placed_ascii, placed_writable}
 use Rattle.rdf_stream.proofs.ConvertsLemmas.{lines_job}
 use Rattle.rdf_stream.proofs.LineCuts.{split_append}
 use Rattle.rdf_stream.proofs.PiecesLemmas.{none_given}
-use Rattle.rdf_stream.proofs.SieveLemmas.{feeds, fails_then, sifted_none, sifted_then, whole_front}
+use Rattle.rdf_stream.proofs.SieveLemmas.{feeds, feeds_cons, few_feeds, fails_then, past_concat, place_same, sifted_none, sifted_then, whole_front}
 
 -- bytes that are not none are some
 pub some_bytes : (w : List ℕ) → (length w == 0) ≡ false → 0 < length w
 some_bytes [] e = absurd (let z : true ≡ false = e in cc)
 some_bytes (c ∷ w) e = omega arith
+
+-- without a line end there is no line feed
+no_feeds : (w : List ℕ) → AllByRecursion (λ b. is_line_end b ≡ false) w → feeds w ≡ 0
+no_feeds [] a = refl
+no_feeds (b ∷ w) a = let n = no_feeds w a.1 in let e : feeds (b ∷ w) ≡ 0 + feeds w = feeds_cons b w ∙ ap (λ t. cond t 1 0 + feeds w) (neither (b == 10) (b == 13) a.0) in omega (arith, n, e)
+  where
+    neither : (x y : Bool) → (x || y) ≡ false → x ≡ false
+    neither true y e = e
+    neither false y e = refl
 
 -- of two texts without a line end neither has one together
 no_ends : (u v : List ℕ) → AllByRecursion (λ b. is_line_end b ≡ false) u → AllByRecursion (λ b. is_line_end b ≡ false) v → AllByRecursion (λ b. is_line_end b ≡ false) (u ++ v)
@@ -63,10 +73,6 @@ take_past (c ∷ u) v n =
     let e : length (c ∷ u) + n ≡ suc (length u + n) = omega arith in
     ap (λ k. take k (c ∷ u ++ v)) e ∙ ap (λ w. c ∷ w) (take_past u v n)
 
--- equal offsets and lines are one place
-place_same : (p : Place) (n k : ℕ) → p.offset ≡ n → p.line ≡ k → p ≡ record { offset = n; line = k }
-place_same p n k a b = let z : (let q : Place = record { offset = p.offset; line = p.line } in q) ≡ record { offset = n; line = k } = cc in z
-
 -- the place of a fault after as many bytes as a document has
 too_long : (bytes piece : List ℕ) (at : Place) (n line : ℕ) → n ≡ length bytes → line ≡ 1 + feeds bytes → length bytes ≤ most_bytes → most_bytes < n + length piece →
     at.offset ≡ most_bytes → at.line ≡ line + feeds (take (most_bytes - n) piece) → IsTooLong (bytes ++ piece) at
@@ -78,7 +84,7 @@ too_long bytes piece at n line count lines few many offset place =
     let size : length more ≡ room = let t = length-take room piece in omega (arith, t, count, few, many) in
     let a : at.offset ≡ length (bytes ++ more) = let l = length-append bytes more in omega (arith, offset, l, size, fits) in
     let b : at.line ≡ 1 + count_by (λ b. b == 10) (bytes ++ more) = let l : feeds (bytes ++ more) ≡ feeds bytes + feeds more = feeds-append bytes more in omega (arith, place, lines, l) in
-    (let l = length-append bytes piece in omega (arith, l, count, many), place_same at (length (bytes ++ more)) (1 + count_by (λ b. b == 10) (bytes ++ more)) a b ∙ ap end_of (sym front))
+    (let l = length-append bytes piece in omega (arith, l, count, many), place_same at (end_of (bytes ++ more)) a b ∙ ap end_of (sym front))
 
 -- What was written for a document within the limits is what `convert` writes.
 converted : (form : LineForm) (limit iri : ℕ) (out : OutputView) → out.lines.style ≡ Kept → (bytes : List ℕ) (qs : List Quad) → IsDocumentWithin (in_lines form limit iri) bytes qs → (old new : Option (List ℕ)) →
@@ -120,29 +126,29 @@ module _ {A D B : Type 0} (takes : drain.Ghosts D) (sets : drain.Ghosts B) where
     whole = sym p;
     lines = λ more. ap (λ w. split_lines (w ++ more)) (sym p);
     no_end = subst (AllByRecursion (λ b. is_line_end b ≡ false)) (sym p) tt;
-    sifted = sifted_none takes sets first.0.sieve first.1 first.2 live bad;
+    sifted = sifted_none takes sets first_place first.0.sieve first.1 first.2 live bad;
     count = n;
     line = l;
     few = omega arith;
   }
 
   -- a piece that ends no line
-  pub front_none : (old : Held A) (d : D) (b : B) (front : List ℕ) → length front ≡ 0 → takes.has_failed d ≡ false → sets.has_failed b ≡ false → SiftsFront takes sets old d b front old d b
-  front_none old d b [] e live bad = record {
+  pub front_none : (start : Place) (old : Held A) (d : D) (b : B) (front : List ℕ) → length front ≡ 0 → takes.has_failed d ≡ false → sets.has_failed b ≡ false → SiftsFront takes sets start old d b front old d b
+  front_none start old d b [] e live bad = record {
     lines = [];
-    sifted = sifted_none takes sets old.sieve d b live bad;
+    sifted = sifted_none takes sets start old.sieve d b live bad;
     split = λ more. refl;
     whole = append-nil old.part.items;
     no_end = λ h. h;
     count = refl;
     line = refl;
   }
-  front_none old d b (c ∷ w) e live bad = absurd (let z : length (c ∷ w) ≡ 0 = e in omega arith)
+  front_none start old d b (c ∷ w) e live bad = absurd (let z : length (c ∷ w) ≡ 0 = e in omega arith)
 
   -- a piece whose lines were sifted
-  pub front_sifted : (old new : Held A) (d d' : D) (b b' : B) (front block : List ℕ) → block ≡ old.part.items ++ front → IsEndedFront front → 0 < length front →
-      HasSifted takes sets old.sieve d b (split_lines block) new.sieve d' b' → new.part.items ≡ [] → new.bytes ≡ old.bytes → new.line ≡ old.line → SiftsFront takes sets old d b front new d' b'
-  front_sifted old new d d' b b' front block e ended l h p n k = record {
+  pub front_sifted : (start : Place) (old new : Held A) (d d' : D) (b b' : B) (front block : List ℕ) → block ≡ old.part.items ++ front → IsEndedFront front → 0 < length front →
+      HasSifted takes sets start old.sieve d b (split_lines block) new.sieve d' b' → new.part.items ≡ [] → new.bytes ≡ old.bytes → new.line ≡ old.line → SiftsFront takes sets start old d b front new d' b'
+  front_sifted start old new d d' b b' front block e ended l h p n k = record {
     lines = split_lines block;
     sifted = h;
     split = λ more. block_split old.part.items front block more e ended l ∙ ap (λ w. split_lines block ++ split_lines (w ++ more)) (sym p);
@@ -153,25 +159,25 @@ module _ {A D B : Type 0} (takes : drain.Ghosts D) (sets : drain.Ghosts B) where
   }
 
   -- not all of them were
-  pub front_fails : (f : StreamFault) (old new : Held A) (d d' : D) (b b' : B) (front block : List ℕ) → block ≡ old.part.items ++ front → IsEndedFront front → 0 < length front →
-      SiftFails takes sets f old.sieve d b (split_lines block) new.sieve d' b' → SiftFrontFails takes sets f old d b front new d' b'
-  front_fails f old new d d' b b' front block e ended l h = record {
+  pub front_fails : (start : Place) (f : StreamFault) (old new : Held A) (d d' : D) (b b' : B) (front block : List ℕ) → block ≡ old.part.items ++ front → IsEndedFront front → 0 < length front →
+      SiftFails takes sets f start old.sieve d b (split_lines block) new.sieve d' b' → SiftFrontFails takes sets f start old d b front new d' b'
+  front_fails start f old new d d' b b' front block e ended l h = record {
     lines = split_lines block;
     split = λ more. (split_lines more, block_split old.part.items front block more e ended l);
     fails = h;
   }
 
   -- or none of them
-  pub front_memory : (old new : Held A) (d : D) (b : B) (front : List ℕ) → new.sieve ≡ old.sieve → takes.has_failed d ≡ false → sets.has_failed b ≡ false → SiftFrontFails takes sets fault.Memory old d b front new d b
-  front_memory old new d b front e live bad = record {
+  pub front_memory : (start : Place) (old new : Held A) (d : D) (b : B) (front : List ℕ) → new.sieve ≡ old.sieve → takes.has_failed d ≡ false → sets.has_failed b ≡ false → SiftFrontFails takes sets fault.Memory start old d b front new d b
+  front_memory start old new d b front e live bad = record {
     lines = [];
     split = λ more. (split_lines (old.part.items ++ (front ++ more)), refl);
-    fails = ([], [], refl, subst (λ s. HasSifted takes sets old.sieve d b [] s d b) (sym e) (sifted_none takes sets old.sieve d b live bad));
+    fails = ([], [], refl, subst (λ s. HasSifted takes sets start old.sieve d b [] s d b) (sym e) (sifted_none takes sets start old.sieve d b live bad));
   }
 
   -- the last part of a line, where there is none
-  pub rest_none : (old : Held A) (d : D) (b : B) → length old.part.items ≡ 0 → takes.has_failed d ≡ false → sets.has_failed b ≡ false → HasSifted takes sets old.sieve d b (split_lines old.part.items) old.sieve d b
-  rest_none old d b e live bad = subst (λ ls. HasSifted takes sets old.sieve d b ls old.sieve d b) (sym (empty old.part.items e)) (sifted_none takes sets old.sieve d b live bad)
+  pub rest_none : (start : Place) (old : Held A) (d : D) (b : B) → length old.part.items ≡ 0 → takes.has_failed d ≡ false → sets.has_failed b ≡ false → HasSifted takes sets start old.sieve d b (split_lines old.part.items) old.sieve d b
+  rest_none start old d b e live bad = subst (λ ls. HasSifted takes sets start old.sieve d b ls old.sieve d b) (sym (empty old.part.items e)) (sifted_none takes sets start old.sieve d b live bad)
     where
       empty : (w : List ℕ) → length w ≡ 0 → split_lines w ≡ []
       empty [] e = refl
@@ -179,19 +185,19 @@ module _ {A D B : Type 0} (takes : drain.Ghosts D) (sets : drain.Ghosts B) where
 
   module _ (first : Held A × D × B) (bytes : List ℕ) (old : Held A) (d : D) (b : B) (i : IsSkipping takes sets first bytes (old, d, b)) where
     -- what was sifted from the first line on
-    from_first : (lines : List (List ℕ)) (s t : Option (List ℕ)) (u v : Option (List ℕ)) → PutsAside (job_of first.0.sieve) first.0.sieve.is_first lines s t u v → PutsAside (job_of first.0.sieve) true lines s t u v
-    from_first lines s t u v h = subst (λ f. PutsAside (job_of first.0.sieve) f lines s t u v) i.begins.fresh h
+    from_first : (lines : List (List ℕ)) (s t : Option (List ℕ)) (u v : Option (List ℕ)) → PutsAside (job_of first.0.sieve) first.0.sieve.is_first first_place lines s t u v → PutsAside (job_of first.0.sieve) true first_place lines s t u v
+    from_first lines s t u v h = subst (λ f. PutsAside (job_of first.0.sieve) f first_place lines s t u v) i.begins.fresh h
 
     -- where not all lines of some bytes were sifted, the run halts
     halts_of : (f : StreamFault) (all : List ℕ) (e : Bool) (lines later : List (List ℕ)) (new : Held A) (d' : D) (b' : B) → split_lines all ≡ lines ++ later →
-        SiftFails takes sets f first.0.sieve first.1 first.2 lines new.sieve d' b' → SkipHalts takes sets f first all e (new, d', b')
+        SiftFails takes sets f first_place first.0.sieve first.1 first.2 lines new.sieve d' b' → SkipHalts takes sets f first all e (new, d', b')
     halts_of fault.Write all e lines later new d' b' s (failed, ahead, more, split, q) = (
       failed,
       record {
         ahead = ahead;
         later = more ++ later;
         lines = s ∙ (ap (λ z. z ++ later) split ∙ append_assoc ahead more later);
-        aside = subst (λ f. PutsFrontAside (job_of first.0.sieve) f ahead (takes.contents first.1) (takes.contents d') (sets.contents first.2) (sets.contents b')) i.begins.fresh q;
+        aside = subst (λ f. PutsFrontAside (job_of first.0.sieve) f first_place ahead (takes.contents first.1) (takes.contents d') (sets.contents first.2) (sets.contents b')) i.begins.fresh q;
       },
     )
     halts_of fault.Memory all e lines later new d' b' s (ahead, more, split, h) = (
@@ -206,6 +212,42 @@ module _ {A D B : Type 0} (takes : drain.Ghosts D) (sets : drain.Ghosts B) where
     )
     halts_of (fault.Refused f) all e lines later new d' b' s h = absurd h
     halts_of fault.Read all e lines later new d' b' s h = absurd h
+
+    -- where the part of a line that is held begins
+    module _ (start : LineStart) (offset : start.offset ≡ old.bytes - length old.part.items) (line : start.line ≡ old.line) where
+      sizes : length bytes ≡ length (concat i.ahead) + length old.part.items
+      sizes = ap length i.whole ∙ length-append (concat i.ahead) old.part.items
+
+      lines_before : start.line ≡ 1 + feeds (concat i.ahead)
+      lines_before =
+          let a : old.line ≡ 1 + feeds bytes = i.line in
+          let l : feeds bytes ≡ feeds (concat i.ahead) + feeds old.part.items = ap feeds i.whole ∙ feeds-append (concat i.ahead) old.part.items in
+          let n = no_feeds old.part.items i.no_end in omega (arith, a, l, n, line)
+
+      bytes_before : start.offset ≡ length (concat i.ahead)
+      bytes_before = let s = sizes in let n : old.bytes ≡ length bytes = i.count in omega (arith, offset, s, n)
+
+      pub held_start : start_of start ≡ place_past first_place i.ahead
+      held_start =
+          let a = bytes_before in
+          let b = lines_before in
+          place_same (start_of start) (place_after first_place (concat i.ahead)) (omega (arith, a)) (omega (arith, b)) ∙ sym (past_concat first_place i.ahead)
+
+      -- from there on what is held and the front of a piece fit
+      pub held_room : (front : List ℕ) → old.bytes + length front ≤ most_bytes → HasRoom start (old.part.items ++ front)
+      held_room front few =
+          let s = sizes in
+          let a = bytes_before in
+          let b = lines_before in
+          let k = few_feeds (concat i.ahead) in
+          let n : old.bytes ≡ length bytes = i.count in
+          let l = length-append old.part.items front in record { few = omega (arith, few, s, a, n, l); lines = omega (arith, a, b, k) }
+
+    -- what is held is among the bytes
+    pub held_few : length old.part.items ≤ old.bytes
+    held_few =
+        let s : length bytes ≡ length (concat i.ahead) + length old.part.items = ap length i.whole ∙ length-append (concat i.ahead) old.part.items in
+        let n : old.bytes ≡ length bytes = i.count in omega (arith, s, n)
 
     module _ (piece : List ℕ) where
       abbrev next : Held A
@@ -240,19 +282,21 @@ module _ {A D B : Type 0} (takes : drain.Ghosts D) (sets : drain.Ghosts B) where
         lines_without = i.lines piece ∙ ap (λ w. i.ahead ++ split_lines (old.part.items ++ w)) whole
 
         -- a fault while the lines of a piece are sifted
-        pub front_halts : (f : StreamFault) (new : Held A) (d' : D) (b' : B) → SiftFrontFails takes sets f mid d b front new d' b' → SkipHalts takes sets f first (bytes ++ piece) false (new, d', b')
-        front_halts f new d' b' h' =
-            let h : SiftFrontFails takes sets f next d b front new d' b' = subst (λ m. SiftFrontFails takes sets f m d b front new d' b') counted_on h' in
+        pub front_halts : (f : StreamFault) (start : Place) (new : Held A) (d' : D) (b' : B) → start ≡ place_past first_place i.ahead → SiftFrontFails takes sets f start mid d b front new d' b' →
+            SkipHalts takes sets f first (bytes ++ piece) false (new, d', b')
+        front_halts f start new d' b' at h' =
+            let k : SiftFrontFails takes sets f start next d b front new d' b' = subst (λ m. SiftFrontFails takes sets f start m d b front new d' b') counted_on h' in
+            let h : SiftFrontFails takes sets f (place_past first_place i.ahead) next d b front new d' b' = subst (λ (p : Place). SiftFrontFails takes sets f p next d b front new d' b') at k in
             let s = h.split rest in
             halts_of f (bytes ++ piece) false (i.ahead ++ h.lines) s.0 new d' b' (lines_without ∙ (ap (λ z. i.ahead ++ z) s.1 ∙ sym (append_assoc i.ahead h.lines s.0)))
-            (fails_then takes sets f first.0.sieve old.sieve new.sieve first.1 d d' first.2 b b' i.ahead h.lines i.sifted h.fails)
+            (fails_then takes sets first_place f first.0.sieve old.sieve new.sieve first.1 d d' first.2 b b' i.ahead h.lines i.sifted h.fails)
 
-        module _ (m : Held A) (d' : D) (b' : B) (s' : SiftsFront takes sets mid d b front m d' b') where
-          abbrev s : SiftsFront takes sets next d b front m d' b'
-          s = subst (λ k. SiftsFront takes sets k d b front m d' b') counted_on s'
+        module _ (start : Place) (at : start ≡ place_past first_place i.ahead) (m : Held A) (d' : D) (b' : B) (s' : SiftsFront takes sets start mid d b front m d' b') where
+          abbrev s : SiftsFront takes sets (place_past first_place i.ahead) next d b front m d' b'
+          s = subst (λ (p : Place). SiftsFront takes sets p next d b front m d' b') at (subst (λ k. SiftsFront takes sets start k d b front m d' b') counted_on s')
 
-          all_sifted : HasSifted takes sets first.0.sieve first.1 first.2 (i.ahead ++ s.lines) m.sieve d' b'
-          all_sifted = sifted_then takes sets first.0.sieve old.sieve m.sieve first.1 d d' first.2 b b' i.ahead s.lines i.sifted s.sifted
+          all_sifted : HasSifted takes sets first_place first.0.sieve first.1 first.2 (i.ahead ++ s.lines) m.sieve d' b'
+          all_sifted = sifted_then takes sets first_place first.0.sieve old.sieve m.sieve first.1 d d' first.2 b b' i.ahead s.lines i.sifted s.sifted
 
           -- want of memory after that
           pub hold_halts : (f : StreamFault) (new : Held A) → f ≡ fault.Memory → new.sieve ≡ m.sieve → SkipHalts takes sets f first (bytes ++ piece) false (new, d', b')
@@ -260,7 +304,7 @@ module _ {A D B : Type 0} (takes : drain.Ghosts D) (sets : drain.Ghosts B) where
               subst (λ f. SkipHalts takes sets f first (bytes ++ piece) false (new, d', b')) (sym e)
               (halts_of fault.Memory (bytes ++ piece) false (i.ahead ++ s.lines) (split_lines (m.part.items ++ rest)) new d' b'
               (lines_without ∙ (ap (λ z. i.ahead ++ z) (s.split rest) ∙ sym (append_assoc i.ahead s.lines (split_lines (m.part.items ++ rest)))))
-              (i.ahead ++ s.lines, [], sym (append-nil (i.ahead ++ s.lines)), subst (λ x. HasSifted takes sets first.0.sieve first.1 first.2 (i.ahead ++ s.lines) x d' b') (sym k) all_sifted))
+              (i.ahead ++ s.lines, [], sym (append-nil (i.ahead ++ s.lines)), subst (λ x. HasSifted takes sets first_place first.0.sieve first.1 first.2 (i.ahead ++ s.lines) x d' b') (sym k) all_sifted))
 
           -- A piece was taken.
           pub piece_taken : (tail : List ℕ) (new : Held A) → tail ≡ rest → AllByRecursion (λ b. is_line_end b ≡ false) rest → old.bytes + length piece ≤ most_bytes → Holds m tail new → IsSkipping takes sets first (bytes ++ piece) (new, d', b')
@@ -279,7 +323,7 @@ module _ {A D B : Type 0} (takes : drain.Ghosts D) (sets : drain.Ghosts B) where
                     ∙ (ap (λ z. i.ahead ++ z) (s.split (rest ++ more) ∙ ap (λ w. s.lines ++ split_lines w) (sym (append_assoc m.part.items rest more) ∙ ap (λ w. w ++ more) (sym part)))
                     ∙ sym (append_assoc i.ahead s.lines (split_lines (new.part.items ++ more))));
                 no_end = subst (AllByRecursion (λ b. is_line_end b ≡ false)) (sym part) (no_ends m.part.items rest (s.no_end i.no_end) n);
-                sifted = subst (λ x. HasSifted takes sets first.0.sieve first.1 first.2 (i.ahead ++ s.lines) x d' b') (sym h.sieve) all_sifted;
+                sifted = subst (λ x. HasSifted takes sets first_place first.0.sieve first.1 first.2 (i.ahead ++ s.lines) x d' b') (sym h.sieve) all_sifted;
                 count = h.count ∙ (s.count ∙ (ap (λ k. k + length piece) i.count ∙ sym (length-append bytes piece)));
                 line = let a : old.line ≡ 1 + feeds bytes = i.line in
                     let l : feeds (bytes ++ piece) ≡ feeds bytes + feeds piece = feeds-append bytes piece in
@@ -294,20 +338,24 @@ module _ {A D B : Type 0} (takes : drain.Ghosts D) (sets : drain.Ghosts B) where
     all_lines = ap split_lines (sym (append-nil bytes)) ∙ (i.lines [] ∙ ap (λ w. i.ahead ++ split_lines w) (append-nil old.part.items))
 
     -- a fault at the last line
-    pub rest_halts : (f : StreamFault) (new : Held A) (d' : D) (b' : B) → SiftFails takes sets f old.sieve d b (split_lines old.part.items) new.sieve d' b' → SkipHalts takes sets f first bytes true (new, d', b')
-    rest_halts f new d' b' h =
+    pub rest_halts : (f : StreamFault) (start : Place) (new : Held A) (d' : D) (b' : B) → start ≡ place_past first_place i.ahead → SiftFails takes sets f start old.sieve d b (split_lines old.part.items) new.sieve d' b' →
+        SkipHalts takes sets f first bytes true (new, d', b')
+    rest_halts f start new d' b' at h' =
+        let h : SiftFails takes sets f (place_past first_place i.ahead) old.sieve d b (split_lines old.part.items) new.sieve d' b' =
+        subst (λ (p : Place). SiftFails takes sets f p old.sieve d b (split_lines old.part.items) new.sieve d' b') at h' in
         halts_of f bytes true (i.ahead ++ split_lines old.part.items) [] new d' b' (all_lines ∙ sym (append-nil (i.ahead ++ split_lines old.part.items)))
-        (fails_then takes sets f first.0.sieve old.sieve new.sieve first.1 d d' first.2 b b' i.ahead (split_lines old.part.items) i.sifted h)
+        (fails_then takes sets first_place f first.0.sieve old.sieve new.sieve first.1 d d' first.2 b b' i.ahead (split_lines old.part.items) i.sifted h)
 
-    module _ (new : Held A) (d' : D) (b' : B) (h : HasSifted takes sets old.sieve d b (split_lines old.part.items) new.sieve d' b') where
-      every : HasSifted takes sets first.0.sieve first.1 first.2 (i.ahead ++ split_lines old.part.items) new.sieve d' b'
-      every = sifted_then takes sets first.0.sieve old.sieve new.sieve first.1 d d' first.2 b b' i.ahead (split_lines old.part.items) i.sifted h
+    module _ (start : Place) (at : start ≡ place_past first_place i.ahead) (new : Held A) (d' : D) (b' : B) (h : HasSifted takes sets start old.sieve d b (split_lines old.part.items) new.sieve d' b') where
+      every : HasSifted takes sets first_place first.0.sieve first.1 first.2 (i.ahead ++ split_lines old.part.items) new.sieve d' b'
+      every = sifted_then takes sets first_place first.0.sieve old.sieve new.sieve first.1 d d' first.2 b b' i.ahead (split_lines old.part.items) i.sifted
+          (subst (λ (p : Place). HasSifted takes sets p old.sieve d b (split_lines old.part.items) new.sieve d' b') at h)
 
       module _ (d2 : D) (b2 : B) (k : Keeps (takes.contents d') (takes.contents d2)) (l : Keeps (sets.contents b') (sets.contents b2)) where
         written_all : Appends (takes.contents first.1) (takes.contents d2) (lines_of (job_of first.0.sieve).form (put_quads (job_of first.0.sieve) every.aside.quads))
         written_all = Appends-kept (takes.contents first.1) (takes.contents d') (takes.contents d2) _ every.aside.written k
 
-        aside_all : Appends (sets.contents first.2) (sets.contents b2) (concat every.aside.bad)
+        aside_all : Appends (sets.contents first.2) (sets.contents b2) every.aside.text
         aside_all = Appends-kept (sets.contents first.2) (sets.contents b') (sets.contents b2) _ every.aside.put_aside l
 
         -- a drain failed to send on what it has
@@ -318,13 +366,15 @@ module _ {A D B : Type 0} (takes : drain.Ghosts D) (sets : drain.Ghosts B) where
             ahead = i.ahead ++ split_lines old.part.items;
             later = [];
             lines = all_lines ∙ sym (append-nil (i.ahead ++ split_lines old.part.items));
-            aside = subst (λ f. PutsFrontAside (job_of first.0.sieve) f (i.ahead ++ split_lines old.part.items) (takes.contents first.1) (takes.contents d2) (sets.contents first.2) (sets.contents b2)) i.begins.fresh
+            aside = subst (λ f. PutsFrontAside (job_of first.0.sieve) f first_place (i.ahead ++ split_lines old.part.items) (takes.contents first.1) (takes.contents d2) (sets.contents first.2) (sets.contents b2)) i.begins.fresh
                 (record {
                   kept = every.aside.kept;
                   bad = every.aside.bad;
                   quads = every.aside.quads;
                   sifts = every.aside.sifts;
                   written = whole_front (takes.contents first.1) (takes.contents d2) _ written_all;
+                  text = every.aside.text;
+                  aside = every.aside.aside;
                   put_aside = whole_front (sets.contents first.2) (sets.contents b2) _ aside_all;
                 });
           },
@@ -338,10 +388,12 @@ module _ {A D B : Type 0} (takes : drain.Ghosts D) (sets : drain.Ghosts B) where
             let style : s.output.lines.style ≡ Kept = sym (ap (λ o. o.lines.style) i.sifted.same.output) ∙ styled in
             let sifts = subst (λ ls. Sifts (job_of s).language true ls every.aside.kept every.aside.bad every.aside.quads) (sym all_lines)
             (subst (λ f. Sifts (job_of s).language f (i.ahead ++ split_lines old.part.items) every.aside.kept every.aside.bad every.aside.quads) i.begins.fresh every.aside.sifts) in
+            let aside = subst (λ ls. IsAside (job_of s).language true first_place ls every.aside.text) (sym all_lines)
+            (subst (λ f. IsAside (job_of s).language f first_place (i.ahead ++ split_lines old.part.items) every.aside.text) i.begins.fresh every.aside.aside) in
             let good = good_read s.form s.limits.token s.limits.iri bytes every.aside.kept every.aside.bad every.aside.quads i.few sifts in
             record {
               skips = record {
-                aside = record { kept = every.aside.kept; bad = every.aside.bad; quads = every.aside.quads; sifts = sifts; written = written_all; put_aside = aside_all };
+                aside = record { kept = every.aside.kept; bad = every.aside.bad; quads = every.aside.quads; sifts = sifts; written = written_all; text = every.aside.text; aside = aside; put_aside = aside_all };
                 converted = converted s.form s.limits.token s.limits.iri s.output style (concat every.aside.kept) every.aside.quads good (takes.contents first.1) (takes.contents d2) written_all;
                 quads = every.counts.quads_counted ∙ (let z = i.begins.no_quads in let e : s.quads + length every.aside.quads ≡ length every.aside.quads = omega (arith, z) in ap counted_up e);
                 bad_lines = every.counts.bad_counted ∙ (let z = i.begins.no_bad_lines in let e : s.bad_lines + length every.aside.bad ≡ length every.aside.bad = omega (arith, z) in ap counted_up e);
@@ -402,7 +454,7 @@ none_skips job left old old_bad failed bad_failed o r f g = (
     ahead = [];
     later = [];
     lines = refl;
-    aside = record { kept = []; bad = []; quads = []; sifts = (refl, refl, refl); written = Appends-nil old; put_aside = Appends-nil old_bad };
+    aside = record { kept = []; bad = []; quads = []; sifts = (refl, refl, refl); written = Appends-nil old; text = []; aside = refl; put_aside = Appends-nil old_bad };
   },
 )
 

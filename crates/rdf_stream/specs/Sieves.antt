@@ -4,10 +4,12 @@ use Rattle.std.specs.Io.KnownBytes.{Appends}
 use Rattle.std.specs.List.{AllByRecursion, concat}
 use Rattle.rdf_terms.specs.Terms.{Quad}
 use Rattle.rdf_terms.specs.declared.reason.Reason.TheVariants.{DocumentTooLong}
-use Rattle.rdf_tokens.specs.Good.{end_of, good, has_byte_order_mark}
+use Rattle.rdf_tokens.specs.Good.{end_of, first_place, good, has_byte_order_mark}
 use Rattle.rdf_tokens.specs.Grammars.{IsTooLong}
 use Rattle.rdf_tokens.specs.Scans.{most_bytes, place_of}
-use Rattle.rdf_tokens.specs.Tokens.{is_line_end}
+use Rattle.rdf_tokens.specs.Laws.{IsPlaceIn}
+use Rattle.rdf_tokens.specs.Tokens.{Place, is_line_end}
+use Rattle.rdf_tokens.specs.declared.token.Fault.{Fault}
 use Rattle.rdf_lines.specs.Documents.{in_lines}
 use Rattle.rdf_lines.specs.SplitLines.{IsBadLine, IsGoodLine, split_lines}
 use Rattle.rdf_stream.specs.declared.devices.Drain as drain
@@ -15,13 +17,16 @@ use Rattle.rdf_stream.specs.declared.fault.StreamFault.{StreamFault}
 use Rattle.rdf_stream.specs.declared.fault.StreamFault.TheVariants as fault
 use Rattle.rdf_stream.specs.declared.sieve.Sieve.{Sieve}
 use Rattle.rdf_stream.specs.declared.sieve.Converted.{Converted}
+use Rattle.rdf_stream.specs.declared.sieve.LineStart.{LineStart}
+use Rattle.rdf_stream.specs.declared.sieve.Tried.{Tried}
+use Rattle.rdf_stream.specs.declared.sieve.Tried.TheVariants.{Bad, Good}
 use Rattle.rdf_stream.specs.declared.skips.Held.{Held}
 use Rattle.rdf_stream.specs.declared.skips.SkipSummary.{SkipSummary}
 use Rattle.rdf_stream.specs.Converts.{lines_of}
 use Rattle.rdf_stream.specs.Devices.{AppendsFront}
 use Rattle.rdf_stream.specs.Languages.{Conversion, put_quads}
 use Rattle.rdf_stream.specs.Outputs.{output_of}
-use Rattle.rdf_stream.specs.Skips.{PutsAside, PutsFrontAside, Skips, SkipsFront, SkipsSome, counted_up}
+use Rattle.rdf_stream.specs.Skips.{IsBadFor, PutsAside, PutsFrontAside, Skips, SkipsFront, SkipsSome, comment_text, counted_up, place_after}
 
 -- what a sieve converts its lines by
 abbrev pub job_of : {A : Type 0} → Sieve A → Conversion
@@ -38,12 +43,37 @@ abbrev pub first_after : Bool → List (List ℕ) → Bool
 first_after first [] = first
 first_after first (x ∷ xs) = false
 
+-- the place in a document at which a line begins
+abbrev pub start_of : LineStart → Place
+start_of s = record { offset = s.offset; line = s.line }
+
+-- from there on the bytes are no more than a document has
+pub record HasRoom (s : LineStart) (bytes : List ℕ) : Type 0 where
+  pub few : s.offset + length bytes ≤ most_bytes
+  pub lines : s.line ≤ s.offset + 1
+
+-- the place after some lines of which the first begins at a place
+abbrev pub place_past : Place → List (List ℕ) → Place
+place_past start [] = start
+place_past start (x ∷ xs) = place_past (place_after start x) xs
+
 -- the bytes are a good line, or lines that are all good, and these are the lines of their quads
 pub record IsConvertedTo {A : Type 0} (s : Sieve A) (bytes : List ℕ) (c : Converted A) : Type 0 where
   pub quads : List Quad
   pub is_good : IsGoodLine (job_of s).language s.is_first bytes quads
   pub lines : c.lines.items ≡ lines_of (job_of s).form (put_quads (job_of s) quads)
   pub count : c.quads ≡ length quads
+
+-- why the bytes are no good line, and no good lines
+pub record IsNoneFor {A : Type 0} (s : Sieve A) (bytes : List ℕ) (f : Fault) : Type 0 where
+  pub is_bad : IsBadLine (job_of s).language s.is_first bytes
+  pub why : IsBadFor (job_of s).language s.is_first bytes f
+  pub place : IsPlaceIn bytes (place_of f)
+
+-- what the bytes are, as a line or as lines
+abbrev pub IsTried : {A : Type 0} → Sieve A → List ℕ → Tried A → Type 0
+IsTried s bytes (Good c) = IsConvertedTo s bytes c
+IsTried s bytes (Bad f) = IsNoneFor s bytes f
 
 -- what was counted of a sieve
 pub record Counts {A : Type 0} (old new : Sieve A) (quads bad : ℕ) : Type 0 where
@@ -92,8 +122,8 @@ pub record PutsGood {A D : Type 0} (takes : drain.Ghosts D) (old : Sieve A) (d :
   pub live : takes.has_failed d' ≡ false
 
 -- They are no good lines, and nothing was done.
-pub record PutsNone {A D : Type 0} (old : Sieve A) (d : D) (bytes : List ℕ) (new : Sieve A) (d' : D) : Type 0 where
-  pub is_bad : IsBadLine (job_of old).language old.is_first bytes
+pub record PutsNone {A D : Type 0} (old : Sieve A) (d : D) (bytes : List ℕ) (f : Fault) (new : Sieve A) (d' : D) : Type 0 where
+  pub why : IsNoneFor old bytes f
   pub sieve : new ≡ old
   pub drain : d' ≡ d
 
@@ -105,23 +135,24 @@ PutGoodFails takes fault.Write old d bytes new d' =
 PutGoodFails takes fault.Memory old d bytes new d' = (new ≡ old) × (d' ≡ d)
 PutGoodFails takes reported old d bytes new d' = ⊥
 
--- a bad line was put aside
-pub record PutsBad {A B : Type 0} (sets : drain.Ghosts B) (old : Sieve A) (b : B) (line : List ℕ) (new : Sieve A) (b' : B) : Type 0 where
-  pub put : Appends (sets.contents b) (sets.contents b') line
+-- a bad line was put aside, with its fault by the place in the document
+pub record PutsBad {A B : Type 0} (sets : drain.Ghosts B) (old : Sieve A) (b : B) (f : Fault) (line : List ℕ) (new : Sieve A) (b' : B) : Type 0 where
+  pub put : Appends (sets.contents b) (sets.contents b') (comment_text f ++ line)
   pub counts : Counts old new 0 1
   pub first : new.is_first ≡ false
   pub same : SameSieve old new
   pub live : sets.has_failed b' ≡ false
 
--- a drain failed, and took a beginning of the bytes
-abbrev pub PutBadFails : {B : Type 0} → drain.Ghosts B → StreamFault → B → List ℕ → B → Type 0
-PutBadFails sets fault.Write b bytes b' = (sets.has_failed b' ≡ true) × AppendsFront (sets.contents b) (sets.contents b') bytes
-PutBadFails sets reported b bytes b' = ⊥
+-- why it was not: a drain failed, and took a beginning of it, or memory was wanting
+abbrev pub PutBadFails : {A B : Type 0} → drain.Ghosts B → StreamFault → Sieve A → B → Fault → List ℕ → Sieve A → B → Type 0
+PutBadFails sets fault.Write old b f line new b' = (sets.has_failed b' ≡ true) × AppendsFront (sets.contents b) (sets.contents b') (comment_text f ++ line)
+PutBadFails sets fault.Memory old b f line new b' = (new ≡ old) × (b' ≡ b)
+PutBadFails sets reported old b f line new b' = ⊥
 
 module _ {A D B : Type 0} (takes : drain.Ghosts D) (sets : drain.Ghosts B) where
-  -- These lines were sifted.
-  pub record HasSifted (old : Sieve A) (d : D) (b : B) (lines : List (List ℕ)) (new : Sieve A) (d' : D) (b' : B) : Type 0 where
-    pub aside : PutsAside (job_of old) old.is_first lines (takes.contents d) (takes.contents d') (sets.contents b) (sets.contents b')
+  -- These lines were sifted, of which the first begins at this place.
+  pub record HasSifted (start : Place) (old : Sieve A) (d : D) (b : B) (lines : List (List ℕ)) (new : Sieve A) (d' : D) (b' : B) : Type 0 where
+    pub aside : PutsAside (job_of old) old.is_first start lines (takes.contents d) (takes.contents d') (sets.contents b) (sets.contents b')
     pub counts : Counts old new (length aside.quads) (length aside.bad)
     pub first : new.is_first ≡ first_after old.is_first lines
     pub same : SameSieve old new
@@ -129,17 +160,17 @@ module _ {A D B : Type 0} (takes : drain.Ghosts D) (sets : drain.Ghosts B) where
     pub bad_live : sets.has_failed b' ≡ false
 
   -- Not all of these lines were sifted, since memory was wanting, or since a drain failed.
-  abbrev pub SiftFails : StreamFault → Sieve A → D → B → List (List ℕ) → Sieve A → D → B → Type 0
-  SiftFails fault.Write old d b lines new d' b' =
+  abbrev pub SiftFails : StreamFault → Place → Sieve A → D → B → List (List ℕ) → Sieve A → D → B → Type 0
+  SiftFails fault.Write start old d b lines new d' b' =
       ((takes.has_failed d' ≡ true) ⊎ (sets.has_failed b' ≡ true)) × (ahead later : List (List ℕ)) × (lines ≡ ahead ++ later)
-      × PutsFrontAside (job_of old) old.is_first ahead (takes.contents d) (takes.contents d') (sets.contents b) (sets.contents b')
-  SiftFails fault.Memory old d b lines new d' b' = (ahead later : List (List ℕ)) × (lines ≡ ahead ++ later) × HasSifted old d b ahead new d' b'
-  SiftFails reported old d b lines new d' b' = ⊥
+      × PutsFrontAside (job_of old) old.is_first start ahead (takes.contents d) (takes.contents d') (sets.contents b) (sets.contents b')
+  SiftFails fault.Memory start old d b lines new d' b' = (ahead later : List (List ℕ)) × (lines ≡ ahead ++ later) × HasSifted start old d b ahead new d' b'
+  SiftFails reported start old d b lines new d' b' = ⊥
 
   -- The lines that the front of a piece ends were sifted, and no part of a line is held any more where there were some.
-  pub record SiftsFront (old : Held A) (d : D) (b : B) (front : List ℕ) (new : Held A) (d' : D) (b' : B) : Type 0 where
+  pub record SiftsFront (start : Place) (old : Held A) (d : D) (b : B) (front : List ℕ) (new : Held A) (d' : D) (b' : B) : Type 0 where
     pub lines : List (List ℕ)
-    pub sifted : HasSifted old.sieve d b lines new.sieve d' b'
+    pub sifted : HasSifted start old.sieve d b lines new.sieve d' b'
     pub split : (more : List ℕ) → split_lines (old.part.items ++ (front ++ more)) ≡ lines ++ split_lines (new.part.items ++ more)
     pub whole : old.part.items ++ front ≡ concat lines ++ new.part.items
     pub no_end : AllByRecursion (λ b. is_line_end b ≡ false) old.part.items → AllByRecursion (λ b. is_line_end b ≡ false) new.part.items
@@ -147,10 +178,10 @@ module _ {A D B : Type 0} (takes : drain.Ghosts D) (sets : drain.Ghosts B) where
     pub line : new.line ≡ old.line
 
   -- Not all of them were.
-  pub record SiftFrontFails (f : StreamFault) (old : Held A) (d : D) (b : B) (front : List ℕ) (new : Held A) (d' : D) (b' : B) : Type 0 where
+  pub record SiftFrontFails (f : StreamFault) (start : Place) (old : Held A) (d : D) (b : B) (front : List ℕ) (new : Held A) (d' : D) (b' : B) : Type 0 where
     pub lines : List (List ℕ)
     pub split : (more : List ℕ) → (later : List (List ℕ)) × (split_lines (old.part.items ++ (front ++ more)) ≡ lines ++ later)
-    pub fails : SiftFails f old.sieve d b lines new.sieve d' b'
+    pub fails : SiftFails f start old.sieve d b lines new.sieve d' b'
 
   -- a run that begins with a document
   pub record Begins (first : Held A × D × B) : Type 0 where
@@ -165,7 +196,7 @@ module _ {A D B : Type 0} (takes : drain.Ghosts D) (sets : drain.Ghosts B) where
     pub whole : bytes ≡ concat ahead ++ now.0.part.items
     pub lines : (more : List ℕ) → split_lines (bytes ++ more) ≡ ahead ++ split_lines (now.0.part.items ++ more)
     pub no_end : AllByRecursion (λ b. is_line_end b ≡ false) now.0.part.items
-    pub sifted : HasSifted first.0.sieve first.1 first.2 ahead now.0.sieve now.1 now.2
+    pub sifted : HasSifted first_place first.0.sieve first.1 first.2 ahead now.0.sieve now.1 now.2
     pub count : now.0.bytes ≡ length bytes
     pub line : now.0.line ≡ (end_of bytes).line
     pub few : length bytes ≤ most_bytes

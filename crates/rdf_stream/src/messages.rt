@@ -65,7 +65,10 @@ fn refusal_line<A: Allocator + Copy>(alloc: A, fault: &Fault) -> Result<Vec<u8, 
     Ok(line)
 }
 
-fn put_refusal<A: Allocator + Copy>(fault: &Fault, line: &mut Vec<u8, A>) -> Result<(), AllocError>
+pub(crate) fn put_refusal<A: Allocator + Copy>(
+    fault: &Fault,
+    line: &mut Vec<u8, A>,
+) -> Result<(), AllocError>
     ensures { OnOk result (line.new.items ≡ line.old.items ++ place_text fault.now) }
 {
     line.extend_from_slice(words(fault.reason).as_bytes())?;

@@ -1,22 +1,28 @@
 // Lines of a line format: good ones are converted, and bad ones are put aside.
 
-ghost use Rattle.std.specs.Prelude.{◌≡◌, ◌<◌, ◌≤◌, [], ◌∷◌, List, ℕ, true, false, length, take, drop, OnErr, IfOk, IfErr, IfSome, None};
-ghost use Rattle.rdf_lines.specs.SplitLines.{IsBadLine, split_lines};
+ghost use Rattle.std.specs.Prelude.{◌≡◌, ◌+◌, ◌<◌, ◌≤◌, ◌++◌, [], ◌∷◌, List, ℕ, true, false, length, take, drop, OnErr, IfOk, IfErr, IfSome, None};
+ghost use Rattle.rdf_tokens.specs.Scans.{most_bytes};
+ghost use Rattle.rdf_lines.specs.SplitLines.{split_lines};
 ghost use Rattle.rdf_lines.specs.declared.form.Style.{Style};
-ghost use Rattle.rdf_stream.specs.Sieves.{HasMarkBytes, HasNoMark, HasSifted, IsConvertedTo, PutBadFails, PutGoodFails, PutsBad, PutsGood, PutsNone, SiftFails, job_of};
+ghost use Rattle.rdf_stream.specs.Sieves.{HasMarkBytes, HasNoMark, HasRoom, HasSifted, IsTried, PutBadFails, PutGoodFails, PutsBad, PutsGood, PutsNone, SiftFails, start_of};
+ghost use Rattle.rdf_stream.specs.Skips.{comment_text, fault_from, place_after};
 ghost use Rattle.rdf_stream.specs.declared.fault.StreamFault.TheVariants.{Memory};
 
 use crate::conversions::convert_with;
 use crate::devices::{Drain, Failed, In};
 use crate::fault::StreamFault;
 use crate::memory::Kept;
+use crate::messages::put_refusal;
 use crate::output::OutputView;
 use crate::put::put_all;
+use crate::skips::line_feeds;
 use memchr::memchr2;
 use rdf_driver::Kinds;
 use rdf_iri::Limits;
 use rdf_lines::{LineForm, line_reader};
-use std::alloc::{Allocator, Global};
+use rdf_terms::Reason;
+use rdf_tokens::Fault;
+use std::alloc::{AllocError, Allocator, Global};
 
 /// What lines are read as, how the quads of the good ones are written, and how many there were.
 #[derive(Drop)]
@@ -36,6 +42,52 @@ pub(crate) struct Sieve<'a, A: Allocator + Copy = Global> {
 struct Converted<A: Allocator = Global> {
     lines: Vec<u8, A>,
     quads: u64,
+}
+
+/// What some bytes are, as a line or as lines.
+#[derive(Drop)]
+enum Tried<A: Allocator = Global> {
+    /// They are all good.
+    Good(Converted<A>),
+    /// They are not, for this reason, at a place that is counted from their first byte.
+    Bad(Fault),
+}
+
+/// Where a line begins in the document.
+#[derive(Clone, Copy)]
+pub(crate) struct LineStart {
+    /// How many bytes come before it.
+    pub(crate) offset: u64,
+    /// Its number: one more than the line feeds before it.
+    pub(crate) line: u64,
+}
+
+impl LineStart {
+    // Where the line behind the bytes begins.
+    fn past(self, bytes: &[u8]) -> LineStart
+        requires room { HasRoom self bytes.now }
+        ensures { start_of result ≡ place_after (start_of self) bytes.now }
+    {
+        LineStart {
+            offset: self.offset + bytes.len() as u64,
+            line: self.line + line_feeds(bytes),
+        }
+    }
+
+    // The fault of a line that begins here, by its place in the document.
+    fn fault(self, fault: Fault) -> Fault
+        requires offset { self.offset + fault.offset ≤ most_bytes }
+        requires line { self.line ≤ self.offset + 1 }
+        requires within { fault.line ≤ fault.offset + 1 }
+        requires first { 0 < fault.line }
+        ensures { result ≡ fault_from (start_of self) fault }
+    {
+        Fault {
+            reason: fault.reason,
+            offset: self.offset + fault.offset,
+            line: self.line + (fault.line - 1),
+        }
+    }
 }
 
 impl<'a, A: Allocator + Copy> Sieve<'a, A> {
@@ -64,23 +116,25 @@ impl<'a, A: Allocator + Copy> Sieve<'a, A> {
         }
     }
 
-    /// Sifts the lines of a block, which are tried at once first.
+    /// Sifts the lines of a block that begins there, which are tried at once first.
     pub(crate) fn sift<D: Drain, B: Drain>(
         &mut self,
+        start: LineStart,
         block: &[u8],
         drain: &mut D,
         bad: &mut B,
     ) -> Result<(), StreamFault>
         requires styled { self.old.output.lines.style ≡ Style.Kept }
         requires some { 0 < length block.now }
+        requires room { HasRoom start block.now }
         requires live { D.has_failed drain.old ≡ false }
         requires bad_live { B.has_failed bad.old ≡ false }
-        ensures sifted { IfOk result (λ _. HasSifted D.Drain B.Drain self.old drain.old bad.old (split_lines block.now) self.new drain.new bad.new) }
-        ensures fails { IfErr result (λ f. SiftFails D.Drain B.Drain f self.old drain.old bad.old (split_lines block.now) self.new drain.new bad.new) }
+        ensures sifted { IfOk result (λ _. HasSifted D.Drain B.Drain (start_of start) self.old drain.old bad.old (split_lines block.now) self.new drain.new bad.new) }
+        ensures fails { IfErr result (λ f. SiftFails D.Drain B.Drain f (start_of start) self.old drain.old bad.old (split_lines block.now) self.new drain.new bad.new) }
     {
         match self.put_good(block, drain) {
-            Ok(true) => Ok(()),
-            Ok(false) => self.sift_each(block, drain, bad),
+            Ok(None) => Ok(()),
+            Ok(Some(_)) => self.sift_each(start, block, drain, bad),
             Err(fault) => Err(fault),
         }
     }
@@ -88,23 +142,27 @@ impl<'a, A: Allocator + Copy> Sieve<'a, A> {
     // Sifts the lines one by one.
     fn sift_each<D: Drain, B: Drain>(
         &mut self,
+        start: LineStart,
         block: &[u8],
         drain: &mut D,
         bad: &mut B,
     ) -> Result<(), StreamFault>
         requires styled { self.old.output.lines.style ≡ Style.Kept }
+        requires room { HasRoom start block.now }
         requires live { D.has_failed drain.old ≡ false }
         requires bad_live { B.has_failed bad.old ≡ false }
-        ensures sifted { IfOk result (λ _. HasSifted D.Drain B.Drain self.old drain.old bad.old (split_lines block.now) self.new drain.new bad.new) }
-        ensures fails { IfErr result (λ f. SiftFails D.Drain B.Drain f self.old drain.old bad.old (split_lines block.now) self.new drain.new bad.new) }
+        ensures sifted { IfOk result (λ _. HasSifted D.Drain B.Drain (start_of start) self.old drain.old bad.old (split_lines block.now) self.new drain.new bad.new) }
+        ensures fails { IfErr result (λ f. SiftFails D.Drain B.Drain f (start_of start) self.old drain.old bad.old (split_lines block.now) self.new drain.new bad.new) }
     {
+        let mut at = start;
         let mut rest = block;
         while !rest.is_empty() {
             let len = line_len(rest);
-            match self.sift_line(&rest[..len], drain, bad) {
+            match self.sift_line(at, &rest[..len], drain, bad) {
                 Ok(()) => {}
                 Err(fault) => return Err(fault),
             }
+            at = at.past(&rest[..len]);
             rest = &rest[len..];
         }
         Ok(())
@@ -113,34 +171,40 @@ impl<'a, A: Allocator + Copy> Sieve<'a, A> {
     // Sifts one line.
     fn sift_line<D: Drain, B: Drain>(
         &mut self,
+        start: LineStart,
         line: &[u8],
         drain: &mut D,
         bad: &mut B,
     ) -> Result<(), StreamFault>
         requires styled { self.old.output.lines.style ≡ Style.Kept }
+        requires room { HasRoom start line.now }
         requires live { D.has_failed drain.old ≡ false }
         requires bad_live { B.has_failed bad.old ≡ false }
-        ensures sifted { IfOk result (λ _. HasSifted D.Drain B.Drain self.old drain.old bad.old (line.now ∷ []) self.new drain.new bad.new) }
-        ensures fails { IfErr result (λ f. SiftFails D.Drain B.Drain f self.old drain.old bad.old (line.now ∷ []) self.new drain.new bad.new) }
+        ensures sifted { IfOk result (λ _. HasSifted D.Drain B.Drain (start_of start) self.old drain.old bad.old (line.now ∷ []) self.new drain.new bad.new) }
+        ensures fails { IfErr result (λ f. SiftFails D.Drain B.Drain f (start_of start) self.old drain.old bad.old (line.now ∷ []) self.new drain.new bad.new) }
     {
         match self.put_good(line, drain) {
-            Ok(true) => Ok(()),
-            Ok(false) => self.put_bad(line, bad),
+            Ok(None) => Ok(()),
+            Ok(Some(fault)) => self.put_bad(start.fault(fault), line, bad),
             Err(fault) => Err(fault),
         }
     }
 
-    // Puts the lines of the quads of a good line, or of lines that are all good, and answers whether they are.
-    fn put_good<D: Drain>(&mut self, bytes: &[u8], drain: &mut D) -> Result<bool, StreamFault>
+    // Puts the lines of the quads of a good line, or of lines that are all good. Where they are none, it answers why, and puts nothing.
+    fn put_good<D: Drain>(
+        &mut self,
+        bytes: &[u8],
+        drain: &mut D,
+    ) -> Result<Option<Fault>, StreamFault>
         requires styled { self.old.output.lines.style ≡ Style.Kept }
         requires live { D.has_failed drain.old ≡ false }
-        ensures good { IfOk result (λ is_good. is_good ≡ true → PutsGood D.Drain self.old drain.old bytes.now self.new drain.new) }
-        ensures bad { IfOk result (λ is_good. is_good ≡ false → PutsNone self.old drain.old bytes.now self.new drain.new) }
+        ensures good { IfOk result (λ fault. fault ≡ None → PutsGood D.Drain self.old drain.old bytes.now self.new drain.new) }
+        ensures bad { IfOk result (λ fault. IfSome fault (λ f. PutsNone self.old drain.old bytes.now f self.new drain.new)) }
         ensures fails { IfErr result (λ f. PutGoodFails D.Drain f self.old drain.old bytes.now self.new drain.new) }
     {
         let converted = match self.convert(bytes) {
-            Ok(Some(converted)) => converted,
-            Ok(None) => return Ok(false),
+            Ok(Tried::Good(converted)) => converted,
+            Ok(Tried::Bad(fault)) => return Ok(Some(fault)),
             Err(fault) => return Err(fault),
         };
         match put_all(drain, converted.lines.as_slice()) {
@@ -149,16 +213,25 @@ impl<'a, A: Allocator + Copy> Sieve<'a, A> {
         }
         self.is_first = false;
         self.quads = self.quads.saturating_add(converted.quads);
-        Ok(true)
+        Ok(None)
     }
 
-    // Puts a bad line aside.
-    fn put_bad<B: Drain>(&mut self, line: &[u8], bad: &mut B) -> Result<(), StreamFault>
+    // Puts a bad line aside, with its fault by the place in the document.
+    fn put_bad<B: Drain>(
+        &mut self,
+        fault: Fault,
+        line: &[u8],
+        bad: &mut B,
+    ) -> Result<(), StreamFault>
         requires live { B.has_failed bad.old ≡ false }
-        ensures put { IfOk result (λ _. PutsBad B.Drain self.old bad.old line.now self.new bad.new) }
-        ensures fails { IfErr result (λ f. PutBadFails B.Drain f bad.old line.now bad.new) }
+        ensures put { IfOk result (λ _. PutsBad B.Drain self.old bad.old fault line.now self.new bad.new) }
+        ensures fails { IfErr result (λ f. PutBadFails B.Drain f self.old bad.old fault line.now self.new bad.new) }
     {
-        match put_all(bad, line) {
+        let text = match commented(self.alloc, fault, line) {
+            Ok(text) => text,
+            Err(AllocError) => return Err(StreamFault::Memory),
+        };
+        match put_all(bad, text.as_slice()) {
             Ok(()) => {}
             Err(Failed) => return Err(StreamFault::Write),
         }
@@ -178,15 +251,18 @@ impl<'a, A: Allocator + Copy> Sieve<'a, A> {
         has_mark(bytes)
     }
 
-    // Converts a good line, or lines that are all good, in memory. They may be other bytes: then none of them are.
-    fn convert(&self, bytes: &[u8]) -> Result<Option<Converted<A>>, StreamFault>
+    // Converts a good line, or lines that are all good, in memory.
+    fn convert(&self, bytes: &[u8]) -> Result<Tried<A>, StreamFault>
         requires styled { self.now.output.lines.style ≡ Style.Kept }
-        ensures good { IfOk result (λ o. IfSome o (λ c. IsConvertedTo self.now bytes.now c)) }
-        ensures bad { IfOk result (λ o. o ≡ None → IsBadLine (job_of self.now).language self.now.is_first bytes.now) }
+        ensures tried { IfOk result (λ t. IsTried self.now bytes.now t) }
         ensures memory { IfErr result (λ f. f ≡ Memory) }
     {
         if self.is_marked(bytes) {
-            return Ok(None);
+            return Ok(Tried::Bad(Fault {
+                reason: Reason::NoToken,
+                offset: 0,
+                line: 1,
+            }));
         }
         let mut source = In::new(bytes);
         let mut kept = Kept::new(self.alloc);
@@ -200,14 +276,29 @@ impl<'a, A: Allocator + Copy> Sieve<'a, A> {
             &mut kept,
             &mut expected,
         ) {
-            Ok(summary) => Ok(Some(Converted {
+            Ok(summary) => Ok(Tried::Good(Converted {
                 lines: kept.bytes,
                 quads: summary.quads,
             })),
-            Err(StreamFault::Refused(_)) => Ok(None),
+            Err(StreamFault::Refused(fault)) => Ok(Tried::Bad(fault)),
             Err(_) => Err(StreamFault::Memory),
         }
     }
+}
+
+// The comment that says why a line is bad, and the line behind it.
+fn commented<A: Allocator + Copy>(
+    alloc: A,
+    fault: Fault,
+    line: &[u8],
+) -> Result<Vec<u8, A>, AllocError>
+    ensures { IfOk result (λ text. text.items ≡ comment_text fault ++ line.now) }
+{
+    let mut text = Vec::from_slice(alloc, b"# ")?;
+    put_refusal(&fault, &mut text)?;
+    text.extend_from_slice(b"\n")?;
+    text.extend_from_slice(line)?;
+    Ok(text)
 }
 
 // Whether a byte order mark stands in front.

@@ -1,6 +1,6 @@
 // Going on after bad lines.
 
-ghost use Rattle.std.specs.Prelude.{◌≡◌, ◌↔◌, ◌+◌, ◌<◌, ◌≤◌, ◌++◌, ◌==◌, [], List, ℕ, true, false, length, take, drop, count_by, OnOk, IfOk, IfErr};
+ghost use Rattle.std.specs.Prelude.{◌≡◌, ◌↔◌, ◌+◌, ◌-◌, ◌<◌, ◌≤◌, ◌++◌, ◌==◌, [], List, ℕ, true, false, length, take, drop, count_by, OnOk, IfOk, IfErr};
 ghost use Rattle.rdf_lines.specs.declared.form.Style.{Style};
 ghost use Rattle.rdf_tokens.specs.Scans.{most_bytes};
 ghost use Rattle.rdf_stream.specs.Languages.{conversion_of};
@@ -17,7 +17,7 @@ use crate::fault::StreamFault;
 use crate::form::Kind;
 use crate::job::Job;
 use crate::pieces::piece_buffer;
-use crate::sieve::Sieve;
+use crate::sieve::{LineStart, Sieve};
 use memchr::{memchr, memrchr2};
 use rdf_lines::Style;
 use rdf_terms::Reason;
@@ -39,8 +39,9 @@ pub struct SkipSummary {
 }
 
 /// Reads a document of the job's format, N-Triples or N-Quads, and goes on after bad lines: it writes to the drain what `convert`
-/// writes for the document without them, and puts them into `bad` as they stand, in order. A line is bad where by itself it is no
-/// document within the limits. Both drains are flushed at the end, but not after a fault.
+/// writes for the document without them, and puts them into `bad`, in order: in front of each a comment, `# REASON at byte N, line L`,
+/// by the place in the whole document, and the line as it stands. A line is bad where by itself it is no document within the limits.
+/// Both drains are flushed at the end, but not after a fault.
 ///
 /// Of the bytes it keeps one piece of the source and the longest line, and the lines of their quads.
 pub fn convert_skipping<A: Allocator + Copy, S: Source, D: Drain, B: Drain>(
@@ -149,31 +150,46 @@ impl<'a, A: Allocator + Copy> Held<'a, A> {
         ensures halts { IfErr result (λ f. HaltsOn (IsSkipping D.Drain B.Drain) (SkipHalts D.Drain B.Drain) f (self.old, drain.old, bad.old)
             (λ bytes. bytes ++ piece.now) false (self.new, drain.new, bad.new)) }
     {
+        let start = self.start();
         match self.count(piece) {
             Ok(()) => {}
             Err(fault) => return Err(fault),
         }
         let len = lines_len(piece);
-        match self.sift_front(&piece[..len], drain, bad) {
+        match self.sift_front(start, &piece[..len], drain, bad) {
             Ok(()) => {}
             Err(fault) => return Err(fault),
         }
         self.hold(&piece[len..])
     }
 
-    // Sifts the lines that the front of a piece ends.
+    // Where the part of a line that is held begins.
+    fn start(&self) -> LineStart
+        requires within { length self.now.part.items ≤ self.now.bytes }
+        ensures offset { result.offset ≡ self.now.bytes - length self.now.part.items }
+        ensures line { result.line ≡ self.now.line }
+    {
+        LineStart {
+            offset: self.bytes - self.part.len() as u64,
+            line: self.line,
+        }
+    }
+
+    // Sifts the lines that the front of a piece ends, of which the first begins there.
     fn sift_front<D: Drain, B: Drain>(
         &mut self,
+        start: LineStart,
         front: &[u8],
         drain: &mut D,
         bad: &mut B,
     ) -> Result<(), StreamFault>
         requires styled { self.old.sieve.output.lines.style ≡ Style.Kept }
         requires ended { sieves.IsEndedFront front.now }
+        requires room { sieves.HasRoom start (self.old.part.items ++ front.now) }
         requires live { D.has_failed drain.old ≡ false }
         requires bad_live { B.has_failed bad.old ≡ false }
-        ensures sifts { IfOk result (λ _. sieves.SiftsFront D.Drain B.Drain self.old drain.old bad.old front.now self.new drain.new bad.new) }
-        ensures fails { IfErr result (λ f. sieves.SiftFrontFails D.Drain B.Drain f self.old drain.old bad.old front.now self.new drain.new bad.new) }
+        ensures sifts { IfOk result (λ _. sieves.SiftsFront D.Drain B.Drain (sieves.start_of start) self.old drain.old bad.old front.now self.new drain.new bad.new) }
+        ensures fails { IfErr result (λ f. sieves.SiftFrontFails D.Drain B.Drain f (sieves.start_of start) self.old drain.old bad.old front.now self.new drain.new bad.new) }
     {
         if front.is_empty() {
             return Ok(());
@@ -182,7 +198,7 @@ impl<'a, A: Allocator + Copy> Held<'a, A> {
             Ok(()) => {}
             Err(_) => return Err(StreamFault::Memory),
         }
-        match self.sieve.sift(self.part.as_slice(), drain, bad) {
+        match self.sieve.sift(start, self.part.as_slice(), drain, bad) {
             Ok(()) => {}
             Err(fault) => return Err(fault),
         }
@@ -235,7 +251,8 @@ impl<'a, A: Allocator + Copy> Held<'a, A> {
         ensures halts { IfErr result (λ f. HaltsOn (IsSkipping D.Drain B.Drain) (SkipHalts D.Drain B.Drain) f (self.old, drain.old, bad.old)
             (λ bytes. bytes) true (self.new, drain.new, bad.new)) }
     {
-        match self.sift_rest(drain, bad) {
+        let start = self.start();
+        match self.sift_rest(start, drain, bad) {
             Ok(()) => {}
             Err(fault) => return Err(fault),
         }
@@ -254,24 +271,26 @@ impl<'a, A: Allocator + Copy> Held<'a, A> {
         })
     }
 
-    // Sifts the part of a line as the last line.
+    // Sifts the part of a line as the last line, which begins there.
     fn sift_rest<D: Drain, B: Drain>(
         &mut self,
+        start: LineStart,
         drain: &mut D,
         bad: &mut B,
     ) -> Result<(), StreamFault>
         requires styled { self.old.sieve.output.lines.style ≡ Style.Kept }
+        requires room { sieves.HasRoom start self.old.part.items }
         requires live { D.has_failed drain.old ≡ false }
         requires bad_live { B.has_failed bad.old ≡ false }
-        ensures sifted { IfOk result (λ _. HasSifted D.Drain B.Drain self.old.sieve drain.old bad.old (split_lines self.old.part.items) self.new.sieve drain.new bad.new) }
+        ensures sifted { IfOk result (λ _. HasSifted D.Drain B.Drain (sieves.start_of start) self.old.sieve drain.old bad.old (split_lines self.old.part.items) self.new.sieve drain.new bad.new) }
         ensures same { IfOk result (λ _. self.new.bytes ≡ self.old.bytes) }
-        ensures fails { IfErr result (λ f. SiftFails D.Drain B.Drain f self.old.sieve drain.old bad.old (split_lines self.old.part.items) self.new.sieve drain.new bad.new) }
+        ensures fails { IfErr result (λ f. SiftFails D.Drain B.Drain f (sieves.start_of start) self.old.sieve drain.old bad.old (split_lines self.old.part.items) self.new.sieve drain.new bad.new) }
     {
         let rest = self.part.as_slice();
         if rest.is_empty() {
             return Ok(());
         }
-        self.sieve.sift(rest, drain, bad)
+        self.sieve.sift(start, rest, drain, bad)
     }
 }
 
@@ -287,7 +306,7 @@ fn lines_len(piece: &[u8]) -> usize
 }
 
 // How many of the bytes are LF.
-fn line_feeds(bytes: &[u8]) -> u64
+pub(crate) fn line_feeds(bytes: &[u8]) -> u64
     requires few { length bytes.now ≤ most_bytes }
     ensures { result ≡ count_by (λ b. b == 10) bytes.now }
 {

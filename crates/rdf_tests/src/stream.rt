@@ -6,6 +6,7 @@ mod memory;
 mod refused;
 mod rows;
 mod runs;
+mod skips;
 mod streams;
 
 use rdf_iri::Limits;
@@ -205,4 +206,9 @@ fn misreported(alloc: Global) -> Option<usize> {
 #[test]
 fn what_was_read_before_a_device_failed_decides(rt: HostRuntime) {
     assert_eq!(rt; misreported(rt.alloc()), None);
+}
+
+#[test]
+fn bad_lines_are_put_aside_however_they_are_cut(rt: HostRuntime) {
+    assert_eq!(rt; skips::missifted(rt.alloc()), None);
 }

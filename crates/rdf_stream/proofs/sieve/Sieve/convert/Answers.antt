@@ -1,4 +1,4 @@
-use Rattle.std.proofs.Common.{Some, true, ap, subst}
+use Rattle.std.proofs.Common.{Some, true, ap, inl, refl, subst, arith}
 use Rattle.rdf_lines.specs.Accepting.{line_words}
 use Rattle.rdf_lines.specs.declared.rules.Rules.{Rules}
 use Rattle.rdf_lines.specs.Documents.{in_lines}
@@ -7,19 +7,23 @@ use Rattle.rdf_stream.specs.Converts.{Accepts, RefusesDocument}
 use Rattle.rdf_stream.specs.Languages.{conversion}
 use Rattle.rdf_stream.specs.Outputs.{output_of}
 use Rattle.rdf_stream.proofs.DocumentLemmas.{lines_convertible}
-use Rattle.rdf_stream.proofs.SieveLemmas.{converted_good, known, mark_bad, refusal, refused_bad}
+use Rattle.rdf_stream.proofs.SieveLemmas.{converted_good, known, mark_bad, mark_had, refusal, refused_bad, refused_for, refused_place}
 use Rattle.rdf_stream.proofs.sieve.Sieve.convert.Goals as goal
 
-pub returns-then-is_marked-clause-bad : goal.returns-then-is_marked-clause-bad
-returns-then-is_marked-clause-bad g c = λ e.
+pub returns-then-is_marked-clause-tried : goal.returns-then-is_marked-clause-tried
+returns-then-is_marked-clause-tried g c =
     let m = c.is_marked.ensures.marked c.if-is_marked.true in
-    mark_bad (in_lines c.args.self.now.form c.args.self.now.limits.token c.args.self.now.limits.iri) c.args.self.now.is_first c.args.bytes.now m.0 m.1
+    record {
+      is_bad = mark_bad (in_lines c.args.self.now.form c.args.self.now.limits.token c.args.self.now.limits.iri) c.args.self.now.is_first c.args.bytes.now m.0 m.1;
+      why = inl (m.0, mark_had c.args.bytes.now m.1, refl);
+      place = record { within = omega arith; line = refl };
+    }
 
 pub convert_with-requires-clause-starts : goal.convert_with-requires-clause-starts
 convert_with-requires-clause-starts g c = (_, record { convertible = lines_convertible _ _ c.requires.styled; read = c.line_reader-reader.ensures.read })
 
-pub returns-in-Ok-clause-good : goal.returns-in-Ok-clause-good
-returns-in-Ok-clause-good g c =
+pub returns-in-Ok-clause-tried : goal.returns-in-Ok-clause-tried
+returns-in-Ok-clause-tried g c =
     let s = c.args.self.now in
     let x : Rules = record { form = s.form; iri = s.limits.iri } in
     let o = output_of s.output in
@@ -30,14 +34,20 @@ returns-in-Ok-clause-good g c =
     (subst (λ n. Accepts (conversion line_words x n o) c.args.bytes.now (Some c.new-kept.result.bytes.items) (Some c.convert_with.new.drain.bytes.items) c.in-Ok.summary) c.line_reader-reader.ensures.token given) in
     record { quads = r.0; is_good = r.1; lines = r.2; count = r.3 }
 
-pub returns-in-Err-Refused-clause-bad : goal.returns-in-Err-Refused-clause-bad
-returns-in-Err-Refused-clause-bad g c = λ e.
+pub returns-in-Err-Refused-clause-tried : goal.returns-in-Err-Refused-clause-tried
+returns-in-Err-Refused-clause-tried g c =
     let s = c.args.self.now in
     let x : Rules = record { form = s.form; iri = s.limits.iri } in
     let n = c.line_reader-reader.result.scanner.limit in
-    let f = c.in-Err-Refused.field-0-0 in
+    let f = c.in-Err-Refused.fault in
     let job = conversion line_words x n (output_of s.output) in
     let stops = c.in-Err-Refused.ensures.stops x (record { convertible = lines_convertible _ _ c.requires.styled; read = c.line_reader-reader.ensures.read }) in
-    refused_bad job s.form s.limits.token s.limits.iri (ap (λ k. in_lines s.form k s.limits.iri) c.line_reader-reader.ensures.token) s.is_first c.args.bytes.now f.reason (place_of f) _ _
-    (known (λ bytes. RefusesDocument f.reason job bytes true (place_of f) (Some c.new-kept.result.bytes.items) (Some c.convert_with.new.drain.bytes.items)) c.new-source.result.remaining c.args.bytes.now
-    (ap (λ r. r.remaining) c.new-source.ensures) (refusal c.in-Err-Refused.field-0 f c.in-Err-Refused.field-0-is job _ _ _ _ _ stops))
+    let same = ap (λ k. in_lines s.form k s.limits.iri) c.line_reader-reader.ensures.token in
+    let refused = known (λ bytes. RefusesDocument f.reason job bytes true (place_of f) (Some c.new-kept.result.bytes.items) (Some c.convert_with.new.drain.bytes.items)) c.new-source.result.remaining c.args.bytes.now
+    (ap (λ r. r.remaining) c.new-source.ensures) (refusal c.in-Err-Refused.field-0 f c.in-Err-Refused.field-0-is job _ _ _ _ _ stops) in
+    let why = refused_for job s.form s.limits.token s.limits.iri same s.is_first c.args.bytes.now f _ _ (c.is_marked.ensures.unmarked c.if-is_marked.false) refused in
+    record {
+      is_bad = refused_bad job s.form s.limits.token s.limits.iri same s.is_first c.args.bytes.now f.reason (place_of f) _ _ refused;
+      why = why.0;
+      place = refused_place (in_lines s.form s.limits.token s.limits.iri) c.args.bytes.now f.reason (place_of f) why.1;
+    }

@@ -1,5 +1,6 @@
-use Rattle.std.proofs.Common.{refl}
+use Rattle.std.proofs.Common.{refl, subst}
+use Rattle.rdf_stream.specs.Sieves.{IsTried}
 use Rattle.rdf_stream.proofs.sieve.Sieve.put_good.Goals as goal
 
-pub returns-in-Ok-None-clause-bad : goal.returns-in-Ok-None-clause-bad
-returns-in-Ok-None-clause-bad g c = λ e. record { is_bad = c.in-Ok-None.ensures.bad c.in-Ok-None.field-0-is; sieve = refl; drain = refl }
+pub returns-in-Ok-Bad-clause-bad : goal.returns-in-Ok-Bad-clause-bad
+returns-in-Ok-Bad-clause-bad g c = record { why = subst (IsTried c.args.self.now c.args.bytes.now) c.in-Ok-Bad.field-0-is c.in-Ok-Bad.ensures.tried; sieve = refl; drain = refl }
