@@ -226,21 +226,6 @@ def run_page(counts, page):
 # The scripts of examples/, where something is missing, full or closed
 
 SCRIPTS = [  # the command, its status, how many lines it writes, the last line on standard error
-    ('examples/skip.py bad.nt', 2, 0, 'skip: error: the following arguments are required: BAD'),
-    ('examples/skip.py bad.nt none/bad', 3, 0, 'skip: none/bad: No such file or directory'),
-    ('examples/skip.py bad.nt /dev/full', 3, 0, 'skip: /dev/full: No space left on device'),
-    ('ulimit -f 1; examples/skip.py bad.nt bad', 3, 9, 'skip: bad: File too large'),
-    ('examples/skip.py bad.nt ./bad.nt', 2, 0, 'skip: ./bad.nt is the dump itself'),
-    ('examples/skip.py none.nt bad', 3, 0, 'skip: none.nt: No such file or directory'),
-    ('examples/skip.py folder.nt bad', 3, 0, 'skip: folder.nt: Is a directory'),
-    ('examples/skip.py examples/library.ttl bad', 2, 0, 'skip: examples/library.ttl is no .nt or .nq'),
-    ('examples/skip.py bad.nt bad', 1, 20, 'skip: refused lines: 20'),
-    ('examples/skip.py bad.nt.gz bad', 1, 20, 'skip: refused lines: 20'),
-    ('examples/skip.py cut.nt.gz bad', 3, 0, 'skip: cut.nt.gz, copied to TMPDIR: the packed file is cut off'),
-    ('examples/skip.py examples/library.nt bad', 0, 3, 'skip: refused lines: 0'),
-    ('examples/skip.py bad.nt bad > /dev/full', 3, 0, 'skip: rdfconv ended with status 3'),
-    ('examples/skip.py bad.nt bad >&-', 3, 0, 'skip: standard output: Bad file descriptor'),
-    ('examples/skip.py bad.nt bad --program none', 127, 0, 'skip: none: No such file or directory'),
     ('examples/blocks.py none.nt', 3, 0, 'blocks: none.nt: No such file or directory'),
     ('examples/blocks.py folder.nt', 3, 0, 'blocks: folder.nt: no file that can be cut'),
     ('examples/blocks.py bad.nt 9x', 2, 0, 'blocks: error: argument BLOCK: no such size as 64M: 9x'),
@@ -252,7 +237,7 @@ SCRIPTS = [  # the command, its status, how many lines it writes, the last line 
     ('examples/where.py bad.nt "rdfconv: no token at byte 0, line 1" > /dev/full', 3, 0,
      'where: standard input or output: No space left on device'),
     ('examples/where.py bad.nt "rdfconv: bad base"', 1, 1, ''),
-    ('examples/skip.py bad.nt bad 2> text; examples/where.py bad.nt < bad', 1, 80, ''),
+    ('rdfconv check --format nt bad.nt 2>&1 | sed "p;p;p" | examples/where.py bad.nt', 1, 12, ''),
     ('rdfconv check examples/library.ttl 2>&1 | examples/where.py examples/library.ttl', 0, 1, ''),
     ('examples/where.py bad.nt', 2, 0, 'where: no message'),
     # A file that is written whole or not at all
@@ -272,6 +257,22 @@ SCRIPTS = [  # the command, its status, how many lines it writes, the last line 
     ('mkfifo pipe; (cat large.nt; sleep 2) > pipe & { timeout -s KILL 1 rdfconv convert --format nt -o out.nq pipe; } 2> /dev/null; '
      'wc -l < out.nq; ls out.nq*; rm out.nq.part', 0, 3, ''),
     ('rdfconv convert --format nt -o - large.nt; ls ./-*', 2, 400, "ls: cannot access './-*': No such file or directory"),
+    # Bad lines that are put aside
+    ('rdfconv convert --format nt --skip aside bad.nt', 1, 20, 'rdfconv: 20 quads, 20 lines put aside'),
+    ('grep -c "a space" aside; ls aside*', 0, 2, ''),
+    ('rdfconv check --format name --skip aside bad.nt', 1, 0, 'rdfconv: 20 quads, 20 lines put aside'),
+    ('gzip -dc bad.nt.gz | rdfconv convert --format nq --skip aside -o kept.nq -; echo $?; wc -l < kept.nq; ls kept.nq* aside*', 0, 4,
+     'rdfconv: 20 quads, 20 lines put aside'),
+    ('rdfconv convert --format nt --skip aside large.nt | cmp - large.nt && wc -c < aside', 0, 1, 'rdfconv: 400 quads, 0 lines put aside'),
+    ('rdfconv convert --skip aside large.nt', 2, 0, 'rdfconv: --skip takes one document of nt or nq'),
+    ('rdfconv check --format nt --skip aside large.nt bad.nt', 2, 0, 'rdfconv: --skip takes one document of nt or nq'),
+    ('rdfconv convert --format nt --skip none/aside bad.nt', 3, 0, 'rdfconv: cannot open file'),
+    ('rdfconv convert --format nt --skip /dev/full bad.nt', 3, 0, 'rdfconv: cannot open file'),
+    ('echo held > aside; rdfconv convert --format nt --skip aside none.nt; cat aside*', 0, 1, 'rdfconv: cannot open file'),
+    ('rdfconv convert --format nt --skip aside folder.nt; cat aside*', 0, 1, 'rdfconv: read failed'),
+    ('rdfconv convert --format nt --skip aside bad.nt > /dev/full; cat aside*', 0, 1, 'rdfconv: write failed'),
+    ('trap "" XFSZ; ulimit -f 1; rdfconv check --format nt --skip aside bad.nt; cat aside*', 0, 1, 'rdfconv: write failed'),
+    ('rdfconv convert --format nt --skip both -o both large.nt; ls both*', 2, 0, "ls: cannot access 'both*': No such file or directory"),
 ]
 
 

@@ -6,7 +6,7 @@
 
 Without a message on the command line, messages are read from standard input, and each line is answered when it comes. A message with
 no place, such as `accepted, ..` or `rdfconv: bad base`, is passed on as it is. Of a long line, what stands near the byte is shown.
-FILE may be packed (.gz, .bz2, .xz): the byte is one of the document in it. The lines of BAD that skip.py writes are messages too.
+FILE may be packed (.gz, .bz2, .xz): the byte is one of the document in it.
 
 Status 0: each message was `accepted, ..`. 1: some message was another. 2: the words are wrong, or there was no message. 3: FILE can't
 be read or has no such byte (the message is passed on then), or standard input can't be read, or the output written.
@@ -24,7 +24,7 @@ import unicodedata
 import zlib
 
 OPENERS = {'.gz': gzip.open, '.bz2': bz2.open, '.xz': lzma.open}
-PLACE = re.compile(r'(?:[^<"]*\brdfconv: )?([\w -]+) at byte (\d+), line (\d+)(?:\t.*)?$')
+PLACE = re.compile(r'(?:[^<"]*\brdfconv: )?([\w -]+) at byte (\d+), line (\d+)$')
 ACCEPTED = re.compile(r'(?:[^<"]*[\t ])?accepted, \d+ quads?, \d+ bytes?$')
 REACH = 240
 MOST_COLUMNS = 60

@@ -15,7 +15,7 @@ TOP = os.path.dirname(os.path.dirname(os.path.abspath(__file__)))
 FOLDER = os.path.join(TOP, 'packaging', 'completions')
 FILES, COMMANDS, UNKNOWN = 'FILES', 'COMMANDS', 'UNKNOWN'
 # What each word of the help stands for. A number, an IRI and a word are not known before they are typed.
-VALUES = {'FILE': FILES, 'PREFIXES': FILES, 'OUTPUT': FILES, 'COMMAND': COMMANDS, 'N': UNKNOWN, 'IRI': UNKNOWN, 'WORD': UNKNOWN}
+VALUES = {'FILE': FILES, 'PREFIXES': FILES, 'OUTPUT': FILES, 'BADLINES': FILES, 'COMMAND': COMMANDS, 'N': UNKNOWN, 'IRI': UNKNOWN, 'WORD': UNKNOWN}
 
 # `word` is the help's word for what is taken, None where nothing is. `values` is FILES, COMMANDS, UNKNOWN, or pairs of a value and what is
 # said of it. A command with several arguments has `...` in its help.

@@ -9,15 +9,15 @@ _rdfconv() {
     case "$command $before" in
     'check --format') wanted='nt nq ttl trig name' ;;
     'check --base' | 'check --token' | 'check --depth' | 'check --bindings' | 'check --iri') wanted='' ;;
-    'check --prefixes') wanted=FILES ;;
-    'check '*) wanted=FILES options='--format --base --token --depth --bindings --iri --explain --prefixes -h|--help' ;;
+    'check --prefixes' | 'check --skip') wanted=FILES ;;
+    'check '*) wanted=FILES options='--format --base --token --depth --bindings --iri --explain --prefixes --skip -h|--help' ;;
     'show --format') wanted='nt nq ttl trig name' ;;
     'show --base' | 'show --token' | 'show --depth' | 'show --bindings' | 'show --iri') wanted='' ;;
     'show '*) wanted=FILES options='--format --base --token --depth --bindings --iri --explain -h|--help' ;;
     'convert --format') wanted='nt nq ttl trig name' ;;
     'convert --base' | 'convert --token' | 'convert --depth' | 'convert --bindings' | 'convert --iri' | 'convert --node-prefix' | 'convert --graph') wanted='' ;;
-    'convert --prefixes' | 'convert -o' | 'convert --output') wanted=FILES ;;
-    'convert '*) wanted=FILES options='--format --base --token --depth --bindings --iri --explain --prefixes --ascii --node-prefix --graph -o|--output -h|--help' ;;
+    'convert --prefixes' | 'convert -o' | 'convert --output' | 'convert --skip') wanted=FILES ;;
+    'convert '*) wanted=FILES options='--format --base --token --depth --bindings --iri --explain --prefixes --ascii --node-prefix --graph -o|--output --skip -h|--help' ;;
     'help '*) wanted='check show convert help' options='' ;;
     ' '*) wanted='check show convert help' options='-h|--help -V|--version' ;;
     esac

@@ -20,6 +20,7 @@ complete -c rdfconv -n '__rdfconv_in check "--bindings[= ]."' -l bindings -x -d 
 complete -c rdfconv -n '__rdfconv_in check "--iri[= ]."' -l iri -x -d 'Bytes of one IRI, 1 to 268435456'
 complete -c rdfconv -n '__rdfconv_in check "--explain "' -l explain -d 'After a refusal a line more for editors, which says what could have stood there'
 complete -c rdfconv -n '__rdfconv_in check "--prefixes[= ]."' -l prefixes -r -F -d 'File of prefixes bound before the document, a line each'
+complete -c rdfconv -n '__rdfconv_in check "--skip[= ]."' -l skip -r -F -d 'File for bad lines of nt or nq, after which the others are read'
 complete -c rdfconv -n '__rdfconv_in check "-h |--help "' -s h -l help -d 'Print help'
 complete -c rdfconv -n '__rdfconv_in show' -F
 complete -c rdfconv -n '__rdfconv_in show "--format[= ]."' -l format -x -a 'nt\\t"N-Triples" nq\\t"N-Quads" ttl\\t"Turtle" trig\\t"TriG" name\\t"the one that the file\'s name ends in"' -d 'Format'
@@ -43,5 +44,6 @@ complete -c rdfconv -n '__rdfconv_in convert "--ascii "' -l ascii -d 'Characters
 complete -c rdfconv -n '__rdfconv_in convert "--node-prefix[= ]."' -l node-prefix -x -d 'Word of ASCII letters and digits in front of the label of each blank node'
 complete -c rdfconv -n '__rdfconv_in convert "--graph[= ]."' -l graph -x -d 'Absolute IRI of the graph that quads of the default graph are written in, at most --iri bytes'
 complete -c rdfconv -n '__rdfconv_in convert "-o[= ].|--output[= ]."' -s o -l output -r -F -d 'File to write, which is there whole or not at all'
+complete -c rdfconv -n '__rdfconv_in convert "--skip[= ]."' -l skip -r -F -d 'File for bad lines of nt or nq, after which the others are read'
 complete -c rdfconv -n '__rdfconv_in convert "-h |--help "' -s h -l help -d 'Print help'
 complete -c rdfconv -n '__rdfconv_in help' -a 'check\\t"Read documents to their ends, and count the quads and bytes of each" show\\t"Write a line for each token: its offset, its characters and its kind" convert\\t"Write the quads of a document as lines of N-Quads" help\\t"Print this message or the help of the given subcommand(s)"'

@@ -14,7 +14,7 @@ use Rattle.clap.proofs.WalkLemmas.{list_any-map}
 use Rattle.rdf_stream.specs.declared.form.Form.{Form}
 use Rattle.rdf_command.specs.declared.task.Action.{Action}
 use Rattle.rdf_command.specs.declared.task.Action.TheVariants.{Check, Show, Convert}
-use Rattle.rdf_options.specs.Options.{action_app, ascii_rule, file_rule, files_rule, graph_rule, node_prefix_rule, output_rule, prefixes_rule, rdfconv}
+use Rattle.rdf_options.specs.Options.{action_app, ascii_rule, file_rule, files_rule, graph_rule, node_prefix_rule, output_rule, prefixes_rule, rdfconv, skip_rule}
 use Rattle.rdf_command.specs.Words.{Entered, HasLimits, IsEntered, IsFormatWord, action_name, by_name, form_name, format_names, forms}
 use Rattle.rdf_command.proofs.RowLemmas.{Each, IsRead, same_text, value-of}
 use Rattle.rdf_command.proofs.GivenLemmas.{pair_is, same_some}
@@ -37,9 +37,9 @@ format_word (f ∷ rest) text e = go (bytes_eq (form_name f) text) refl e (forma
 module _ (names : Bor (List (Bor Text))) (known : texts names.now ≡ format_names) where
   -- the options that an action has beside those of all
   abbrev own_rules : Action → List Rule
-  own_rules Check = prefixes_rule ∷ []
+  own_rules Check = prefixes_rule ∷ skip_rule ∷ []
   own_rules Show = []
-  own_rules Convert = prefixes_rule ∷ ascii_rule ∷ node_prefix_rule ∷ graph_rule ∷ output_rule ∷ []
+  own_rules Convert = prefixes_rule ∷ ascii_rule ∷ node_prefix_rule ∷ graph_rule ∷ output_rule ∷ skip_rule ∷ []
 
   -- what it reads
   abbrev reads : Action → Rule
@@ -69,7 +69,7 @@ module _ (names : Bor (List (Bor Text))) (known : texts names.now ≡ format_nam
                   (refl, set),
                   (
                     (refl, flag),
-                    ((refl, inr (inr (inl (refl, (refl, refl))))), ((refl, set), ((refl, inr (inr (inr refl))), tt))),
+                    ((refl, inr (inr (inl (refl, (refl, refl))))), ((refl, set), ((refl, set), ((refl, inr (inr (inr refl))), tt)))),
                   ),
                 ),
               ),
@@ -117,7 +117,7 @@ module _ (names : Bor (List (Bor Text))) (known : texts names.now ≡ format_nam
                   (refl, set),
                   (
                     (refl, flag),
-                    ((refl, set), ((refl, set), ((refl, flag), ((refl, set), ((refl, set), ((refl, set), ((refl, inr (inr (inr refl))), tt))))))),
+                    ((refl, set), ((refl, set), ((refl, flag), ((refl, set), ((refl, set), ((refl, set), ((refl, set), ((refl, inr (inr (inr refl))), tt)))))))),
                   ),
                 ),
               ),

@@ -13,8 +13,8 @@ use Rattle.clap.proofs.WalkLemmas.{first_value-rows}
 use Rattle.rdf_stream.specs.declared.form.Form.{Form}
 use Rattle.rdf_command.specs.declared.task.Document.{Document}
 use Rattle.rdf_command.specs.declared.task.WordsFault.{WordsFault}
-use Rattle.rdf_command.specs.declared.task.WordsFault.TheVariants.{Usage, BadBase, BadNodePrefix, BadGraph, NoFormat, Memory}
-use Rattle.rdf_command.specs.Words.{AreDocuments, Entered, GivesNone, IsFormBy, IsFormless, NoBaseOf, NoFormOf, NoFormsOf, NoGraphOf, NoTaskBy, NoWordOf, base_by, fault_by, further_by, further_of, name_by, number_of}
+use Rattle.rdf_command.specs.declared.task.WordsFault.TheVariants.{Usage, BadBase, BadNodePrefix, BadGraph, BadSkip, NoFormat, Memory}
+use Rattle.rdf_command.specs.Words.{AreDocuments, CanSkip, Entered, GivesNone, IsFormBy, IsFormless, NoBaseOf, NoFormOf, NoFormsOf, NoGraphOf, NoSkipOf, NoTaskBy, NoWordOf, base_by, fault_by, further_by, further_of, name_by, number_of}
 
 -- what is there is not none
 some≢none : {X : Type 0} (x : X) → None ≡ Some x → ⊥
@@ -83,6 +83,7 @@ refused_by a words p (Usage e) none is h = absurd h
 refused_by a words p BadBase none is h = record { entered = p; taken = none; matches = is; holds = h }
 refused_by a words p BadNodePrefix none is h = record { entered = p; taken = none; matches = is; holds = h }
 refused_by a words p BadGraph none is h = record { entered = p; taken = none; matches = is; holds = h }
+refused_by a words p BadSkip none is h = record { entered = p; taken = none; matches = is; holds = h }
 refused_by a words p (NoFormat name) none is h = record { entered = p; taken = none; matches = is; holds = h }
 refused_by a words p Memory none is h = tt
 
@@ -92,6 +93,7 @@ no_task p most base (Usage e) is limit h = absurd h
 no_task p most base BadBase is limit h = (h.0, most, sym is ∙ h.1, limit, h.2)
 no_task p most base BadNodePrefix is limit h = absurd h
 no_task p most base BadGraph is limit h = absurd h
+no_task p most base BadSkip is limit h = absurd h
 no_task p most base (NoFormat name) is limit h = absurd h
 no_task p most base Memory is limit h = tt
 
@@ -101,6 +103,7 @@ no_word p word (Usage e) is h = absurd h
 no_word p word BadBase is h = absurd h
 no_word p word BadNodePrefix is h = (h.0, sym is ∙ h.1, h.2)
 no_word p word BadGraph is h = absurd h
+no_word p word BadSkip is h = absurd h
 no_word p word (NoFormat name) is h = absurd h
 no_word p word Memory is h = tt
 
@@ -110,6 +113,7 @@ no_graph p most graph (Usage e) is limit h = absurd h
 no_graph p most graph BadBase is limit h = absurd h
 no_graph p most graph BadNodePrefix is limit h = absurd h
 no_graph p most graph BadGraph is limit h = (h.0, most, sym is ∙ h.1, limit, h.2)
+no_graph p most graph BadSkip is limit h = absurd h
 no_graph p most graph (NoFormat name) is limit h = absurd h
 no_graph p most graph Memory is limit h = tt
 
@@ -120,6 +124,7 @@ no_form p word first (Usage e) given is h = absurd h
 no_form p word first BadBase given is h = absurd h
 no_form p word first BadNodePrefix given is h = absurd h
 no_form p word first BadGraph given is h = absurd h
+no_form p word first BadSkip given is h = absurd h
 no_form p word first (NoFormat at) given is h =
     record { word = word; given = given; formless = subst (IsFormless word) (sym h.0) h.1; named = inl (h.0 ∙ ap name_by is) }
 no_form p word first Memory given is h = tt
@@ -131,9 +136,23 @@ no_forms p word more (Usage e) given is h = absurd h
 no_forms p word more BadBase given is h = absurd h
 no_forms p word more BadNodePrefix given is h = absurd h
 no_forms p word more BadGraph given is h = absurd h
+no_forms p word more BadSkip given is h = absurd h
 no_forms p word more (NoFormat at) given is h =
     record { word = word; given = given; formless = h.0; named = inr (h.1.0, h.1.1, sym is ∙ h.1.2) }
 no_forms p word more Memory given is h = tt
+
+-- a file for bad lines that is none is that of the matches
+pub no_skip : (p : Entered) (word : Text) (f : Form) (skip : Option Text) (further : List Text) (fault : WordsFault) → first_of (codes "format") p.1 ≡ Some word
+    → IsFormBy word (name_by (first_of (codes "file") p.1)) f → skip ≡ first_of (codes "skip") p.1 → further ≡ further_by p.0 (all_of (codes "file") p.1)
+    → NoSkipOf f further skip fault → NoTaskBy p fault
+no_skip p word f skip further (Usage e) given form is are h = absurd h
+no_skip p word f skip further BadBase given form is are h = absurd h
+no_skip p word f skip further BadNodePrefix given form is are h = absurd h
+no_skip p word f skip further BadGraph given form is are h = absurd h
+no_skip p word f skip further BadSkip given form is are h =
+    record { given = (h.0.0, sym is ∙ h.0.1); word = word; format = given; form = f; is_form = form; bad = λ can. h.1 (subst (CanSkip f) (sym are) can) }
+no_skip p word f skip further (NoFormat at) given form is are h = absurd h
+no_skip p word f skip further Memory given form is are h = tt
 
 -- ---- documents
 
@@ -143,11 +162,12 @@ formless_among word name front rest names (Usage e) is h = absurd h
 formless_among word name front rest names BadBase is h = absurd h
 formless_among word name front rest names BadNodePrefix is h = absurd h
 formless_among word name front rest names BadGraph is h = absurd h
+formless_among word name front rest names BadSkip is h = absurd h
 formless_among word name front rest names (NoFormat at) is h = (subst (IsFormless word) (sym h.0) h.1, (front, rest, is ∙ ap (λ n. front ++ n ∷ rest) (sym h.0)))
 formless_among word name front rest names Memory is h = tt
 
 -- the text behind a reference
-abbrev now_of : Bor Text → Text
+abbrev pub now_of : Bor Text → Text
 now_of s = s.now
 
 -- with a document more those of fewer names are left

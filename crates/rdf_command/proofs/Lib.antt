@@ -6,4 +6,5 @@ pub mod EnterLemmas
 pub mod GivenLemmas
 pub mod RunLemmas
 pub mod OutputLemmas
+pub mod AsideLemmas
 pub mod SeveralLemmas

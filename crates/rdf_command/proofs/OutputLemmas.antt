@@ -1,5 +1,5 @@
 -- How a task ends whose lines go to a file: what its steps say of it, taken together.
-use Rattle.std.proofs.Common.{◌≡◌, ◌≢◌, ◌⊎◌, ◌∙◌, ℕ, zero, suc, true, List, Option, Some, arith, inl, inr, refl, sym, subst}
+use Rattle.std.proofs.Common.{◌≡◌, ◌≢◌, ◌⊎◌, ◌∙◌, ℕ, zero, suc, true, List, Option, Some, None, arith, inl, inr, refl, sym, subst}
 use Rattle.clap.specs.Words.{Text}
 use Rattle.rdf_stream.specs.Devices.{Reading, Written}
 use Rattle.rdf_stream.specs.Messages.{report_text}
@@ -36,11 +36,11 @@ module _ (says : Outputs) (name : Text) (t : Task) (prefixes : Option (Option (L
       let goes : status ≢ 0 = λ e. some (sym s.0 ∙ e) in
       inr (inl (record { output = output; ends = (first, empty, runs); stopped = goes; is_left = is_left goes }))
 
--- What is said of a task's run with another output is said of the task.
+-- What is said of a task's run with other names for its files is said of the task.
 module _ (t other : Task) (prefixes : Option (Option (List ℕ))) (known : Option (List ℕ)) where
-  -- the task with that output
+  -- the task with these names
   abbrev So : Task
-  So = record t { output = other.output }
+  So = record t { output = other.output; skip = other.skip }
 
   of_stop : (bindings : List (List ℕ × List ℕ)) (source : Reading) (status : ℕ) (out_old : Option (List ℕ)) (out : Written) (err_old : Option (List ℕ)) (err : Written)
       → RunStops So bindings status known source out_old out err_old err → RunStops t bindings status known source out_old out err_old err
@@ -71,6 +71,12 @@ module _ (t other : Task) (prefixes : Option (Option (List ℕ))) (known : Optio
       go (inr (inl d)) = inr (inl (record { output = d.output; ends = runs status d.output err d.ends; stopped = d.stopped; is_left = d.is_left }))
       go (inr (inr u)) =
           inr (inr (record { output = u.output; err_then = u.err_then; ends = runs 0 u.output u.err_then u.ends; status_is = u.status_is; is_left = u.is_left; reported = u.reported }))
+
+  -- so is the end of a task that writes the file of a name, or none
+  pub ends_to : (says : Outputs) (files : Option FilesRead) (status : ℕ) (out_old : Option (List ℕ)) (out : Written) (err_old : Option (List ℕ)) (err : Written)
+      (name : Option Text) → EndsTo name says So prefixes known files status out_old out err_old err → EndsTo name says t prefixes known files status out_old out err_old err
+  ends_to says files status out_old out err_old err None (left, given, ends) = (left, given, run_of left status out_old out err_old err ends)
+  ends_to says files status out_old out err_old err (Some name) (ends, unwritten) = (into_of says name files status err_old err ends, unwritten)
 
   -- the end of a task that writes the file of this name
   pub ends_into : (says : Outputs) (files : Option FilesRead) (status : ℕ) (out_old : Option (List ℕ)) (out : Written) (err_old : Option (List ℕ)) (err : Written)

@@ -5,4 +5,5 @@ pub mod Statuses
 pub mod Runs
 pub mod Several
 pub mod Outputs
+pub mod Asides
 pub mod Programs

@@ -16,7 +16,8 @@ use Rattle.rdf_command.specs.declared.task.Task.{Task}
 use Rattle.rdf_command.specs.declared.task.WordsFault.{WordsFault}
 use Rattle.rdf_command.specs.declared.task.WordsFault.TheVariants.{Memory}
 use Rattle.rdf_command.specs.Addresses.{Folders, IsAddress, IsFolderFor, LacksAddress}
-use Rattle.rdf_command.specs.Outputs.{EndsTo, Outputs, output_of}
+use Rattle.rdf_command.specs.Asides.{EndsBySkip, skip_of}
+use Rattle.rdf_command.specs.Outputs.{Outputs}
 use Rattle.rdf_command.specs.Runs.{FilesRead}
 use Rattle.rdf_command.specs.Several.{EndsEach, GivesBindings, GivesNoBindings}
 use Rattle.rdf_command.specs.Statuses.{GoesTo, RefusesWords, Reports, ReportsLoad, address_status, address_text, load_status}
@@ -68,12 +69,13 @@ pub record IsNotOpen (is_shut : Text → Type 0) (t : Task) (status : ℕ) (out_
   pub reported : Reports (codes "rdfconv: cannot open file\n") err_old err.contents err.has_failed
 
 -- What the task names was opened, the file of bindings where there is one, and the document, its file or else standard input; and the run of the
--- task over these ended so, with the files given back, whose lines went to the output or to a file. Or a file did not open.
+-- task over these ended so, with the files given back, whose lines went to the output or to a file, and bad ones to a file where that is asked for. Or a
+-- file did not open.
 abbrev pub OneEnds : (Option Text → Option (List ℕ) → Type 0) → (Text → Type 0) → Outputs → Task → Option FilesRead → ℕ
     → Option (List ℕ) → Written → Option (List ℕ) → Written → Type 0
 OneEnds has_document is_shut says t files status out_old out err_old err =
     ((prefixes : Option (Option (List ℕ))) × (known : Option (List ℕ)) × HasPrefixes has_document (prefixes_of t) prefixes
-    × has_document (file_of t) known × EndsTo (output_of t) says t prefixes known files status out_old out err_old err)
+    × has_document (file_of t) known × EndsBySkip (skip_of t) says t prefixes known files status out_old out err_old err)
     ⊎ IsNotOpen is_shut t status out_old out err_old err
 
 -- The document has no address to be its base, which the status and the text on the error output say, and nothing was read.

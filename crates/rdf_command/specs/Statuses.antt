@@ -1,5 +1,5 @@
 -- The status that the program exits with, and the texts that it writes.
-use Rattle.std.specs.Prelude.{◌≡◌, ◌≢◌, ◌⊎◌, ℕ, Bool, true, false, List, [], ◌++◌, Option, codes, decimal}
+use Rattle.std.specs.Prelude.{◌≡◌, ◌≢◌, ◌⊎◌, ◌==◌, ℕ, Bool, true, false, List, [], ◌++◌, Option, codes, cond, decimal}
 use Rattle.std.specs.Io.KnownBytes.{Appends}
 use Rattle.std.specs.String.{string_bytes}
 use Rattle.clap.specs.Words.{kind_of}
@@ -13,6 +13,7 @@ use Rattle.rdf_stream.specs.declared.fault.LoadFault.TheVariants as load
 use Rattle.rdf_stream.specs.declared.fault.LoadFault.TheVariants.{Bad}
 use Rattle.rdf_stream.specs.declared.fault.StreamFault.{StreamFault}
 use Rattle.rdf_stream.specs.declared.fault.StreamFault.TheVariants.{Refused, Read, Write, Memory}
+use Rattle.rdf_stream.specs.declared.skips.SkipSummary.{SkipSummary}
 use Rattle.rdf_terms.specs.declared.fault.TermFault.{TermFault}
 use Rattle.rdf_terms.specs.declared.fault.TermFault.TheVariants as term
 use Rattle.rdf_command.specs.declared.host.NoOutput.{NoOutput}
@@ -80,6 +81,18 @@ ReportsLoad (Bad f) old new failed = Reports (prefixes_text f.line) old new fail
 ReportsLoad load.Read old new failed = Reports (report_text Read) old new failed
 ReportsLoad load.Memory old new failed = Reports (report_text Memory) old new failed
 
+-- the status of a document that was read to its end, where bad lines were put aside: 1 where there are any
+abbrev pub skip_status : SkipSummary → ℕ
+skip_status s = cond (s.bad_lines == 0) 0 1
+
+-- the line that counts the quads of such a document and its bad lines
+abbrev pub counts_text : SkipSummary → List ℕ
+counts_text s = codes "rdfconv: " ++ decimal s.quads ++ codes " quads, " ++ decimal s.bad_lines ++ codes " lines put aside\n"
+
+-- What is reported of it. The line takes memory, and nothing is reported where that is refused.
+abbrev pub ReportsCounts : SkipSummary → Option (List ℕ) → Option (List ℕ) → Bool → Type 0
+ReportsCounts s old new failed = Reports (counts_text s) old new failed ⊎ (new ≡ old)
+
 -- the status where an output was not created
 abbrev pub output_status : NoOutput → ℕ
 output_status output.NotOpen = 3
@@ -120,6 +133,7 @@ RefusesWords (words.Usage e) status old new failed = IsUsageStatus (kind_of e) s
 RefusesWords words.BadBase status old new failed = (status ≡ 2) × Reports (codes "rdfconv: bad base\n") old new failed
 RefusesWords words.BadNodePrefix status old new failed = (status ≡ 2) × Reports (codes "rdfconv: bad node prefix\n") old new failed
 RefusesWords words.BadGraph status old new failed = (status ≡ 2) × Reports (codes "rdfconv: bad graph\n") old new failed
+RefusesWords words.BadSkip status old new failed = (status ≡ 2) × Reports (codes "rdfconv: --skip takes one document of nt or nq\n") old new failed
 RefusesWords (words.NoFormat name) status old new failed = (status ≡ 2) × (Reports (no_format_text (string_bytes name)) old new failed ⊎ (new ≡ old))
 RefusesWords words.Memory status old new failed = (status ≡ 4) × Reports (report_text Memory) old new failed
 

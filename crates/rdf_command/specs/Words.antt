@@ -18,12 +18,13 @@ use Rattle.rdf_lines.specs.declared.form.Escapes.{Escapes}
 use Rattle.rdf_lines.specs.declared.form.Escapes.TheVariants.{Plain, Ascii}
 use Rattle.rdf_stream.specs.declared.form.Form.{Form}
 use Rattle.rdf_stream.specs.declared.form.Form.TheVariants.{NTriples, NQuads, Turtle, TriG}
+use Rattle.rdf_stream.specs.Skips.{HasLines}
 use Rattle.rdf_command.specs.declared.task.Action.{Action}
 use Rattle.rdf_command.specs.declared.task.Action.TheVariants.{Check, Show, Convert}
 use Rattle.rdf_command.specs.declared.task.Document.{Document}
 use Rattle.rdf_command.specs.declared.task.Task.{Task}
 use Rattle.rdf_command.specs.declared.task.WordsFault.{WordsFault}
-use Rattle.rdf_command.specs.declared.task.WordsFault.TheVariants.{Usage, BadBase, BadNodePrefix, BadGraph, NoFormat, Memory}
+use Rattle.rdf_command.specs.declared.task.WordsFault.TheVariants.{Usage, BadBase, BadNodePrefix, BadGraph, BadSkip, NoFormat, Memory}
 
 -- ---- names
 
@@ -171,6 +172,15 @@ pub record HasForms (p : Entered) (t : Task) : Type 0 where
   pub form : IsFormBy word (name_by (first_of (codes "file") p.1)) t.form
   pub more : AreDocuments word (further_by p.0 (all_of (codes "file") p.1)) (further_of t.more.items)
 
+-- Bad lines can be put aside of a document in this format, where these are the names of the documents after it: it is read line by line, and the only
+-- one.
+abbrev pub CanSkip : Form → List Text → Type 0
+CanSkip f further = HasLines f × (further ≡ [])
+
+-- where the task puts bad lines aside, its document is read line by line
+abbrev pub SkipFits : Task → Type 0
+SkipFits t = IfSome t.skip (λ _. HasLines t.form)
+
 -- each field of the task is what the subcommand's name and matches give
 pub record IsTaskBy (p : Entered) (t : Task) : Type 0 where
   pub action : action_name t.action ≡ p.0
@@ -188,6 +198,8 @@ pub record IsTaskBy (p : Entered) (t : Task) : Type 0 where
   pub prefixes : option_map string_bytes t.prefixes ≡ first_of (codes "prefixes") p.1
   pub file : option_map string_bytes t.file ≡ file_by (first_of (codes "file") p.1)
   pub output : option_map string_bytes t.output ≡ file_by (first_of (codes "output") p.1)
+  pub skip : option_map string_bytes t.skip ≡ first_of (codes "skip") p.1
+  pub good_skip : IfSome (first_of (codes "skip") p.1) (λ _. CanSkip t.form (further_by p.0 (all_of (codes "file") p.1)))
 
 -- the base among the matches is no IRI, or too long
 abbrev pub HasBadBase : Entered → Type 0
@@ -202,6 +214,15 @@ HasBadNodePrefix p = (text : Text) × (first_of (codes "node-prefix") p.1 ≡ So
 abbrev pub HasBadGraph : Entered → Type 0
 HasBadGraph p = (text : Text) × (most : ℕ) × (first_of (codes "graph") p.1 ≡ Some text)
     × (number_of (codes "iri") p.1 ≡ Some most) × (IsBase most text → ⊥)
+
+-- bad lines are to be put aside by the matches, but the document's format is not read line by line, or there are several
+pub record HasBadSkip (p : Entered) : Type 0 where
+  pub given : (text : Text) × (first_of (codes "skip") p.1 ≡ Some text)
+  pub word : Text
+  pub format : first_of (codes "format") p.1 ≡ Some word
+  pub form : Form
+  pub is_form : IsFormBy word (name_by (first_of (codes "file") p.1)) form
+  pub bad : CanSkip form (further_by p.0 (all_of (codes "file") p.1)) → ⊥
 
 -- a document of this name has no format by the value of --format: it is to be the one that the name ends in, and it ends in none
 abbrev pub IsFormless : Text → Text → Type 0
@@ -221,6 +242,7 @@ NoFormOf word name (Usage e) = ⊥
 NoFormOf word name BadBase = ⊥
 NoFormOf word name BadNodePrefix = ⊥
 NoFormOf word name BadGraph = ⊥
+NoFormOf word name BadSkip = ⊥
 NoFormOf word name (NoFormat at) = (string_bytes at ≡ name) × IsFormless word name
 NoFormOf word name Memory = Unit
 
@@ -230,6 +252,7 @@ NoFormsOf word names (Usage e) = ⊥
 NoFormsOf word names BadBase = ⊥
 NoFormsOf word names BadNodePrefix = ⊥
 NoFormsOf word names BadGraph = ⊥
+NoFormsOf word names BadSkip = ⊥
 NoFormsOf word names (NoFormat at) = IsFormless word (string_bytes at) × ((front rest : List Text) × (names ≡ front ++ string_bytes at ∷ rest))
 NoFormsOf word names Memory = Unit
 
@@ -239,6 +262,7 @@ NoBaseOf most base (Usage e) = ⊥
 NoBaseOf most base BadBase = (text : Text) × (base ≡ Some text) × (IsBase most text → ⊥)
 NoBaseOf most base BadNodePrefix = ⊥
 NoBaseOf most base BadGraph = ⊥
+NoBaseOf most base BadSkip = ⊥
 NoBaseOf most base (NoFormat at) = ⊥
 NoBaseOf most base Memory = Unit
 
@@ -248,6 +272,7 @@ NoWordOf word (Usage e) = ⊥
 NoWordOf word BadBase = ⊥
 NoWordOf word BadNodePrefix = (text : Text) × (word ≡ Some text) × (IsWord text → ⊥)
 NoWordOf word BadGraph = ⊥
+NoWordOf word BadSkip = ⊥
 NoWordOf word (NoFormat at) = ⊥
 NoWordOf word Memory = Unit
 
@@ -257,8 +282,19 @@ NoGraphOf most graph (Usage e) = ⊥
 NoGraphOf most graph BadBase = ⊥
 NoGraphOf most graph BadNodePrefix = ⊥
 NoGraphOf most graph BadGraph = (text : Text) × (graph ≡ Some text) × (IsBase most text → ⊥)
+NoGraphOf most graph BadSkip = ⊥
 NoGraphOf most graph (NoFormat at) = ⊥
 NoGraphOf most graph Memory = Unit
+
+-- why a file for bad lines is none, where the document has this format and these are the names of those after it
+abbrev pub NoSkipOf : Form → List Text → Option Text → WordsFault → Type 0
+NoSkipOf f further skip (Usage e) = ⊥
+NoSkipOf f further skip BadBase = ⊥
+NoSkipOf f further skip BadNodePrefix = ⊥
+NoSkipOf f further skip BadGraph = ⊥
+NoSkipOf f further skip BadSkip = ((text : Text) × (skip ≡ Some text)) × (CanSkip f further → ⊥)
+NoSkipOf f further skip (NoFormat at) = ⊥
+NoSkipOf f further skip Memory = Unit
 
 -- why matches give no task
 abbrev pub NoTaskBy : Entered → WordsFault → Type 0
@@ -266,6 +302,7 @@ NoTaskBy p (Usage e) = ⊥
 NoTaskBy p BadBase = HasBadBase p
 NoTaskBy p BadNodePrefix = HasBadNodePrefix p
 NoTaskBy p BadGraph = HasBadGraph p
+NoTaskBy p BadSkip = HasBadSkip p
 NoTaskBy p (NoFormat name) = HasFormless p (string_bytes name)
 NoTaskBy p Memory = Unit
 
@@ -285,12 +322,13 @@ abbrev pub GivesTask : App → List Text → Task → Type 0
 GivesTask a words t = Gives a words (λ p. IsTaskBy p t)
 
 -- Why the words give no task: clap's definition refuses them, or asks for help, with a kind that it names; or the base, the word for names or the
--- graph is bad, or a document has no format.
+-- graph is bad, a document has no format, or bad lines are to be put aside where that can't be done.
 abbrev pub GivesNone : App → List Text → WordsFault → Type 0
 GivesNone a words (Usage e) = (kind_of e ≢ OutOfMemory) × IsAmong (kind_of e) (fault_of a words)
 GivesNone a words BadBase = Gives a words HasBadBase
 GivesNone a words BadNodePrefix = Gives a words HasBadNodePrefix
 GivesNone a words BadGraph = Gives a words HasBadGraph
+GivesNone a words BadSkip = Gives a words HasBadSkip
 GivesNone a words (NoFormat name) = Gives a words (λ p. HasFormless p (string_bytes name))
 GivesNone a words Memory = Unit
 
@@ -305,5 +343,6 @@ IsUsageOf kind (Usage e) = kind_of e ≡ kind
 IsUsageOf kind BadBase = ⊥
 IsUsageOf kind BadNodePrefix = ⊥
 IsUsageOf kind BadGraph = ⊥
+IsUsageOf kind BadSkip = ⊥
 IsUsageOf kind (NoFormat name) = ⊥
 IsUsageOf kind Memory = Unit

@@ -1,6 +1,6 @@
 // The task that the words of the command line ask for.
 
-ghost use Rattle.std.specs.Prelude.{◌≡◌, ◌⊎◌, ◌<◌, ◌≤◌, ◌^◌, IfErr, IfOk, IfSome, OnOk, Some, Option, chars, codes, cond, map, option_map, string_bytes, ℕ, List};
+ghost use Rattle.std.specs.Prelude.{◌≡◌, ◌⊎◌, ◌<◌, ◌≤◌, ◌^◌, IfErr, IfOk, IfSome, OnOk, Some, Option, chars, codes, false, true, cond, map, option_map, string_bytes, ℕ, List};
 ghost use Rattle.std.specs.Result.{IsErrOf};
 ghost use Rattle.clap.specs.Words.{App, Text, all_of, first_of, found_of, kind_of, rows_of, subcommand_rows_of};
 ghost use Rattle.clap.specs.declared.builder.value_parser.ValueParser.{ValueParser};
@@ -9,10 +9,11 @@ ghost use Rattle.rdf_iri.specs.Scope.{BaseFits};
 ghost use Rattle.rdf_lines.specs.declared.form.Escapes.TheVariants.{Ascii, Plain};
 ghost use Rattle.rdf_iri.specs.Texts.{byte_len};
 ghost use Rattle.rdf_options.specs.Options.{rdfconv};
+ghost use Rattle.rdf_stream.specs.Skips.{HasLines};
 ghost use Rattle.rdf_command.specs.Programs.{IsTaskOf, IsNoTaskOf};
 ghost use Rattle.rdf_command.specs.Words.{GivesNone, GivesTask, HasLimits, HasNumber, HasSizes, IsBase, IsEntered, IsTaskBy, IsUsageOf, IsWord, number_of};
-ghost use Rattle.rdf_command.specs.Words.{NoBaseOf, NoFormOf, NoFormsOf, NoGraphOf, NoTaskBy, NoWordOf, base_by, escapes_by, file_by, is_addressed, is_given};
-ghost use Rattle.rdf_command.specs.Words.{AreDocuments, IsFormBy, IsFormatWord, format_names, further_by, further_of, name_by};
+ghost use Rattle.rdf_command.specs.Words.{NoBaseOf, NoFormOf, NoFormsOf, NoGraphOf, NoSkipOf, NoTaskBy, NoWordOf, SkipFits, base_by, escapes_by, file_by, is_addressed, is_given};
+ghost use Rattle.rdf_command.specs.Words.{AreDocuments, CanSkip, IsFormBy, IsFormatWord, format_names, further_by, further_of, name_by};
 
 use crate::names::{FORMATS, action_of, form_by};
 use crate::task::{Document, Task, WordsFault};
@@ -25,6 +26,7 @@ use std::alloc::{AllocError, Global};
 /// The task that the words ask for. The first word is the program's name.
 pub fn command_of<'a>(alloc: Global, words: &'a [&'a str]) -> Result<Task, WordsFault>
     ensures base { IfOk result (λ task. BaseFits task.base task.limits) }
+    ensures skip { IfOk result SkipFits }
     ensures task { IfOk result (IsTaskOf (map (λ s. s.now) words.entry.now)) }
     ensures refused { IfErr result (IsNoTaskOf (map (λ s. s.now) words.entry.now)) }
 {
@@ -59,6 +61,7 @@ fn command_by<'a>(
     requires { map (λ s. s.now) formats.now ≡ format_names }
     ensures task { IfOk result (GivesTask (rdfconv (Names formats.entry)) (map (λ s. s.now) words.entry.now)) }
     ensures base { IfOk result (λ task. BaseFits task.base task.limits) }
+    ensures skip { IfOk result SkipFits }
     ensures refused { IfErr result (GivesNone (rdfconv (Names formats.entry)) (map (λ s. s.now) words.entry.now)) }
 {
     let matches = program(alloc, formats)?.try_get_matches_from(words)?;
@@ -72,6 +75,7 @@ fn task_of(alloc: Global, name: &str, found: &ArgMatches<'_>) -> Result<Task, Wo
     requires { IsEntered (name.now, rows_of (found_of found.now)) }
     ensures task { IfOk result (IsTaskBy (name.now, rows_of (found_of found.now))) }
     ensures base { IfOk result (λ task. BaseFits task.base task.limits) }
+    ensures skip { IfOk result SkipFits }
     ensures refused { IfErr result (NoTaskBy (name.now, rows_of (found_of found.now))) }
 {
     let action = action_of(name);
@@ -87,7 +91,9 @@ fn task_of(alloc: Global, name: &str, found: &ArgMatches<'_>) -> Result<Task, Wo
     let file = owned(alloc, file_by(found.get_str("file")))?;
     let output = owned(alloc, file_by(found.get_str("output")))?;
     let addressed = is_addressed(found.get_str("base"));
-    let more = documents_of(alloc, word, further_by(name, found.get_strs("file")))?;
+    let further = further_by(name, found.get_strs("file"));
+    let more = documents_of(alloc, word, further)?;
+    let skip = skip_of(alloc, form, further, found.get_str("skip"))?;
     Ok(Task {
         action,
         form,
@@ -101,6 +107,7 @@ fn task_of(alloc: Global, name: &str, found: &ArgMatches<'_>) -> Result<Task, Wo
         prefixes,
         file,
         output,
+        skip,
         more,
     })
 }
@@ -329,6 +336,46 @@ fn node_prefix_in(alloc: Global, text: &str) -> Result<NodePrefix, WordsFault>
     match NodePrefix::new(word) {
         Some(prefix) => Ok(prefix),
         None => Err(WordsFault::BadNodePrefix),
+    }
+}
+
+// The file for bad lines of a document in this format, where these are the names of the documents after it.
+fn skip_of(
+    alloc: Global,
+    form: Form,
+    further: &[&str],
+    text: Option<&str>,
+) -> Result<Option<String>, WordsFault>
+    ensures skip { IfOk result (λ skip. option_map string_bytes skip ≡ option_map (λ s. s.now) text.entry) }
+    ensures good { OnOk result (IfSome (option_map (λ s. s.now) text.entry) (λ _. CanSkip form (map (λ s. s.now) further.now))) }
+    ensures lines { IfOk result (λ skip. IfSome skip (λ _. HasLines form)) }
+    ensures bad { IfErr result (NoSkipOf form (map (λ s. s.now) further.now) (option_map (λ s. s.now) text.entry)) }
+{
+    match text {
+        Some(text) => Ok(Some(skip_in(alloc, form, further, text)?)),
+        None => Ok(None),
+    }
+}
+
+fn skip_in(alloc: Global, form: Form, further: &[&str], text: &str) -> Result<String, WordsFault>
+    ensures skip { IfOk result (λ skip. string_bytes skip ≡ text.now) }
+    ensures good { OnOk result (CanSkip form (map (λ s. s.now) further.now)) }
+    ensures bad { IfErr result (NoSkipOf form (map (λ s. s.now) further.now) (Some text.now)) }
+{
+    if !can_skip(form, further) {
+        return Err(WordsFault::BadSkip);
+    }
+    Ok(String::from_str(alloc, text)?)
+}
+
+// Whether bad lines can be put aside: of one document, which is read line by line.
+fn can_skip(form: Form, further: &[&str]) -> bool
+    ensures can { result ≡ true → CanSkip form (map (λ s. s.now) further.now) }
+    ensures none { result ≡ false → CanSkip form (map (λ s. s.now) further.now) → ⊥ }
+{
+    match form {
+        Form::NTriples | Form::NQuads => further.is_empty(),
+        Form::Turtle | Form::TriG => false,
     }
 }
 

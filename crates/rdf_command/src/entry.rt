@@ -8,6 +8,7 @@ ghost use Rattle.rdf_iri.specs.Texts.{byte_len};
 ghost use Rattle.rdf_command.specs.Addresses.{IsAddress, LacksAddress};
 ghost use Rattle.rdf_command.specs.Programs.{HasPrefixes, HostEnds, IsGiven, IsNotGiven, OneEnds, OneEndsAt, TaskEnds, file_of, folders_of, outputs_of, prefixes_of};
 ghost use Rattle.rdf_command.specs.Runs.{AreFresh, AsWritten, files_told};
+ghost use Rattle.rdf_command.specs.Words.{SkipFits};
 
 use crate::addresses::address_within;
 use crate::commands::{command_of, not_utf8};
@@ -53,6 +54,7 @@ pub fn start<H: Host, O: Drain, E: Drain>(
 // The task of the command line. A word that is no UTF-8 makes it no command.
 fn task_of<H: Host>(alloc: Global, host: &H) -> Result<Task, WordsFault>
     ensures base { IfOk result (λ task. BaseFits task.base task.limits) }
+    ensures skip { IfOk result SkipFits }
     ensures task { IfOk result (IsGiven (H.has_words host.now)) }
     ensures refused { IfErr result (IsNotGiven (H.has_words host.now) (H.has_bad_word host.now)) }
 {
@@ -79,6 +81,7 @@ fn run_task<H: Host, O: Drain, E: Drain>(
     err: &mut E,
 ) -> Ended<H::Input>
     requires base { BaseFits task.base task.limits }
+    requires skip { SkipFits task }
     requires out { O.has_failed out.old ≡ false }
     requires err { E.has_failed err.old ≡ false }
     ensures { AsWritten (TaskEnds (folders_of H.Host host.now) (H.has_document host.now) (H.is_shut host.now) (outputs_of H.Host host.now) task (option_map (files_told H.Input.Source) result.files) result.status)
@@ -102,6 +105,7 @@ fn run_alone<H: Host, O: Drain, E: Drain>(
     err: &mut E,
 ) -> Ended<H::Input>
     requires base { BaseFits task.base task.limits }
+    requires skip { SkipFits task }
     requires out { O.has_failed out.old ≡ false }
     requires err { E.has_failed err.old ≡ false }
     ensures { AsWritten (OneEndsAt task.addressed (folders_of H.Host host.now) (H.has_document host.now) (H.is_shut host.now) (outputs_of H.Host host.now)
@@ -160,6 +164,7 @@ fn run_one<H: Host, O: Drain, E: Drain>(
     err: &mut E,
 ) -> Ended<H::Input>
     requires base { BaseFits task.base task.limits }
+    requires skip { SkipFits task }
     requires out { O.has_failed out.old ≡ false }
     requires err { E.has_failed err.old ≡ false }
     ensures { AsWritten (OneEnds (H.has_document host.now) (H.is_shut host.now) (outputs_of H.Host host.now) task (option_map (files_told H.Input.Source) result.files) result.status)

@@ -2,6 +2,7 @@
 #![tactic(auto)]
 
 mod addresses;
+mod asides;
 mod commands;
 mod entry;
 mod host;

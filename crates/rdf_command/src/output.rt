@@ -5,11 +5,14 @@ ghost use Rattle.rdf_iri.specs.Scope.{BaseFits};
 ghost use Rattle.rdf_stream.specs.Messages.{report_text};
 ghost use Rattle.rdf_stream.specs.Told.{written};
 ghost use Rattle.rdf_stream.specs.declared.fault.StreamFault.{StreamFault};
+ghost use Rattle.rdf_command.specs.Asides.{EndsBySkip, skip_of};
 ghost use Rattle.rdf_command.specs.Outputs.{EndsInto, EndsOnto, EndsTo, output_of};
 ghost use Rattle.rdf_command.specs.Programs.{outputs_of};
 ghost use Rattle.rdf_command.specs.Runs.{AreFresh, AsWritten, files_told};
 ghost use Rattle.rdf_command.specs.Statuses.{Reports};
+ghost use Rattle.rdf_command.specs.Words.{SkipFits};
 
+use crate::asides::run_skipping;
 use crate::entry::Ended;
 use crate::host::Host;
 use crate::reports::{refuse_name, refuse_output};
@@ -18,8 +21,33 @@ use crate::task::Task;
 use rdf_stream::{Drain, Failed, Source};
 use std::alloc::Global;
 
-/// Runs a task over its files. Its lines go to the file that it writes, or to the output where it writes none.
+/// Runs a task over its files. Its bad lines go into a file where it has one for them, and are refused else.
 pub fn run_over<H: Host, O: Drain, E: Drain>(
+    alloc: Global,
+    task: Task,
+    host: &H,
+    files: Files<H::Input>,
+    out: &mut O,
+    err: &mut E,
+) -> Ended<H::Input>
+    requires base { BaseFits task.base task.limits }
+    requires skip { SkipFits task }
+    requires fresh { AreFresh H.Input.has_ended H.Input.has_failed files }
+    requires out { O.has_failed out.old ≡ false }
+    requires err { E.has_failed err.old ≡ false }
+    ensures { AsWritten (EndsBySkip (skip_of task) (outputs_of H.Host host.now) task (option_map H.Input.remaining files.prefixes)
+        (H.Input.remaining files.document) (option_map (files_told H.Input.Source) result.files) result.status)
+        O.Drain E.Drain out.old out.new err.old err.new }
+{
+    let mut task = task;
+    match task.skip.take() {
+        Some(bad) => run_skipping(alloc, task, bad.as_str(), host, files, out, err),
+        None => run_to(alloc, task, host, files, out, err),
+    }
+}
+
+// Runs a task over its files. Its lines go to the file that it writes, or to the output where it writes none.
+fn run_to<H: Host, O: Drain, E: Drain>(
     alloc: Global,
     task: Task,
     host: &H,

@@ -4,14 +4,14 @@ ghost use Rattle.std.specs.Prelude.{◌≡◌, ◌⊎◌, ◌++◌, false, codes
 ghost use Rattle.rdf_stream.specs.Messages.{report_text};
 ghost use Rattle.rdf_stream.specs.declared.fault.StreamFault.{StreamFault};
 ghost use Rattle.rdf_command.specs.Statuses.{GoesTo, RefusesWords, Reports, ReportsExplained, ReportsExplainedOf, ReportsLoad, ReportsNoAddressOf, ReportsOf, address_status, address_text, explanation, load_status};
-ghost use Rattle.rdf_command.specs.Statuses.{no_format_text, output_status, output_text, prefixes_text, status_of};
+ghost use Rattle.rdf_command.specs.Statuses.{ReportsCounts, counts_text, no_format_text, output_status, output_text, prefixes_text, skip_status, status_of};
 
 use crate::host::NoOutput;
 use crate::task::WordsFault;
 use clap::Error;
 use itoa::Buffer;
 use rdf_stream::{
-    Drain, Failed, Kinds, LoadFault, StreamFault, TermFault, explain as explain_line,
+    Drain, Failed, Kinds, LoadFault, SkipSummary, StreamFault, TermFault, explain as explain_line,
     out_of_memory, put_all, read_failed, report, write_failed,
 };
 use std::alloc::{AllocError, Global};
@@ -164,6 +164,29 @@ fn prefixes_line(alloc: Global, line: u64) -> Result<Vec<u8>, AllocError>
     Ok(text)
 }
 
+/// The line and the status of a document that was read to its end, where bad lines were put aside.
+pub fn tell_counts<E: Drain>(alloc: Global, summary: SkipSummary, err: &mut E) -> u8
+    requires { E.has_failed err.old ≡ false }
+    ensures status { result ≡ skip_status summary }
+    ensures reported { ReportsCounts summary (E.contents err.old) (E.contents err.new) (E.has_failed err.new) }
+{
+    if let Ok(line) = counts_line(alloc, summary) {
+        tell_bytes(line.as_slice(), err);
+    }
+    if summary.bad_lines == 0 { 0 } else { 1 }
+}
+
+fn counts_line(alloc: Global, summary: SkipSummary) -> Result<Vec<u8>, AllocError>
+    ensures { IfOk result (λ text. text.items ≡ counts_text summary) }
+{
+    let mut text = Vec::from_slice(alloc, b"rdfconv: ")?;
+    put_number(summary.quads, &mut text)?;
+    text.extend_from_slice(b" quads, ")?;
+    put_number(summary.bad_lines, &mut text)?;
+    text.extend_from_slice(b" lines put aside\n")?;
+    Ok(text)
+}
+
 /// The text and the status of a file that did not open.
 pub fn refuse_file<E: Drain>(err: &mut E) -> u8
     requires { E.has_failed err.old ≡ false }
@@ -258,6 +281,10 @@ pub fn refuse_words<O: Drain, E: Drain>(
         }
         WordsFault::BadGraph => {
             tell("rdfconv: bad graph\n", err);
+            2
+        }
+        WordsFault::BadSkip => {
+            tell("rdfconv: --skip takes one document of nt or nq\n", err);
             2
         }
         WordsFault::NoFormat(name) => {

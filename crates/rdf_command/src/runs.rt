@@ -31,7 +31,8 @@ pub struct Files<I> {
     pub document: I,
 }
 
-/// Runs a task over its files, which it is lent, and answers the status. The file of bindings is read first.
+/// Runs a task over its files, which it is lent, and answers the status. The file of bindings is read first. Its lines
+/// go to the output, and a bad line is refused, whatever files the task names for these: `start` has them written.
 pub fn run<I: Source, O: Drain, E: Drain>(
     alloc: Global,
     task: Task,
@@ -65,7 +66,11 @@ pub fn run<I: Source, O: Drain, E: Drain>(
 }
 
 // What a task asks for, with the bindings of its file.
-fn job_of<I: Source>(alloc: Global, task: Task, prefixes: &mut Option<I>) -> Result<Job, LoadFault>
+pub(crate) fn job_of<I: Source>(
+    alloc: Global,
+    task: Task,
+    prefixes: &mut Option<I>,
+) -> Result<Job, LoadFault>
     requires base { BaseFits task.base task.limits }
     requires fresh { IfSome prefixes.old (λ s. (I.has_ended s ≡ false) × (I.has_failed s ≡ false)) }
     ensures job { IfOk result (IsJobOf task (option_map I.remaining prefixes.old) (option_map (told I.Source) prefixes.new)) }

@@ -57,6 +57,8 @@ pub struct Task {
     pub file: Option<String>,
     /// The file that the lines are written to, or None for standard output.
     pub output: Option<String>,
+    /// The file that bad lines of a line format are put into, or None where a bad line is refused. `show` has none.
+    pub skip: Option<String>,
     /// The documents that are checked after this one, in the order of their words. No other action has any.
     pub more: Vec<Document>,
 }
@@ -72,6 +74,8 @@ pub enum WordsFault {
     BadNodePrefix,
     /// The graph is no IRI, or has more bytes than an IRI may have.
     BadGraph,
+    /// Bad lines are to be put into a file, but the format is not read line by line, or there are several documents.
+    BadSkip,
     /// The format is to be the one that a document's name ends in, and this name ends in none.
     NoFormat(String),
     /// A growth of memory was refused.

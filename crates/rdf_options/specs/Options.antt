@@ -101,9 +101,17 @@ output_rule = record (new_rule (codes "output")) { short = Some 111; long = Some
 abbrev pub with_output : App → App
 with_output a = with_rule a output_rule
 
+-- the file that bad lines are put into; they are refused unless it is given
+abbrev pub skip_rule : Rule
+skip_rule = record (new_rule (codes "skip")) { long = Some (codes "skip"); action = Some Set; value_names = 1 }
+
+-- a subcommand that can go on after bad lines
+abbrev pub with_skip : App → App
+with_skip a = with_rule a skip_rule
+
 -- the subcommand that counts what documents bring
 abbrev pub check_app : ValueParser → App
-check_app names = with_prefixes (action_app names files_rule (codes "check"))
+check_app names = with_skip (with_prefixes (action_app names files_rule (codes "check")))
 
 -- the subcommand that shows tokens
 abbrev pub show_app : ValueParser → App
@@ -111,7 +119,7 @@ show_app names = action_app names file_rule (codes "show")
 
 -- the subcommand that writes quads
 abbrev pub convert_app : ValueParser → App
-convert_app names = with_output (with_graph (with_node_prefix (with_ascii (with_prefixes (action_app names file_rule (codes "convert"))))))
+convert_app names = with_skip (with_output (with_graph (with_node_prefix (with_ascii (with_prefixes (action_app names file_rule (codes "convert")))))))
 
 -- the program's command line
 abbrev pub rdfconv : ValueParser → App

@@ -6,7 +6,7 @@ ghost use Rattle.clap.specs.declared.builder.value_parser.ValueParser.TheVariant
 ghost use Rattle.rdf_options.specs.Building.{HasRule, ReadsAs};
 ghost use Rattle.rdf_options.specs.Options.{action_app, check_app, convert_app, limit_rule, rdfconv, show_app};
 ghost use Rattle.rdf_options.specs.Options.{ascii_rule, base_rule, bindings_rule, depth_rule, explain_rule, file_rule, files_rule, format_rule};
-ghost use Rattle.rdf_options.specs.Options.{graph_rule, iri_rule, node_prefix_rule, output_rule, prefixes_rule, token_rule};
+ghost use Rattle.rdf_options.specs.Options.{graph_rule, iri_rule, node_prefix_rule, output_rule, prefixes_rule, skip_rule, token_rule};
 
 use clap::builder::ValueParser;
 use clap::{Arg, ArgAction, Command};
@@ -50,15 +50,19 @@ Options of a command, which reads FILE, or standard input where there is none or
   -o, --output OUTPUT
                    (convert) file to write: it is there whole, or is what it was; it is written as
                    OUTPUT.part, which must not be there, and renamed when all is on its device
+  --skip BADLINES  (check, convert) with --format nt or nq: file for the bad lines of one document,
+                   written as OUTPUT is; the quads are those of the document without these lines,
+                   and a line on standard error counts both
 Past one of the limits N a document is refused. `show` looks at tokens alone: --base, --depth,
 --bindings and --iri have no use there, but a base that is no IRI, or is too long, is reported.
 
 Exit status:
   0  accepted, or help was asked for
-  1  refused, with `rdfconv: REASON at byte N, line M` on standard error
+  1  refused, with `rdfconv: REASON at byte N, line M` on standard error, or lines in BADLINES
   2  the words are no command, the base or the graph is no IRI or too long, WORD is empty or has
-     another character, a file's name ends in no format where it is asked for one, or a line of
-     PREFIXES is refused, with `rdfconv: bad prefixes at line N`
+     another character, a file's name ends in no format where it is asked for one, --skip is with
+     another format or several FILEs, or a line of PREFIXES is refused, with
+     `rdfconv: bad prefixes at line N`
   3  a file does not open or can't be created, or a read or write failed
   4  out of memory
 The status of several documents is the greatest of theirs.";
@@ -69,14 +73,17 @@ The format is not guessed from the file's name, unless it is asked for by `--for
 Past one of the limits N a document is refused. Of several FILEs each has a line with its name
 in front, on standard output where it is accepted, and else on standard error; after a refusal
 the next is read. The status is the greatest of theirs.
+With --skip, which takes one FILE of nt or nq, the bad lines go into BADLINES, and a line on
+standard error counts them and the quads of the others. BADLINES is there whole, or is what it
+was: it is written as BADLINES.part, which must not be there, and renamed at the end.
 
 Exit status:
   0  accepted, or help was asked for
-  1  refused, with `rdfconv: REASON at byte N, line M` on standard error
+  1  refused, with `rdfconv: REASON at byte N, line M` on standard error, or lines in BADLINES
   2  the words are no command, the base is no IRI or too long, a file's name ends in no format
-     where it is asked for one, or a line of PREFIXES is refused, with
-     `rdfconv: bad prefixes at line N`
-  3  a file does not open, or a read or write failed
+     where it is asked for one, --skip is with another format or several FILEs, or a line of
+     PREFIXES is refused, with `rdfconv: bad prefixes at line N`
+  3  a file does not open or can't be created, or a read or write failed
   4  out of memory";
 
 /// What stands below the help of `convert`.
@@ -85,13 +92,15 @@ The format is not guessed from the file's name, unless it is asked for by `--for
 Past one of the limits N a document is refused.
 OUTPUT is there whole, or is what it was: it is written as OUTPUT.part, which must not be there, and
 renamed when all is on its device. Only a regular file is replaced.
+With --skip, which takes nt or nq, what is written are the quads of the document without its bad
+lines, which go into BADLINES, written as OUTPUT is. A line on standard error counts both.
 
 Exit status:
   0  accepted, or help was asked for
-  1  refused, with `rdfconv: REASON at byte N, line M` on standard error
+  1  refused, with `rdfconv: REASON at byte N, line M` on standard error, or lines in BADLINES
   2  the words are no command, the base or the graph is no IRI or too long, WORD is empty or has
-     another character, a file's name ends in no format where it is asked for one, or a line of
-     PREFIXES is refused, with `rdfconv: bad prefixes at line N`
+     another character, a file's name ends in no format where it is asked for one, --skip is with
+     another format, or a line of PREFIXES is refused, with `rdfconv: bad prefixes at line N`
   3  a file does not open or can't be created, or a read or write failed
   4  out of memory";
 
@@ -165,7 +174,8 @@ fn check_command<'a>(alloc: Global, formats: &'a [&'a str]) -> Result<Command<'a
         notes: CHECK_NOTES,
     };
     let command = action_command(alloc, about, formats, files_argument(alloc))?;
-    command.arg(prefixes_option(alloc))
+    let command = command.arg(prefixes_option(alloc))?;
+    command.arg(skip_option(alloc))
 }
 
 // The subcommand that shows tokens.
@@ -194,7 +204,8 @@ fn convert_command<'a>(alloc: Global, formats: &'a [&'a str]) -> Result<Command<
     let command = command.arg(ascii_option(alloc))?;
     let command = command.arg(node_prefix_option(alloc))?;
     let command = command.arg(graph_option(alloc))?;
-    command.arg(output_option(alloc))
+    let command = command.arg(output_option(alloc))?;
+    command.arg(skip_option(alloc))
 }
 
 // A subcommand with the options that all have, and the argument of what it reads.
@@ -382,6 +393,18 @@ fn output_option<'a>(alloc: Global) -> Arg<'a>
         .value_name("OUTPUT")
         .help(
             "File to write, which is there whole or not at all; without one, or with `-`, standard output",
+        )
+}
+
+fn skip_option<'a>(alloc: Global) -> Arg<'a>
+    ensures { HasRule result skip_rule }
+{
+    Arg::new(alloc, "skip")
+        .long("skip")
+        .action(ArgAction::Set)
+        .value_name("BADLINES")
+        .help(
+            "File for bad lines of nt or nq, after which the others are read; there whole or not at all",
         )
 }
 

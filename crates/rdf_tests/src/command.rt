@@ -16,7 +16,7 @@ use rdf_command::{
 use rdf_stream::{Escapes, Form, In, Limits, Out, Source};
 use rows::{
     Asked, CUTS, Cut, FILES, Fields, INPUT, INTO_FILES, IntoFile, LIMITED, Limited, RUNS, Run,
-    STARTED, Started, TASKS,
+    SKIPS, STARTED, Skip, Started, TASKS,
 };
 use std::alloc::{AllocError, Global};
 use std::test::Fail;
@@ -61,6 +61,7 @@ fn task(alloc: Global, action: Action, form: Form, limits: Limits) -> Task
         prefixes: None,
         file: None,
         output: None,
+        skip: None,
         more: Vec::new(alloc),
     }
 }
@@ -156,6 +157,8 @@ fn other_text(task: &Task, fields: &Fields<'_>) -> Option<&'static str> {
         Some("file")
     } else if task.output.as_deref() != fields.output {
         Some("output")
+    } else if task.skip.as_deref() != fields.skip {
+        Some("skip")
     } else {
         other_document(task.more.as_slice(), fields.more)
     }
@@ -336,6 +339,7 @@ fn long_task_differs_in(alloc: Global, base: &str, file: &str) -> Option<&'stati
         prefixes: None,
         file: Some(file),
         output: None,
+        skip: None,
         more: &[],
     };
     task_differs_in(alloc, &words, &fields)
@@ -517,6 +521,42 @@ fn unlike_file(alloc: Global) -> Option<(&'static str, &'static str)> {
 #[test]
 fn a_file_is_written_whole_or_not_at_all(rt: HostRuntime) {
     assert_eq!(rt; unlike_file(rt.alloc()), None);
+}
+
+/// What differs in the files of a run that goes on after bad lines.
+fn skip_made_differs_in(outputs: &Outputs, row: &Skip) -> Option<&'static str> {
+    let kept = outputs.kept.get().map(|bytes| bytes.as_slice());
+    if kept != row.kept.map(|text| text.as_bytes()) {
+        return Some("kept");
+    }
+    if outputs.is_discarded.get() != row.is_discarded {
+        return Some("discarded");
+    }
+    match (outputs.aside.get(), row.aside) {
+        (Some(bytes), Some(end)) if bytes.as_slice().ends_with(end.as_bytes()) => None,
+        (None, None) => None,
+        _ => Some("put aside"),
+    }
+}
+
+fn skip_differs_in(alloc: Global, row: &Skip) -> Option<&'static str> {
+    let host = InMemory {
+        words: Ok(row.line),
+        input: INPUT,
+        files: FILES.as_slice(),
+        outputs: Outputs::new(row.making),
+    };
+    let ended = started(alloc, &host);
+    ended
+        .differs_in(row.status, row.written, row.reported)
+        .or(skip_made_differs_in(&host.outputs, row))
+}
+
+#[test]
+fn bad_lines_are_put_aside_where_that_is_asked_for(rt: HostRuntime) {
+    for row in SKIPS.as_slice() {
+        assert_eq!(rt; skip_differs_in(rt.alloc(), row), None, "{}", row.line);
+    }
 }
 
 /// The words, with a zero byte after each.

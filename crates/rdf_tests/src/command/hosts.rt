@@ -28,6 +28,7 @@ pub(crate) enum Making {
 pub(crate) struct Outputs {
     making: Making,
     pub(crate) kept: OnceCell<Vec<u8>>,
+    pub(crate) aside: OnceCell<Vec<u8>>,
     pub(crate) is_discarded: Cell<bool>,
 }
 
@@ -36,6 +37,7 @@ impl Outputs {
         Outputs {
             making,
             kept: OnceCell::new(),
+            aside: OnceCell::new(),
             is_discarded: Cell::new(false),
         }
     }
@@ -109,10 +111,14 @@ impl<'a> Host for InMemory<'a> {
     }
 
     fn keep(&self, output: SlowDrain, name: &str) -> Result<(), Failed> {
-        if self.outputs.making == Making::NotNamed || name != "out.nq" {
+        if self.outputs.making == Making::NotNamed {
             return Err(Failed);
         }
-        self.outputs.kept.set(output.bytes).or(Err(Failed))
+        match name {
+            "out.nq" => self.outputs.kept.set(output.bytes).or(Err(Failed)),
+            "bad.nt" => self.outputs.aside.set(output.bytes).or(Err(Failed)),
+            _ => Err(Failed),
+        }
     }
 
     fn discard(&self, _output: SlowDrain, _name: &str) {

@@ -142,6 +142,7 @@ pub(crate) struct Fields<'a> {
     pub(crate) prefixes: Option<&'a str>,
     pub(crate) file: Option<&'a str>,
     pub(crate) output: Option<&'a str>,
+    pub(crate) skip: Option<&'a str>,
     /// The formats and names of the documents after the first.
     pub(crate) more: &'a [(Form, &'a str)],
 }
@@ -168,11 +169,12 @@ pub(crate) static TASKS: [Asked; 6] = [
             prefixes: None,
             file: None,
             output: None,
+            skip: None,
             more: &[],
         },
     },
     Asked {
-        line: "rdfconv convert --iri 12 --format=nt --base http://a/b/c --token=1 --depth 0 data.nt --ascii --bindings 2 --prefixes ex.txt --node-prefix Ab1 --graph http://a/b/g --explain -o out.nq",
+        line: "rdfconv convert --iri 12 --format=nt --base http://a/b/c --token=1 --depth 0 data.nt --ascii --bindings 2 --prefixes ex.txt --node-prefix Ab1 --graph http://a/b/g --explain -o out.nq --skip bad.nt",
         fields: Fields {
             action: Action::Convert,
             form: Form::NTriples,
@@ -185,6 +187,7 @@ pub(crate) static TASKS: [Asked; 6] = [
             prefixes: Some("ex.txt"),
             file: Some("data.nt"),
             output: Some("out.nq"),
+            skip: Some("bad.nt"),
             more: &[],
         },
     },
@@ -202,6 +205,7 @@ pub(crate) static TASKS: [Asked; 6] = [
             prefixes: None,
             file: None,
             output: None,
+            skip: None,
             more: &[],
         },
     },
@@ -219,6 +223,7 @@ pub(crate) static TASKS: [Asked; 6] = [
             prefixes: None,
             file: None,
             output: None,
+            skip: None,
             more: &[(Form::TriG, "a.nt"), (Form::TriG, "-"), (Form::TriG, "b")],
         },
     },
@@ -236,6 +241,7 @@ pub(crate) static TASKS: [Asked; 6] = [
             prefixes: None,
             file: Some("a.ttl"),
             output: None,
+            skip: None,
             more: &[
                 (Form::NTriples, "b.nt"),
                 (Form::NQuads, ".nq"),
@@ -257,6 +263,7 @@ pub(crate) static TASKS: [Asked; 6] = [
             prefixes: None,
             file: Some("a/b.nq"),
             output: None,
+            skip: None,
             more: &[],
         },
     },
@@ -273,7 +280,7 @@ pub(crate) struct Started {
 
 pub(crate) const INPUT: &str = "<a:> <b:> _:input .";
 
-pub(crate) static FILES: [(&str, &str); 9] = [
+pub(crate) static FILES: [(&str, &str); 10] = [
     ("data.nt", "<a:> <b:> \"file\" ."),
     ("data.ttl", "ex:s ex:p ex:o ."),
     ("open.ttl", "<a:> <b:> [ <c:> 1\n."),
@@ -284,6 +291,7 @@ pub(crate) static FILES: [(&str, &str); 9] = [
     ("accents.ttl", "<a:é> <b:> \"😀\" , _:é ."),
     ("é~+.ttl", "<> <p> <#o> ."),
     ("/a/../é.ttl", "<> <p> <#o> ."),
+    ("mixed.nt", "<a:> <b:> <c:> .\nbad\n<a:> <b:> \"2\" ."),
     ("ex.txt", "ex: http://e/\n"),
     ("bad.txt", "ex: http://e/\nex: e\n"),
 ];
@@ -611,6 +619,84 @@ pub(crate) static INTO_FILES: [IntoFile; 9] = [
         making: Making::Works,
         status: 3,
         kept: None,
+        is_discarded: false,
+        reported: "rdfconv: cannot open file\n",
+    },
+];
+
+/// A run that goes on after bad lines, and what comes of it.
+pub(crate) struct Skip {
+    /// The words, with a space between each two.
+    pub(crate) line: &'static str,
+    pub(crate) making: Making,
+    pub(crate) status: u8,
+    pub(crate) written: &'static str,
+    /// What the file for the lines of quads has then, if it is there.
+    pub(crate) kept: Option<&'static str>,
+    /// What the file for bad lines ends in, if it is there.
+    pub(crate) aside: Option<&'static str>,
+    pub(crate) is_discarded: bool,
+    pub(crate) reported: &'static str,
+}
+
+pub(crate) static SKIPS: [Skip; 6] = [
+    Skip {
+        line: "rdfconv convert --format nt --skip bad.nt mixed.nt",
+        making: Making::Works,
+        status: 1,
+        written: "<a:> <b:> <c:> .\n<a:> <b:> \"2\" .\n",
+        kept: None,
+        aside: Some("bad\n"),
+        is_discarded: false,
+        reported: "rdfconv: 2 quads, 1 lines put aside\n",
+    },
+    Skip {
+        line: "rdfconv convert --format=name --graph a:g -o out.nq --skip=bad.nt mixed.nt",
+        making: Making::Works,
+        status: 1,
+        written: "",
+        kept: Some("<a:> <b:> <c:> <a:g> .\n<a:> <b:> \"2\" <a:g> .\n"),
+        aside: Some("bad\n"),
+        is_discarded: false,
+        reported: "rdfconv: 2 quads, 1 lines put aside\n",
+    },
+    Skip {
+        line: "rdfconv check --format nq --skip bad.nt data.nt",
+        making: Making::Works,
+        status: 0,
+        written: "",
+        kept: None,
+        aside: Some(""),
+        is_discarded: false,
+        reported: "rdfconv: 1 quads, 0 lines put aside\n",
+    },
+    Skip {
+        line: "rdfconv check --format nt --skip bad.nt mixed.nt",
+        making: Making::NotWritten,
+        status: 3,
+        written: "",
+        kept: None,
+        aside: None,
+        is_discarded: true,
+        reported: "rdfconv: write failed\n",
+    },
+    Skip {
+        line: "rdfconv check --format nt --skip bad.nt mixed.nt",
+        making: Making::NotNamed,
+        status: 3,
+        written: "",
+        kept: None,
+        aside: None,
+        is_discarded: false,
+        reported: "rdfconv: write failed\n",
+    },
+    Skip {
+        line: "rdfconv convert --format nt --skip bad.nt mixed.nt",
+        making: Making::NotCreated,
+        status: 3,
+        written: "",
+        kept: None,
+        aside: None,
         is_discarded: false,
         reported: "rdfconv: cannot open file\n",
     },

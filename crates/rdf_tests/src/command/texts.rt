@@ -42,15 +42,19 @@ Options of a command, which reads FILE, or standard input where there is none or
   -o, --output OUTPUT
                    (convert) file to write: it is there whole, or is what it was; it is written as
                    OUTPUT.part, which must not be there, and renamed when all is on its device
+  --skip BADLINES  (check, convert) with --format nt or nq: file for the bad lines of one document,
+                   written as OUTPUT is; the quads are those of the document without these lines,
+                   and a line on standard error counts both
 Past one of the limits N a document is refused. `show` looks at tokens alone: --base, --depth,
 --bindings and --iri have no use there, but a base that is no IRI, or is too long, is reported.
 
 Exit status:
   0  accepted, or help was asked for
-  1  refused, with `rdfconv: REASON at byte N, line M` on standard error
+  1  refused, with `rdfconv: REASON at byte N, line M` on standard error, or lines in BADLINES
   2  the words are no command, the base or the graph is no IRI or too long, WORD is empty or has
-     another character, a file's name ends in no format where it is asked for one, or a line of
-     PREFIXES is refused, with `rdfconv: bad prefixes at line N`
+     another character, a file's name ends in no format where it is asked for one, --skip is with
+     another format or several FILEs, or a line of PREFIXES is refused, with
+     `rdfconv: bad prefixes at line N`
   3  a file does not open or can't be created, or a read or write failed
   4  out of memory
 The status of several documents is the greatest of theirs.
@@ -103,6 +107,7 @@ Options:
       --iri <N>              Bytes of one IRI, 1 to 268435456 [default: 1048576]
       --explain              After a refusal a line more for editors, which says what could have stood there
       --prefixes <PREFIXES>  File of prefixes bound before the document, a line each: `ex: http://example.org/`
+      --skip <BADLINES>      File for bad lines of nt or nq, after which the others are read; there whole or not at all
   -h, --help                 Print help
 ";
 
@@ -124,6 +129,7 @@ Options:
       --node-prefix <WORD>   Word of ASCII letters and digits in front of the label of each blank node
       --graph <IRI>          Absolute IRI of the graph that quads of the default graph are written in, at most --iri bytes
   -o, --output <OUTPUT>      File to write, which is there whole or not at all; without one, or with `-`, standard output
+      --skip <BADLINES>      File for bad lines of nt or nq, after which the others are read; there whole or not at all
   -h, --help                 Print help
 ";
 
@@ -164,14 +170,17 @@ The format is not guessed from the file's name, unless it is asked for by `--for
 Past one of the limits N a document is refused. Of several FILEs each has a line with its name
 in front, on standard output where it is accepted, and else on standard error; after a refusal
 the next is read. The status is the greatest of theirs.
+With --skip, which takes one FILE of nt or nq, the bad lines go into BADLINES, and a line on
+standard error counts them and the quads of the others. BADLINES is there whole, or is what it
+was: it is written as BADLINES.part, which must not be there, and renamed at the end.
 
 Exit status:
   0  accepted, or help was asked for
-  1  refused, with `rdfconv: REASON at byte N, line M` on standard error
+  1  refused, with `rdfconv: REASON at byte N, line M` on standard error, or lines in BADLINES
   2  the words are no command, the base is no IRI or too long, a file's name ends in no format
-     where it is asked for one, or a line of PREFIXES is refused, with
-     `rdfconv: bad prefixes at line N`
-  3  a file does not open, or a read or write failed
+     where it is asked for one, --skip is with another format or several FILEs, or a line of
+     PREFIXES is refused, with `rdfconv: bad prefixes at line N`
+  3  a file does not open or can't be created, or a read or write failed
   4  out of memory
 ";
 
@@ -181,13 +190,15 @@ The format is not guessed from the file's name, unless it is asked for by `--for
 Past one of the limits N a document is refused.
 OUTPUT is there whole, or is what it was: it is written as OUTPUT.part, which must not be there, and
 renamed when all is on its device. Only a regular file is replaced.
+With --skip, which takes nt or nq, what is written are the quads of the document without its bad
+lines, which go into BADLINES, written as OUTPUT is. A line on standard error counts both.
 
 Exit status:
   0  accepted, or help was asked for
-  1  refused, with `rdfconv: REASON at byte N, line M` on standard error
+  1  refused, with `rdfconv: REASON at byte N, line M` on standard error, or lines in BADLINES
   2  the words are no command, the base or the graph is no IRI or too long, WORD is empty or has
-     another character, a file's name ends in no format where it is asked for one, or a line of
-     PREFIXES is refused, with `rdfconv: bad prefixes at line N`
+     another character, a file's name ends in no format where it is asked for one, --skip is with
+     another format, or a line of PREFIXES is refused, with `rdfconv: bad prefixes at line N`
   3  a file does not open or can't be created, or a read or write failed
   4  out of memory
 ";
@@ -217,7 +228,7 @@ pub(crate) struct Refused {
     pub(crate) reported: &'static str,
 }
 
-pub(crate) static REFUSED: [Refused; 39] = [
+pub(crate) static REFUSED: [Refused; 42] = [
     Refused {
         line: "",
         reported: NO_COMMAND,
@@ -357,6 +368,18 @@ pub(crate) static REFUSED: [Refused; 39] = [
     Refused {
         line: "rdfconv check --graph a:g",
         reported: "error: unexpected argument '--graph' found\n\n  tip: to pass '--graph' as a value, use '-- --graph'\n\nUsage: rdfconv check [OPTIONS] [FILE]...\n\nFor more information, try '--help'.\n",
+    },
+    Refused {
+        line: "rdfconv convert --skip bad.nt data.nt",
+        reported: "rdfconv: --skip takes one document of nt or nq\n",
+    },
+    Refused {
+        line: "rdfconv check --format name --skip=bad.nt a.nt b.nt",
+        reported: "rdfconv: --skip takes one document of nt or nq\n",
+    },
+    Refused {
+        line: "rdfconv show --skip bad.nt",
+        reported: "error: unexpected argument '--skip' found\n\n  tip: to pass '--skip' as a value, use '-- --skip'\n\nUsage: rdfconv show [OPTIONS] [FILE]\n\nFor more information, try '--help'.\n",
     },
     Refused {
         line: "rdfconv convert --format name data.nt.gz",

@@ -2,9 +2,9 @@
 use Rattle.std.proofs.Common.{◌∙◌, ap, sym, subst, codes, chars, map, option_map, IfSome, Some}
 use Rattle.clap.proofs.WalkLemmas.{first_value-rows, raw_values-rows}
 use Rattle.clap.proofs.TakesLemmas.{passed_up}
-use Rattle.clap.specs.Words.{found_of, rows_of}
-use Rattle.rdf_command.specs.Words.{AreDocuments, IsBase, IsFormBy, IsFormatWord, IsWord, NoFormOf, NoFormsOf, base_by, escapes_by, file_by, further_by, further_of, is_addressed, is_given, name_by}
-use Rattle.rdf_command.proofs.GivenLemmas.{no_form, no_forms, no_graph, no_task, no_word, text_given, text_is}
+use Rattle.clap.specs.Words.{all_of, found_of, rows_of}
+use Rattle.rdf_command.specs.Words.{AreDocuments, CanSkip, IsBase, IsFormBy, IsFormatWord, IsWord, NoFormOf, NoFormsOf, base_by, escapes_by, file_by, further_by, further_of, is_addressed, is_given, name_by}
+use Rattle.rdf_command.proofs.GivenLemmas.{no_form, no_forms, no_graph, no_skip, no_task, now_of, no_word, text_given, text_is}
 use Rattle.rdf_command.proofs.commands.task_of.Goals as goal
 
 pub unwrap-word-requires : goal.unwrap-word-requires
@@ -56,9 +56,10 @@ returns-clause-task c =
     let prefixes = c.get_str-8.ensures ∙ first_value-rows found (codes "prefixes") in
     let file = c.get_str-9.ensures ∙ first_value-rows found (codes "file") in
     let output = c.get_str-10.ensures ∙ first_value-rows found (codes "output") in
+    let skip = c.get_str-12.ensures ∙ first_value-rows found (codes "skip") in
     let format = text_is found (codes "format") _ c.get_str.result c.get_str.ensures c.requires.format.1 c.unwrap-word.result c.unwrap-word.ensures in
     let first = c.name_by.ensures ∙ ap name_by (c.get_str-2.ensures ∙ first_value-rows found (codes "file")) in
-    let further = c.further_by.ensures ∙ ap (further_by c.args.name.now) (c.get_strs.ensures ∙ raw_values-rows found (codes "file")) in
+    let further = c.further_by-further.ensures ∙ ap (further_by c.args.name.now) (c.get_strs.ensures ∙ raw_values-rows found (codes "file")) in
     record {
       action = c.action_of-action.ensures;
       forms = record {
@@ -66,7 +67,7 @@ returns-clause-task c =
         given = c.requires.format.1;
         form = subst (λ name. IsFormBy c.requires.format.0 name c.in_ok-form.form) first (subst (λ w. IsFormBy w c.name_by.result.now c.in_ok-form.form) format c.in_ok-form.ensures.form);
         more = subst (λ names. AreDocuments c.requires.format.0 names (further_of c.in_ok-more.more.items)) further
-            (subst (λ w. AreDocuments w (map (λ s. s.now) c.further_by.result.now) (further_of c.in_ok-more.more.items)) format c.in_ok-more.ensures.documents);
+            (subst (λ w. AreDocuments w (map (λ s. s.now) c.further_by-further.result.now) (further_of c.in_ok-more.more.items)) format c.in_ok-more.ensures.documents);
       };
       base = c.in_ok-base.ensures.base ∙ ap (option_map chars) base;
       good_base = subst (λ text. IfSome text (IsBase c.limits_of-limits.result.iri)) base (rw c.iri.ensures at c.in_ok-base.ensures.good);
@@ -81,13 +82,27 @@ returns-clause-task c =
       prefixes = c.in_ok-prefixes.ensures ∙ prefixes;
       file = c.in_ok-file.ensures ∙ (c.file_by.ensures ∙ ap file_by file);
       output = c.in_ok-output.ensures ∙ (c.file_by-2.ensures ∙ ap file_by output);
+      skip = c.in_ok-skip.ensures.skip ∙ skip;
+      good_skip = subst (λ text. IfSome text (λ _. CanSkip c.in_ok-form.form (further_by c.args.name.now (all_of (codes "file") (rows_of found))))) skip
+          (subst (λ names. IfSome (option_map now_of c.get_str-12.result) (λ _. CanSkip c.in_ok-form.form names)) further c.in_ok-skip.ensures.good);
     }
 
 pub returns-in_err-more-clause-refused : goal.returns-in_err-more-clause-refused
 returns-in_err-more-clause-refused c =
     let found = found_of c.args.found.now in
     let word = text_is found (codes "format") _ c.get_str.result c.get_str.ensures c.requires.format.1 c.unwrap-word.result c.unwrap-word.ensures in
-    let further = c.further_by.ensures ∙ ap (further_by c.args.name.now) (c.get_strs.ensures ∙ raw_values-rows found (codes "file")) in
+    let further = c.further_by-further.ensures ∙ ap (further_by c.args.name.now) (c.get_strs.ensures ∙ raw_values-rows found (codes "file")) in
     passed_up c.from_residual-in_err-more.result c.in_err-more.field-0.0 _ c.from_residual-in_err-more.ensures.1
     (no_forms (c.args.name.now, rows_of found) c.requires.format.0 _ c.in_err-more.field-0.0 c.requires.format.1 further
-    (subst (λ w. NoFormsOf w (map (λ s. s.now) c.further_by.result.now) c.in_err-more.field-0.0) word c.in_err-more.ensures.refused))
+    (subst (λ w. NoFormsOf w (map (λ s. s.now) c.further_by-further.result.now) c.in_err-more.field-0.0) word c.in_err-more.ensures.refused))
+
+pub returns-in_err-skip-clause-refused : goal.returns-in_err-skip-clause-refused
+returns-in_err-skip-clause-refused c =
+    let found = found_of c.args.found.now in
+    let word = text_is found (codes "format") _ c.get_str.result c.get_str.ensures c.requires.format.1 c.unwrap-word.result c.unwrap-word.ensures in
+    let first = c.name_by.ensures ∙ ap name_by (c.get_str-2.ensures ∙ first_value-rows found (codes "file")) in
+    let further = c.further_by-further.ensures ∙ ap (further_by c.args.name.now) (c.get_strs.ensures ∙ raw_values-rows found (codes "file")) in
+    let form = subst (λ name. IsFormBy c.requires.format.0 name c.in_ok-form.form) first (subst (λ w. IsFormBy w c.name_by.result.now c.in_ok-form.form) word c.in_ok-form.ensures.form) in
+    passed_up c.from_residual-in_err-skip.result c.in_err-skip.field-0.0 _ c.from_residual-in_err-skip.ensures.1
+    (no_skip (c.args.name.now, rows_of found) c.requires.format.0 c.in_ok-form.form _ _ c.in_err-skip.field-0.0 c.requires.format.1 form (c.get_str-12.ensures ∙ first_value-rows found (codes "skip"))
+    further c.in_err-skip.ensures.bad)

@@ -5,5 +5,6 @@ use Rattle.rdf_options.proofs.options.check_command.Goals as goal
 
 pub returns : goal.returns
 returns c =
-    IfOk-weaker c.arg.result _ _ (λ made added. with_argument _ made _ _ _ added (c.in_ok-command.ensures files_rule c.files_argument.ensures) c.prefixes_option.ensures)
-    c.arg.ensures
+    let first = with_argument _ _ _ _ _ c.in_ok-command-2.ensures (c.in_ok-command.ensures files_rule c.files_argument.ensures) c.prefixes_option.ensures in
+    IfOk-weaker c.arg-2.result _ _ (λ made added. with_argument _ made _ _ _ added first c.skip_option.ensures)
+    c.arg-2.ensures

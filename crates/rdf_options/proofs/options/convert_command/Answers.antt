@@ -9,5 +9,6 @@ returns c =
     let second = with_argument _ _ _ _ _ c.in_ok-command-3.ensures first c.ascii_option.ensures in
     let third = with_argument _ _ _ _ _ c.in_ok-command-4.ensures second c.node_prefix_option.ensures in
     let fourth = with_argument _ _ _ _ _ c.in_ok-command-5.ensures third c.graph_option.ensures in
-    IfOk-weaker c.arg-5.result _ _ (λ made added. with_argument _ made _ _ _ added fourth c.output_option.ensures)
-    c.arg-5.ensures
+    let fifth = with_argument _ _ _ _ _ c.in_ok-command-6.ensures fourth c.output_option.ensures in
+    IfOk-weaker c.arg-6.result _ _ (λ made added. with_argument _ made _ _ _ added fifth c.skip_option.ensures)
+    c.arg-6.ensures
