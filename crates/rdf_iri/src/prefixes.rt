@@ -138,7 +138,7 @@ fn place_of<A: Allocator>(slots: &[u32], row: &[(String<A>, Iri<A>)], prefix: &s
 }
 
 /// The same where the row has many: by their slots, and the first ones one by one.
-#[inline(never)]
+#[inline(always)]
 fn place_of_many<A: Allocator>(
     slots: &[u32],
     row: &[(String<A>, Iri<A>)],

@@ -61,7 +61,7 @@ fn mark(hash: u32) -> u32
 }
 
 /// Where a prefix stands in the row, if it has a slot.
-#[inline(never)]
+#[inline(always)]
 pub(crate) fn find<A: Allocator>(
     slots: &[u32],
     row: &[(String<A>, Iri<A>)],
