@@ -2,6 +2,7 @@ pub mod TokensLemmas
 pub mod GoodLemmas
 pub mod FrontLemmas
 pub mod PlaceLemmas
+mod CountLemmas
 pub mod ReadLemmas
 pub mod SortLemmas
 pub mod FamilyLemmas

@@ -21,6 +21,7 @@ pub mod Fixed
 pub mod Spellings
 pub mod Front
 pub mod Escapes
+pub mod Count
 pub mod Walk
 pub mod NoNames
 pub mod Quick

@@ -12,6 +12,7 @@ ghost use Rattle.rdf_terms.specs.Runs.{IsRun};
 ghost use Rattle.rdf_tokens.specs.declared.states.machine.State.TheVariants.{Name as name};
 
 use crate::bytes::char_at;
+use crate::count::char_count;
 use crate::over::states_end;
 use crate::states::family::{Family, family_of};
 use crate::states::fixed::{fixed_front, is_fixed_live};
@@ -144,12 +145,6 @@ fn all_chars(text: &str, walk: &Option<Walk>) -> usize
         Some(walk) => walk.count + char_count(&text[walk.at..]),
         None => char_count(text),
     }
-}
-
-fn char_count(text: &str) -> usize
-    ensures { result ≡ length (chars text.now) }
-{
-    text.chars().count()
 }
 
 /// The longest token of a kind that has states.

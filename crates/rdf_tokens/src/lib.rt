@@ -3,6 +3,7 @@
 
 mod blank;
 mod bytes;
+mod count;
 mod escapes;
 mod front;
 mod good;
