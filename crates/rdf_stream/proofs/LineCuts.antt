@@ -1,8 +1,9 @@
 -- Where the lines of some bytes are cut.
-use Rattle.std.proofs.Common.{◌≡◌, ℕ, zero, suc, ◌<◌, Bool, true, false, cond, List, [], ◌∷◌, ◌++◌, refl, sym, ap, ◌∙◌, length, take, drop, arith}
+use Rattle.std.proofs.Common.{◌≡◌, ℕ, zero, suc, ◌<◌, Bool, true, false, cond, List, [], ◌∷◌, ◌++◌, refl, sym, ap, ◌∙◌, append_assoc, ◌+◌, length, take, drop, arith}
 use Rattle.std.specs.Prelude.{slice_index}
 use Rattle.std.specs.List.{AllByRecursion}
 use Rattle.std.proofs.lemmas.Bool.{cond-true, cond-false, cond_both}
+use Rattle.std.proofs.lemmas.List.{append-nil, drop-take, drop_all, take-append-drop, take_all}
 use Rattle.rdf_tokens.specs.Tokens.{is_line_end}
 use Rattle.rdf_lines.specs.SplitLines.{put_byte, split_lines}
 
@@ -72,3 +73,28 @@ split_append (b ∷ u) c w e = ap (λ ls. cond (is_line_end b) ((b ∷ []) ∷ l
     at : (t : Bool) → cond t ((b ∷ []) ∷ front ++ split_lines w) (put_byte b (front ++ split_lines w)) ≡ cond t ((b ∷ []) ∷ front) (put_byte b front) ++ split_lines w
     at true = refl
     at false = let s = some_ended u c in put_append b front (split_lines w) s.0 s.1 s.2
+
+-- up to a line end after some bytes, with it
+front_after : (w : List ℕ) (n at : ℕ) → at < length (drop n w) → is_line_end (slice_index (drop n w) at) ≡ true → (u : List ℕ) × (c : ℕ) × (take (n + suc at) w ≡ u ++ c ∷ []) × (is_line_end c ≡ true)
+front_after w n at l e =
+    let h = front_ended (drop n w) at l e in
+    let v = take (n + suc at) w in (
+      take n v ++ h.0,
+      h.1,
+      sym (take-append-drop n v) ∙ (ap (λ x. take n v ++ x) (drop-take n (suc at) w ∙ h.2) ∙ sym (append_assoc (take n v) h.0 (h.1 ∷ []))),
+      h.3,
+    )
+
+-- there the lines are cut
+pub split_after : (w : List ℕ) (n at : ℕ) → at < length (drop n w) → is_line_end (slice_index (drop n w) at) ≡ true →
+    split_lines w ≡ split_lines (take (n + suc at) w) ++ split_lines (drop (n + suc at) w)
+split_after w n at l e =
+    let h = front_after w n at l e in
+    let rest = drop (n + suc at) w in
+    ap split_lines (sym (take-append-drop (n + suc at) w) ∙ ap (λ v. v ++ rest) h.2) ∙ (split_append h.0 h.1 rest h.3 ∙ ap (λ v. split_lines v ++ split_lines rest) (sym h.2))
+
+-- all lines, and none after them
+pub split_all : (w : List ℕ) → split_lines w ≡ split_lines (take (length w) w) ++ split_lines (drop (length w) w)
+split_all w =
+    sym (append-nil (split_lines w))
+    ∙ (ap (λ v. split_lines v ++ []) (sym (take_all (length w) w (omega arith))) ∙ ap (λ v. split_lines (take (length w) w) ++ split_lines v) (sym (drop_all (length w) w (omega arith))))

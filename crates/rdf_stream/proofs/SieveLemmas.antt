@@ -33,7 +33,7 @@ use Rattle.rdf_lines.specs.Documents.{in_lines}
 use Rattle.rdf_lines.specs.NodePrefixes.{Form, line_in, text_in}
 use Rattle.rdf_lines.specs.SplitLines.{IsBadLine, IsGoodLine, Sifts, split_lines}
 use Rattle.rdf_lines.proofs.AcceptedLemmas.{refused_none}
-use Rattle.rdf_lines.proofs.SplitLemmas.{good_sifted}
+use Rattle.rdf_lines.proofs.SplitLemmas.{good_sifted, split_whole}
 use Rattle.rdf_stream.specs.declared.devices.Drain as drain
 use Rattle.rdf_stream.specs.declared.fault.StreamFault.{StreamFault}
 use Rattle.rdf_stream.specs.declared.fault.StreamFault.TheVariants as fault
@@ -550,6 +550,11 @@ past_concat p (x ∷ xs) = past_concat (place_after p x) xs ∙ sym (after_appen
 pub past_more : (p : Place) (xs : List (List ℕ)) (x : List ℕ) → place_past p (xs ++ x ∷ []) ≡ place_after (place_past p xs) x
 past_more p [] x = refl
 past_more p (y ∷ xs) x = past_more (place_after p y) xs x
+
+-- and that after the lines of some bytes more
+pub past_lines : (p : Place) (xs : List (List ℕ)) (w : List ℕ) → place_past p (xs ++ split_lines w) ≡ place_after (place_past p xs) w
+past_lines p [] w = past_concat p (split_lines w) ∙ ap (place_after p) (split_whole w)
+past_lines p (y ∷ xs) w = past_lines (place_after p y) xs w
 
 -- a fault of a line fits behind the place where the line begins
 pub fault_fits : (w : List ℕ) (f : Fault) → IsPlaceIn w (place_of f) → (f.offset ≤ length w) × (f.line ≤ f.offset + 1) × (0 < f.line)

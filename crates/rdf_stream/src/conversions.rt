@@ -19,7 +19,7 @@ use crate::line_out::{LineOut, stop};
 use crate::output::OutputView;
 use crate::parts::{Parts, take_parts};
 use crate::passes::Passes;
-use crate::pieces::{Run, piece_buffer, read_pieces};
+use crate::pieces::{PIECE_LEN, Run, piece_buffer_for, read_pieces};
 use rdf_driver::{Kinds, QuadGrammar, Reader, Summary};
 use rdf_lines::{LineBuffer, LineEnding, Style, line_reader};
 use rdf_trig::tree_reader;
@@ -81,6 +81,7 @@ pub fn convert_expecting<A: Allocator + Copy, S: Source, D: Drain>(
             let reader = line_reader(alloc, form, job.limits());
             let result = convert_with(
                 alloc,
+                PIECE_LEN,
                 reader,
                 job.output(Style::Kept),
                 source,
@@ -94,6 +95,7 @@ pub fn convert_expecting<A: Allocator + Copy, S: Source, D: Drain>(
             let reader = tree_reader(alloc, job.options(form));
             let result = convert_with(
                 alloc,
+                PIECE_LEN,
                 reader,
                 job.output(Style::Tagged),
                 source,
@@ -106,9 +108,11 @@ pub fn convert_expecting<A: Allocator + Copy, S: Source, D: Drain>(
     }
 }
 
-/// Converts what the reader reads to the lines of its quads.
+/// Converts what the reader reads to the lines of its quads. No more than so many bytes are asked of the source at a
+/// time, and no more than a piece has.
 pub(crate) fn convert_with<A: Allocator + Copy, G: Passes<A>, S: Source, D: Drain>(
     alloc: A,
+    len: usize,
     reader: Reader<G, A>,
     output: OutputView<'_>,
     source: &mut S,
@@ -131,7 +135,7 @@ pub(crate) fn convert_with<A: Allocator + Copy, G: Passes<A>, S: Source, D: Drai
         (S.remaining source.old) (told S.Source source.new) expected.new }
 {
     *expected = Kinds::none();
-    let mut piece = piece_buffer(alloc)?;
+    let mut piece = piece_buffer_for(alloc, len)?;
     let mut reader = reader;
     let mut buffer = LineBuffer::new(alloc);
     let mut lines = LineOut::new(output, &mut buffer, drain);

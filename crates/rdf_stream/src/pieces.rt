@@ -13,7 +13,7 @@ use rdf_driver::Summary;
 use std::alloc::{AllocError, Allocator};
 
 /// The number of bytes that are asked of a source at a time.
-const PIECE_LEN: usize = 65536;
+pub(crate) const PIECE_LEN: usize = 65536;
 
 /// Takes the bytes of a source, piece by piece, and hands on what comes of them.
 pub(crate) trait Run<L> {
@@ -84,5 +84,15 @@ pub(crate) fn read_pieces<S: Source, L, R: Run<L>>(
 pub(crate) fn piece_buffer<A: Allocator + Copy>(alloc: A) -> Result<Vec<u8, A>, AllocError>
     ensures { IfOk result (λ piece. 0 < length piece.items) }
 {
-    Vec::from_elem(alloc, 0u8, PIECE_LEN)
+    piece_buffer_for(alloc, PIECE_LEN)
+}
+
+/// A buffer for the pieces of a source that gives so many bytes.
+pub(crate) fn piece_buffer_for<A: Allocator + Copy>(
+    alloc: A,
+    len: usize,
+) -> Result<Vec<u8, A>, AllocError>
+    ensures { IfOk result (λ piece. 0 < length piece.items) }
+{
+    Vec::from_elem(alloc, 0u8, len.clamp(1, PIECE_LEN))
 }

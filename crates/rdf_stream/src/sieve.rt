@@ -24,6 +24,9 @@ use rdf_terms::Reason;
 use rdf_tokens::Fault;
 use std::alloc::{AllocError, Allocator, Global};
 
+/// A group of lines goes up to the first line end after so many bytes.
+const GROUP_LEN: usize = 2048;
+
 /// What lines are read as, how the quads of the good ones are written, and how many there were.
 #[derive(Drop)]
 pub(crate) struct Sieve<'a, A: Allocator + Copy = Global> {
@@ -116,7 +119,8 @@ impl<'a, A: Allocator + Copy> Sieve<'a, A> {
         }
     }
 
-    /// Sifts the lines of a block that begins there, which are tried at once first.
+    /// Sifts the lines of a block that begins there. They are tried at once first, then in groups, and the lines of a
+    /// group in which one is bad one by one: so no line is tried more than three times.
     pub(crate) fn sift<D: Drain, B: Drain>(
         &mut self,
         start: LineStart,
@@ -134,7 +138,59 @@ impl<'a, A: Allocator + Copy> Sieve<'a, A> {
     {
         match self.put_good(block, drain) {
             Ok(None) => Ok(()),
-            Ok(Some(_)) => self.sift_each(start, block, drain, bad),
+            Ok(Some(_)) => self.sift_groups(start, block, drain, bad),
+            Err(fault) => Err(fault),
+        }
+    }
+
+    // Sifts the lines group by group.
+    fn sift_groups<D: Drain, B: Drain>(
+        &mut self,
+        start: LineStart,
+        block: &[u8],
+        drain: &mut D,
+        bad: &mut B,
+    ) -> Result<(), StreamFault>
+        requires styled { self.old.output.lines.style ≡ Style.Kept }
+        requires room { HasRoom start block.now }
+        requires live { D.has_failed drain.old ≡ false }
+        requires bad_live { B.has_failed bad.old ≡ false }
+        ensures sifted { IfOk result (λ _. HasSifted D.Drain B.Drain (start_of start) self.old drain.old bad.old (split_lines block.now) self.new drain.new bad.new) }
+        ensures fails { IfErr result (λ f. SiftFails D.Drain B.Drain f (start_of start) self.old drain.old bad.old (split_lines block.now) self.new drain.new bad.new) }
+    {
+        let mut place = start;
+        let mut rest = block;
+        while !rest.is_empty() {
+            let len = group_len(rest);
+            match self.sift_group(place, &rest[..len], drain, bad) {
+                Ok(()) => {}
+                Err(fault) => return Err(fault),
+            }
+            place = place.past(&rest[..len]);
+            rest = &rest[len..];
+        }
+        Ok(())
+    }
+
+    // Sifts the lines of a group, which are tried at once first.
+    fn sift_group<D: Drain, B: Drain>(
+        &mut self,
+        start: LineStart,
+        group: &[u8],
+        drain: &mut D,
+        bad: &mut B,
+    ) -> Result<(), StreamFault>
+        requires styled { self.old.output.lines.style ≡ Style.Kept }
+        requires some { 0 < length group.now }
+        requires room { HasRoom start group.now }
+        requires live { D.has_failed drain.old ≡ false }
+        requires bad_live { B.has_failed bad.old ≡ false }
+        ensures sifted { IfOk result (λ _. HasSifted D.Drain B.Drain (start_of start) self.old drain.old bad.old (split_lines group.now) self.new drain.new bad.new) }
+        ensures fails { IfErr result (λ f. SiftFails D.Drain B.Drain f (start_of start) self.old drain.old bad.old (split_lines group.now) self.new drain.new bad.new) }
+    {
+        match self.put_good(group, drain) {
+            Ok(None) => Ok(()),
+            Ok(Some(_)) => self.sift_each(start, group, drain, bad),
             Err(fault) => Err(fault),
         }
     }
@@ -270,6 +326,7 @@ impl<'a, A: Allocator + Copy> Sieve<'a, A> {
         let reader = line_reader(self.alloc, self.form, self.limits);
         match convert_with(
             self.alloc,
+            bytes.len(),
             reader,
             self.output,
             &mut source,
@@ -310,6 +367,22 @@ fn has_mark(bytes: &[u8]) -> bool
         return false;
     }
     bytes[0] == 0xEF && bytes[1] == 0xBB && bytes[2] == 0xBF
+}
+
+// How many bytes the first lines have, with their ends, that are tried together.
+fn group_len(bytes: &[u8]) -> usize
+    requires some { 0 < length bytes.now }
+    ensures within { result ≤ length bytes.now }
+    ensures progress { 0 < result }
+    ensures lines { split_lines bytes.now ≡ split_lines (take result bytes.now) ++ split_lines (drop result bytes.now) }
+{
+    if bytes.len() <= GROUP_LEN {
+        return bytes.len();
+    }
+    match memchr2(b'\n', b'\r', &bytes[GROUP_LEN..]) {
+        Some(at) => GROUP_LEN + at + 1,
+        None => bytes.len(),
+    }
 }
 
 // How many bytes the first line has, with its end.
