@@ -1,5 +1,5 @@
 -- What the whole program does, over what it is started with: words, standard input and files, as the program's host says.
-use Rattle.std.specs.Prelude.{◌≡◌, ◌⊎◌, ℕ, Bool, true, false, List, [], ◌∷◌, codes, Option, Some, None, option_map, ⊤}
+use Rattle.std.specs.Prelude.{◌≡◌, ◌⊎◌, ℕ, Bool, true, false, List, [], ◌∷◌, Option, Some, None, option_map, ⊤}
 use Rattle.std.specs.String.{string_bytes}
 use Rattle.clap.specs.Words.{Text}
 use Rattle.clap.specs.declared.builder.value_parser.ValueParser.{ValueParser}
@@ -18,6 +18,7 @@ use Rattle.rdf_command.specs.declared.task.WordsFault.TheVariants.{Memory}
 use Rattle.rdf_command.specs.Addresses.{Folders, IsAddress, IsFolderFor, LacksAddress}
 use Rattle.rdf_command.specs.Asides.{EndsBySkip, skip_of}
 use Rattle.rdf_command.specs.Outputs.{Outputs}
+use Rattle.rdf_command.specs.Reasons.{ReportsShut, Shut, shut_of}
 use Rattle.rdf_command.specs.Runs.{FilesRead}
 use Rattle.rdf_command.specs.Several.{EndsEach, GivesBindings, GivesNoBindings}
 use Rattle.rdf_command.specs.Statuses.{GoesTo, RefusesWords, Reports, ReportsLoad, address_status, address_text, load_status}
@@ -59,24 +60,24 @@ HasPrefixes has_document (Some path) None = ⊥
 HasPrefixes has_document (Some path) (Some known) = has_document (Some path) known
 
 -- A file of the task did not open, which the status and the text on the error output say, and nothing was written.
-pub record IsNotOpen (is_shut : Text → Type 0) (t : Task) (status : ℕ) (out_old : Option (List ℕ)) (out : Written)
+pub record IsNotOpen (shut : Shut) (t : Task) (status : ℕ) (out_old : Option (List ℕ)) (out : Written)
     (err_old : Option (List ℕ)) (err : Written) : Type 0 where
   pub path : Text
   pub named : (prefixes_of t ≡ Some path) ⊎ (file_of t ≡ Some path)
-  pub shut : is_shut path
+  pub does_not : shut.is path
   pub status_is : status ≡ 3
   pub unwritten : out.contents ≡ out_old
-  pub reported : Reports (codes "rdfconv: cannot open file\n") err_old err.contents err.has_failed
+  pub reported : ReportsShut shut.tells t.explain path err_old err.contents err.has_failed
 
 -- What the task names was opened, the file of bindings where there is one, and the document, its file or else standard input; and the run of the
 -- task over these ended so, with the files given back, whose lines went to the output or to a file, and bad ones to a file where that is asked for. Or a
 -- file did not open.
-abbrev pub OneEnds : (Option Text → Option (List ℕ) → Type 0) → (Text → Type 0) → Outputs → Task → Option FilesRead → ℕ
+abbrev pub OneEnds : (Option Text → Option (List ℕ) → Type 0) → Shut → Outputs → Task → Option FilesRead → ℕ
     → Option (List ℕ) → Written → Option (List ℕ) → Written → Type 0
-OneEnds has_document is_shut says t files status out_old out err_old err =
+OneEnds has_document shut says t files status out_old out err_old err =
     ((prefixes : Option (Option (List ℕ))) × (known : Option (List ℕ)) × HasPrefixes has_document (prefixes_of t) prefixes
     × has_document (file_of t) known × EndsBySkip (skip_of t) says t prefixes known files status out_old out err_old err)
-    ⊎ IsNotOpen is_shut t status out_old out err_old err
+    ⊎ IsNotOpen shut t status out_old out err_old err
 
 -- The document has no address to be its base, which the status and the text on the error output say, and nothing was read.
 pub record HasNoBase (folders : Folders) (t : Task) (files : Option FilesRead) (status : ℕ) (out_old : Option (List ℕ)) (out : Written)
@@ -89,12 +90,12 @@ pub record HasNoBase (folders : Folders) (t : Task) (files : Option FilesRead) (
   pub reported : Reports (address_text fault) err_old err.contents err.has_failed
 
 -- By whether the base is to be the document's address: if so, it ended as the same task with this base does, or there is no such base.
-abbrev pub OneEndsAt : Bool → Folders → (Option Text → Option (List ℕ) → Type 0) → (Text → Type 0) → Outputs → Task → Option FilesRead → ℕ
+abbrev pub OneEndsAt : Bool → Folders → (Option Text → Option (List ℕ) → Type 0) → Shut → Outputs → Task → Option FilesRead → ℕ
     → Option (List ℕ) → Written → Option (List ℕ) → Written → Type 0
-OneEndsAt false folders has_document is_shut says t files status out_old out err_old err = OneEnds has_document is_shut says t files status out_old out err_old err
-OneEndsAt true folders has_document is_shut says t files status out_old out err_old err =
+OneEndsAt false folders has_document shut says t files status out_old out err_old err = OneEnds has_document shut says t files status out_old out err_old err
+OneEndsAt true folders has_document shut says t files status out_old out err_old err =
     ((folder : Text) × (base : List ℕ) × folders.is folder × IsAddress t.limits.iri folder (file_of t) base
-    × OneEnds has_document is_shut says (record t { base = Some base }) files status out_old out err_old err)
+    × OneEnds has_document shut says (record t { base = Some base }) files status out_old out err_old err)
     ⊎ HasNoBase folders t files status out_old out err_old err
 
 -- all documents of a task, each with its format and its name
@@ -102,7 +103,7 @@ abbrev pub documents_of : Task → List (Form × Text)
 documents_of t = (t.form, name_of t) ∷ further_of t.more.items
 
 -- The file of bindings was read, where there is one, and the documents were checked in turn, from the folder where addresses are asked for.
-pub record ChecksEach (folders : Folders) (has_document : Option Text → Option (List ℕ) → Type 0) (is_shut : Text → Type 0) (t : Task) (status : ℕ)
+pub record ChecksEach (folders : Folders) (has_document : Option Text → Option (List ℕ) → Type 0) (shut : Shut) (t : Task) (status : ℕ)
     (out_old : Option (List ℕ)) (out : Written) (err_old : Option (List ℕ)) (err : Written) : Type 0 where
   pub prefixes : Option (Option (List ℕ))
   pub opened : HasPrefixes has_document (prefixes_of t) prefixes
@@ -110,7 +111,7 @@ pub record ChecksEach (folders : Folders) (has_document : Option Text → Option
   pub given : GivesBindings t.limits prefixes bytes
   pub folder : Option Text
   pub found : IsFolderFor folders t.addressed folder
-  pub ends : EndsEach has_document is_shut (record { base = t.base; folder = folder; limits = t.limits; explain = t.explain; prefixes = bytes }) (documents_of t)
+  pub ends : EndsEach has_document shut (record { base = t.base; folder = folder; limits = t.limits; explain = t.explain; prefixes = bytes }) (documents_of t)
       status out_old out err_old err
 
 -- The file of bindings gave none, which the status and the text on the error output say, and no document was read.
@@ -125,14 +126,14 @@ pub record ChecksNone (has_document : Option Text → Option (List ℕ) → Type
   pub reported : ReportsLoad fault err_old err.contents err.has_failed
 
 -- The file of bindings did not open, which the status and the text on the error output say, and no document was read.
-pub record OpensNoBindings (is_shut : Text → Type 0) (t : Task) (status : ℕ) (out_old : Option (List ℕ)) (out : Written)
+pub record OpensNoBindings (shut : Shut) (t : Task) (status : ℕ) (out_old : Option (List ℕ)) (out : Written)
     (err_old : Option (List ℕ)) (err : Written) : Type 0 where
   pub path : Text
   pub named : prefixes_of t ≡ Some path
-  pub shut : is_shut path
+  pub does_not : shut.is path
   pub status_is : status ≡ 3
   pub unwritten : out.contents ≡ out_old
-  pub reported : Reports (codes "rdfconv: cannot open file\n") err_old err.contents err.has_failed
+  pub reported : ReportsShut shut.tells t.explain path err_old err.contents err.has_failed
 
 -- Addresses are asked for, but there is no folder that names start from, which the status and the text on the error output say, and no document was read.
 pub record HasNoFolder (folders : Folders) (t : Task) (status : ℕ) (out_old : Option (List ℕ)) (out : Written)
@@ -145,30 +146,30 @@ pub record HasNoFolder (folders : Folders) (t : Task) (status : ℕ) (out_old : 
   pub reported : Reports (address_text fault) err_old err.contents err.has_failed
 
 -- how a check of several documents ends
-abbrev pub SeveralEnd : Folders → (Option Text → Option (List ℕ) → Type 0) → (Text → Type 0) → Task → ℕ
+abbrev pub SeveralEnd : Folders → (Option Text → Option (List ℕ) → Type 0) → Shut → Task → ℕ
     → Option (List ℕ) → Written → Option (List ℕ) → Written → Type 0
-SeveralEnd folders has_document is_shut t status out_old out err_old err =
-    ChecksEach folders has_document is_shut t status out_old out err_old err
+SeveralEnd folders has_document shut t status out_old out err_old err =
+    ChecksEach folders has_document shut t status out_old out err_old err
     ⊎ (ChecksNone has_document t status out_old out err_old err
-    ⊎ (OpensNoBindings is_shut t status out_old out err_old err ⊎ HasNoFolder folders t status out_old out err_old err))
+    ⊎ (OpensNoBindings shut t status out_old out err_old err ⊎ HasNoFolder folders t status out_old out err_old err))
 
 -- By the documents after the first: without any the task is run over its document, and else each is checked, and no file is given back.
-abbrev pub EndsBy : List Document → Folders → (Option Text → Option (List ℕ) → Type 0) → (Text → Type 0) → Outputs → Task → Option FilesRead → ℕ
+abbrev pub EndsBy : List Document → Folders → (Option Text → Option (List ℕ) → Type 0) → Shut → Outputs → Task → Option FilesRead → ℕ
     → Option (List ℕ) → Written → Option (List ℕ) → Written → Type 0
-EndsBy [] folders has_document is_shut says t files status out_old out err_old err = OneEndsAt t.addressed folders has_document is_shut says t files status out_old out err_old err
-EndsBy (d ∷ ds) folders has_document is_shut says t files status out_old out err_old err =
-    (files ≡ None) × SeveralEnd folders has_document is_shut t status out_old out err_old err
+EndsBy [] folders has_document shut says t files status out_old out err_old err = OneEndsAt t.addressed folders has_document shut says t files status out_old out err_old err
+EndsBy (d ∷ ds) folders has_document shut says t files status out_old out err_old err =
+    (files ≡ None) × SeveralEnd folders has_document shut t status out_old out err_old err
 
 -- how a task ends
-abbrev pub TaskEnds : Folders → (Option Text → Option (List ℕ) → Type 0) → (Text → Type 0) → Outputs → Task → Option FilesRead → ℕ
+abbrev pub TaskEnds : Folders → (Option Text → Option (List ℕ) → Type 0) → Shut → Outputs → Task → Option FilesRead → ℕ
     → Option (List ℕ) → Written → Option (List ℕ) → Written → Type 0
-TaskEnds folders has_document is_shut says t = EndsBy t.more.items folders has_document is_shut says t
+TaskEnds folders has_document shut says t = EndsBy t.more.items folders has_document shut says t
 
 -- The words give a task, which ended so; or they give none, which the status and the text on an output say.
-abbrev pub ProgramEnds : (List Text → Type 0) → Type 0 → Folders → (Option Text → Option (List ℕ) → Type 0) → (Text → Type 0) → Outputs → Option FilesRead → ℕ
+abbrev pub ProgramEnds : (List Text → Type 0) → Type 0 → Folders → (Option Text → Option (List ℕ) → Type 0) → Shut → Outputs → Option FilesRead → ℕ
     → Option (List ℕ) → Written → Option (List ℕ) → Written → Type 0
-ProgramEnds has_words has_bad_word folders has_document is_shut says files status out_old out err_old err =
-    ((task : Task) × IsGiven has_words task × TaskEnds folders has_document is_shut says task files status out_old out err_old err)
+ProgramEnds has_words has_bad_word folders has_document shut says files status out_old out err_old err =
+    ((task : Task) × IsGiven has_words task × TaskEnds folders has_document shut says task files status out_old out err_old err)
     ⊎ ((fault : WordsFault) × IsNotGiven has_words has_bad_word fault
     × RefusesWords fault status err_old err.contents err.has_failed × GoesTo fault out_old out.contents err_old err.contents)
 
@@ -183,5 +184,5 @@ folders_of host h = record { is = host.has_folder h; is_untold = host.has_no_fol
 -- The program ended so over what its host starts it with: the words, the documents, the files that do not open, and those that it writes.
 abbrev pub HostEnds : {H I O : Type 0} → host.Ghosts H I O → H → Option FilesRead → ℕ → Option (List ℕ) → Written → Option (List ℕ) → Written → Type 0
 HostEnds says h files status out_old out err_old err =
-    ProgramEnds (says.has_words h) (says.has_bad_word h) (folders_of says h) (says.has_document h) (says.is_shut h) (outputs_of says h) files status
+    ProgramEnds (says.has_words h) (says.has_bad_word h) (folders_of says h) (says.has_document h) (shut_of says h) (outputs_of says h) files status
     out_old out err_old err

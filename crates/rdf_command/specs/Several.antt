@@ -1,5 +1,5 @@
 -- What a check of several documents does: one after the other, with a line for each, to the last one or until an output fails.
-use Rattle.std.specs.Prelude.{◌≡◌, ◌⊎◌, ◌||◌, ℕ, Bool, true, false, List, [], ◌∷◌, codes, cond, Option, Some, None, IfSome, nat_lt, option_map, ⊤}
+use Rattle.std.specs.Prelude.{◌≡◌, ◌⊎◌, ◌||◌, ℕ, Bool, true, false, List, [], ◌∷◌, cond, Option, Some, None, IfSome, nat_lt, option_map, ⊤}
 use Rattle.rdf_iri.specs.Bindings.{BindingMap, IsReadFrom}
 use Rattle.rdf_iri.specs.Limits.{Sizes}
 use Rattle.rdf_lines.specs.declared.form.Escapes.TheVariants.{Plain}
@@ -16,8 +16,9 @@ use Rattle.rdf_terms.specs.declared.fault.TermFault.{TermFault}
 use Rattle.rdf_terms.specs.declared.fault.TermFault.TheVariants.{BadTerm}
 use Rattle.rdf_command.specs.declared.several.Plan.{Plan}
 use Rattle.rdf_command.specs.Addresses.{HasNoAddress, IsAddress}
+use Rattle.rdf_command.specs.Reasons.{ReportsShutOf, Shut}
 use Rattle.rdf_command.specs.Runs.{IsCheckedAs, StopsCheckAs}
-use Rattle.rdf_command.specs.Statuses.{ReportsExplainedOf, ReportsLoad, ReportsNoAddressOf, ReportsOf, address_status, load_status, status_of}
+use Rattle.rdf_command.specs.Statuses.{ReportsExplainedOf, ReportsLoad, ReportsNoAddressOf, address_status, load_status, status_of}
 use Rattle.rdf_command.specs.Words.{file_by}
 
 -- the greater of two statuses
@@ -86,14 +87,14 @@ pub record ReadsOne (has_document : Option (List ℕ) → Option (List ℕ) → 
   pub ends : AcceptsOne job d.1 known status out_old out err_old err ⊎ StopsOne shared.explain job d.1 known left status out_old out err_old err
 
 -- The file of this name did not open.
-pub record OpensNone (is_shut : List ℕ → Type 0) (d : Form × List ℕ) (status : ℕ) (out_old : Option (List ℕ)) (out : Written)
+pub record OpensNone (asked : Bool) (shut : Shut) (d : Form × List ℕ) (status : ℕ) (out_old : Option (List ℕ)) (out : Written)
     (err_old : Option (List ℕ)) (err : Written) : Type 0 where
   pub path : List ℕ
   pub named : file_by (Some d.1) ≡ Some path
-  pub shut : is_shut path
+  pub does_not : shut.is path
   pub status_is : status ≡ 3
   pub unwritten : out.contents ≡ out_old
-  pub reported : ReportsOf d.1 (codes "cannot open file\n") err_old err.contents err.has_failed
+  pub reported : ReportsShutOf shut.tells asked d.1 err_old err.contents err.has_failed
 
 -- There was nothing to read it with.
 pub record BindsNone (shared : Shared) (status : ℕ) (out_old : Option (List ℕ)) (out : Written) (err_old : Option (List ℕ)) (err : Written) : Type 0 where
@@ -104,11 +105,11 @@ pub record BindsNone (shared : Shared) (status : ℕ) (out_old : Option (List �
   pub reported : ReportsLoad fault err_old err.contents err.has_failed
 
 -- how one of several documents ends
-abbrev pub EndsOne : (Option (List ℕ) → Option (List ℕ) → Type 0) → (List ℕ → Type 0) → Shared → Form × List ℕ → ℕ
+abbrev pub EndsOne : (Option (List ℕ) → Option (List ℕ) → Type 0) → Shut → Shared → Form × List ℕ → ℕ
     → Option (List ℕ) → Written → Option (List ℕ) → Written → Type 0
-EndsOne has_document is_shut shared d status out_old out err_old err =
+EndsOne has_document shut shared d status out_old out err_old err =
     ReadsOne has_document shared d status out_old out err_old err
-    ⊎ (OpensNone is_shut d status out_old out err_old err ⊎ BindsNone shared status out_old out err_old err)
+    ⊎ (OpensNone shared.explain shut d status out_old out err_old err ⊎ BindsNone shared status out_old out err_old err)
 
 -- The document has no address to be its base, which the status and its line on the error output say, and it was not opened.
 pub record AddressesNone (folder : List ℕ) (shared : Shared) (d : Form × List ℕ) (status : ℕ) (out_old : Option (List ℕ)) (out : Written)
@@ -120,12 +121,12 @@ pub record AddressesNone (folder : List ℕ) (shared : Shared) (d : Form × List
   pub reported : ReportsNoAddressOf d.1 fault err_old err.contents err.has_failed
 
 -- By the folder: without one the document ended so with the base of all, and else with its address in the folder as its base; or it has none.
-abbrev pub EndsAt : Option (List ℕ) → (Option (List ℕ) → Option (List ℕ) → Type 0) → (List ℕ → Type 0) → Shared → Form × List ℕ → ℕ
+abbrev pub EndsAt : Option (List ℕ) → (Option (List ℕ) → Option (List ℕ) → Type 0) → Shut → Shared → Form × List ℕ → ℕ
     → Option (List ℕ) → Written → Option (List ℕ) → Written → Type 0
-EndsAt None has_document is_shut shared d status out_old out err_old err = EndsOne has_document is_shut shared d status out_old out err_old err
-EndsAt (Some folder) has_document is_shut shared d status out_old out err_old err =
+EndsAt None has_document shut shared d status out_old out err_old err = EndsOne has_document shut shared d status out_old out err_old err
+EndsAt (Some folder) has_document shut shared d status out_old out err_old err =
     ((base : List ℕ) × IsAddress shared.limits.iri folder (file_by (Some d.1)) base
-    × EndsOne has_document is_shut (record shared { base = Some base }) d status out_old out err_old err)
+    × EndsOne has_document shut (record shared { base = Some base }) d status out_old out err_old err)
     ⊎ AddressesNone folder shared d status out_old out err_old err
 
 -- one of the outputs has failed
@@ -143,21 +144,21 @@ Either false P Q = Q
 
 -- The documents that are left were checked in turn, from a status and outputs so far to the last of them, or to the first after which an output had
 -- failed. The outputs are as that document left them.
-abbrev pub EndsLeft : (Option (List ℕ) → Option (List ℕ) → Type 0) → (List ℕ → Type 0) → Shared → List (Form × List ℕ) → ℕ → ℕ
+abbrev pub EndsLeft : (Option (List ℕ) → Option (List ℕ) → Type 0) → Shut → Shared → List (Form × List ℕ) → ℕ → ℕ
     → Written → Written → Written → Written → Type 0
-EndsLeft has_document is_shut shared [] so_far status out_now out err_now err = (status ≡ so_far) × (out ≡ out_now) × (err ≡ err_now)
-EndsLeft has_document is_shut shared (d ∷ ds) so_far status out_now out err_now err =
-    (own : ℕ) × (out_next : Written) × (err_next : Written) × EndsAt shared.folder has_document is_shut shared d own out_now.contents out_next err_now.contents err_next
+EndsLeft has_document shut shared [] so_far status out_now out err_now err = (status ≡ so_far) × (out ≡ out_now) × (err ≡ err_now)
+EndsLeft has_document shut shared (d ∷ ds) so_far status out_now out err_now err =
+    (own : ℕ) × (out_next : Written) × (err_next : Written) × EndsAt shared.folder has_document shut shared d own out_now.contents out_next err_now.contents err_next
     × Either (has_failed_output out_next err_next)
     ((status ≡ status_after so_far own true) × (out ≡ out_next) × (err ≡ err_next))
-    (EndsLeft has_document is_shut shared ds (status_after so_far own false) status out_next out err_next err)
+    (EndsLeft has_document shut shared ds (status_after so_far own false) status out_next out err_next err)
 
 -- the same of all documents, from outputs with these contents
-abbrev pub EndsEach : (Option (List ℕ) → Option (List ℕ) → Type 0) → (List ℕ → Type 0) → Shared → List (Form × List ℕ) → ℕ
+abbrev pub EndsEach : (Option (List ℕ) → Option (List ℕ) → Type 0) → Shut → Shared → List (Form × List ℕ) → ℕ
     → Option (List ℕ) → Written → Option (List ℕ) → Written → Type 0
-EndsEach has_document is_shut shared ds status out_old out err_old err =
+EndsEach has_document shut shared ds status out_old out err_old err =
     (out_first : Written) × (err_first : Written) × (out_first.contents ≡ out_old) × (err_first.contents ≡ err_old)
-    × EndsLeft has_document is_shut shared ds 0 status out_first out err_first err
+    × EndsLeft has_document shut shared ds 0 status out_first out err_first err
 
 -- The file of bindings, where there is one, had these bytes, and they are bindings.
 abbrev pub GivesBindings : Sizes → Option (Option (List ℕ)) → Option (List ℕ) → Type 0

@@ -1,20 +1,22 @@
 // The whole program, over what it is started with.
 
-ghost use Rattle.std.specs.Prelude.{◌≡◌, ◌⊎◌, ◌≤◌, false, IfErr, IfOk, IfSome, List, map, OnErr, option_map, Some, string_bytes};
+ghost use Rattle.std.specs.Prelude.{◌≡◌, ◌⊎◌, ◌≤◌, false, IfErr, IfOk, IfSome, List, map, option_map, Some, string_bytes};
 ghost use Rattle.clap.specs.Words.{Text};
 ghost use Rattle.rdf_iri.specs.Scope.{BaseFits};
 ghost use Rattle.std.specs.Result.{IsErrOf};
 ghost use Rattle.rdf_iri.specs.Texts.{byte_len};
 ghost use Rattle.rdf_command.specs.Addresses.{IsAddress, LacksAddress};
 ghost use Rattle.rdf_command.specs.Programs.{HasPrefixes, HostEnds, IsGiven, IsNotGiven, OneEnds, OneEndsAt, TaskEnds, file_of, folders_of, outputs_of, prefixes_of};
+ghost use Rattle.rdf_command.specs.Reasons.{shut_of};
 ghost use Rattle.rdf_command.specs.Runs.{AreFresh, AsWritten, files_told};
 ghost use Rattle.rdf_command.specs.Words.{SkipFits};
 
 use crate::addresses::address_within;
-use crate::commands::{command_of, not_utf8};
+use crate::commands::{command_of, name_by, not_utf8};
 use crate::host::{Host, NoFolder, NoWords, NotOpen};
 use crate::output::run_over;
-use crate::reports::{refuse_address, refuse_file, refuse_words};
+use crate::reasons::refuse_file;
+use crate::reports::{refuse_address, refuse_words};
 use crate::runs::Files;
 use crate::several::check_each;
 use crate::task::{Task, WordsFault};
@@ -84,7 +86,7 @@ fn run_task<H: Host, O: Drain, E: Drain>(
     requires skip { SkipFits task }
     requires out { O.has_failed out.old ≡ false }
     requires err { E.has_failed err.old ≡ false }
-    ensures { AsWritten (TaskEnds (folders_of H.Host host.now) (H.has_document host.now) (H.is_shut host.now) (outputs_of H.Host host.now) task (option_map (files_told H.Input.Source) result.files) result.status)
+    ensures { AsWritten (TaskEnds (folders_of H.Host host.now) (H.has_document host.now) (shut_of H.Host host.now) (outputs_of H.Host host.now) task (option_map (files_told H.Input.Source) result.files) result.status)
         O.Drain E.Drain out.old out.new err.old err.new }
 {
     if task.more.as_slice().is_empty() {
@@ -108,7 +110,7 @@ fn run_alone<H: Host, O: Drain, E: Drain>(
     requires skip { SkipFits task }
     requires out { O.has_failed out.old ≡ false }
     requires err { E.has_failed err.old ≡ false }
-    ensures { AsWritten (OneEndsAt task.addressed (folders_of H.Host host.now) (H.has_document host.now) (H.is_shut host.now) (outputs_of H.Host host.now)
+    ensures { AsWritten (OneEndsAt task.addressed (folders_of H.Host host.now) (H.has_document host.now) (shut_of H.Host host.now) (outputs_of H.Host host.now)
         task (option_map (files_told H.Input.Source) result.files) result.status)
         O.Drain E.Drain out.old out.new err.old err.new }
 {
@@ -167,38 +169,59 @@ fn run_one<H: Host, O: Drain, E: Drain>(
     requires skip { SkipFits task }
     requires out { O.has_failed out.old ≡ false }
     requires err { E.has_failed err.old ≡ false }
-    ensures { AsWritten (OneEnds (H.has_document host.now) (H.is_shut host.now) (outputs_of H.Host host.now) task (option_map (files_told H.Input.Source) result.files) result.status)
+    ensures { AsWritten (OneEnds (H.has_document host.now) (shut_of H.Host host.now) (outputs_of H.Host host.now) task (option_map (files_told H.Input.Source) result.files) result.status)
         O.Drain E.Drain out.old out.new err.old err.new }
 {
     match open_files(host, &task) {
         Ok(files) => run_over(alloc, task, host, files, out, err),
-        Err(NotOpen) => Ended {
-            status: refuse_file(err),
+        Err(name) => Ended {
+            status: refuse_file(alloc, host, name, task.explain, err),
             files: None,
         },
     }
 }
 
-// Opens the files of a task, that of the bindings first.
-fn open_files<H: Host>(host: &H, task: &Task) -> Result<Files<H::Input>, NotOpen>
+// Opens the files of a task, that of the bindings first. The name of one that does not open is given back.
+fn open_files<'a, H: Host>(host: &H, task: &'a Task) -> Result<Files<H::Input>, &'a str>
     ensures prefixes { IfOk result (λ files. HasPrefixes (H.has_document host.now) (prefixes_of task.now) (option_map H.Input.remaining files.prefixes)) }
     ensures document { IfOk result (λ files. H.has_document host.now (file_of task.now) (H.Input.remaining files.document)) }
     ensures fresh { IfOk result (AreFresh H.Input.has_ended H.Input.has_failed) }
-    ensures shut { OnErr result ((path : Text) × ((prefixes_of task.now ≡ Some path) ⊎ (file_of task.now ≡ Some path)) × H.is_shut host.now path) }
+    ensures shut { IfErr result (λ name. ((prefixes_of task.now ≡ Some name.now) ⊎ (file_of task.now ≡ Some name.now)) × H.is_shut host.now name.now) }
 {
-    let prefixes = open_prefixes(host, task)?;
-    let document = host.open(task.file.as_deref())?;
-    Ok(Files { prefixes, document })
+    let prefixes = match open_prefixes(host, task) {
+        Ok(prefixes) => prefixes,
+        Err(name) => return Err(name),
+    };
+    match open_named(host, task.file.as_deref()) {
+        Ok(document) => Ok(Files { prefixes, document }),
+        Err(name) => Err(name),
+    }
 }
 
-/// Opens the file of bindings, where the task names one.
-pub fn open_prefixes<H: Host>(host: &H, task: &Task) -> Result<Option<H::Input>, NotOpen>
+// Opens the file of this name, or standard input, and gives back the name of a file that does not open.
+fn open_named<'a, H: Host>(host: &H, file: Option<&'a str>) -> Result<H::Input, &'a str>
+    ensures opened { IfOk result (λ input. H.has_document host.now (option_map (λ s. s.now) file.entry) (H.Input.remaining input)) }
+    ensures more { IfOk result (λ input. H.Input.has_ended input ≡ false) }
+    ensures live { IfOk result (λ input. H.Input.has_failed input ≡ false) }
+    ensures shut { IfErr result (λ name. (option_map (λ s. s.now) file.entry ≡ Some name.now) × H.is_shut host.now name.now) }
+{
+    match host.open(file) {
+        Ok(input) => Ok(input),
+        Err(NotOpen) => Err(name_by(file)),
+    }
+}
+
+/// Opens the file of bindings, where the task names one. Its name is given back where it does not open.
+pub fn open_prefixes<'a, H: Host>(host: &H, task: &'a Task) -> Result<Option<H::Input>, &'a str>
     ensures opened { IfOk result (λ prefixes. HasPrefixes (H.has_document host.now) (prefixes_of task.now) (option_map H.Input.remaining prefixes)) }
     ensures fresh { IfOk result (λ prefixes. IfSome prefixes (λ s. (H.Input.has_ended s ≡ false) × (H.Input.has_failed s ≡ false))) }
-    ensures shut { OnErr result ((path : Text) × (prefixes_of task.now ≡ Some path) × H.is_shut host.now path) }
+    ensures shut { IfErr result (λ name. (prefixes_of task.now ≡ Some name.now) × H.is_shut host.now name.now) }
 {
     match task.prefixes.as_deref() {
-        Some(path) => Ok(Some(host.open(Some(path))?)),
+        Some(path) => match open_named(host, Some(path)) {
+            Ok(input) => Ok(Some(input)),
+            Err(name) => Err(name),
+        },
         None => Ok(None),
     }
 }

@@ -83,6 +83,8 @@ pub trait Host {
     ghost has_document: { Self → Option Text → Option (List ℕ) → Type 0 };
     /// The file of this name does not open.
     ghost is_shut: { Self → Text → Type 0 };
+    /// Asked why the file of this name does not open, the host tells this, or nothing.
+    ghost has_reason: { Self → Text → Option Text → Type 0 };
     /// This is the path of the folder that names of files start from.
     ghost has_folder: { Self → Text → Type 0 };
     /// That path can't be told.
@@ -105,6 +107,11 @@ pub trait Host {
         ensures more { IfOk result (λ input. Self.Input.has_ended input ≡ false) }
         ensures live { IfOk result (λ input. Self.Input.has_failed input ≡ false) }
         ensures shut { OnErr result ((path : Text) × (option_map (λ s. s.now) file.entry ≡ Some path) × is_shut self.now path) };
+
+    /// Why the file of this name does not open, as the system says it now; None where it says nothing, or where memory
+    /// is refused.
+    fn reason(&self, alloc: Global, name: &str) -> Option<String>
+        ensures { has_reason self.now name.now (option_map string_bytes result) };
 
     /// The path of the folder that names of files start from.
     fn folder(&self, alloc: Global) -> Result<String, NoFolder>
@@ -237,6 +244,8 @@ impl<'a> Host for Process<'a> {
 
     ghost is_shut = { λ _ _. ⊤ };
 
+    ghost has_reason = { λ _ _ _. ⊤ };
+
     ghost has_folder = { λ _ _. ⊤ };
 
     ghost has_no_folder = { λ _. ⊤ };
@@ -264,6 +273,14 @@ impl<'a> Host for Process<'a> {
             },
         };
         Ok(In::new(opened))
+    }
+
+    // The file is tried again: what kept it from opening may have gone meanwhile, and then there is no reason to tell.
+    fn reason(&self, alloc: Global, name: &str) -> Option<String> {
+        match File::open(self.rt, name) {
+            Ok(_) => None,
+            Err(error) => error.to_string(alloc).ok(),
+        }
     }
 
     fn folder(&self, _alloc: Global) -> Result<String, NoFolder> {

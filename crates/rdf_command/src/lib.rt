@@ -8,6 +8,7 @@ mod entry;
 mod host;
 mod names;
 mod output;
+mod reasons;
 mod reports;
 mod runs;
 mod several;

@@ -187,16 +187,6 @@ fn counts_line(alloc: Global, summary: SkipSummary) -> Result<Vec<u8>, AllocErro
     Ok(text)
 }
 
-/// The text and the status of a file that did not open.
-pub fn refuse_file<E: Drain>(err: &mut E) -> u8
-    requires { E.has_failed err.old ≡ false }
-    ensures status { result ≡ 3 }
-    ensures reported { Reports (codes "rdfconv: cannot open file\n") (E.contents err.old) (E.contents err.new) (E.has_failed err.new) }
-{
-    tell("rdfconv: cannot open file\n", err);
-    3
-}
-
 /// The text and the status of a document that has no address to be its base.
 pub fn refuse_address<E: Drain>(fault: TermFault, err: &mut E) -> u8
     requires { E.has_failed err.old ≡ false }
@@ -234,7 +224,10 @@ pub fn refuse_output<E: Drain>(why: NoOutput, err: &mut E) -> u8
     ensures reported { Reports (output_text why) (E.contents err.old) (E.contents err.new) (E.has_failed err.new) }
 {
     match why {
-        NoOutput::NotOpen => refuse_file(err),
+        NoOutput::NotOpen => {
+            tell("rdfconv: cannot open file\n", err);
+            3
+        }
         NoOutput::Memory => tell_memory(err),
     }
 }
@@ -315,8 +308,8 @@ fn tell_usage<E: Drain>(alloc: Global, error: &Error, err: &mut E)
     }
 }
 
-// Reports that memory was refused, which takes none, and answers the status.
-fn tell_memory<E: Drain>(err: &mut E) -> u8
+/// Reports that memory was refused, which takes none, and answers the status.
+pub fn tell_memory<E: Drain>(err: &mut E) -> u8
     requires { E.has_failed err.old ≡ false }
     ensures status { result ≡ 4 }
     ensures reported { Reports (report_text StreamFault.Memory) (E.contents err.old) (E.contents err.new) (E.has_failed err.new) }
@@ -332,8 +325,8 @@ fn tell<E: Drain>(text: &str, err: &mut E)
     tell_bytes(text.as_bytes(), err);
 }
 
-// Where the device fails, that is not reported: there is no other to report it to.
-fn tell_bytes<E: Drain>(text: &[u8], err: &mut E)
+/// Reports a text. Where the device fails, that is not reported: there is no other to report it to.
+pub fn tell_bytes<E: Drain>(text: &[u8], err: &mut E)
     requires { E.has_failed err.old ≡ false }
     ensures { Reports text.now (E.contents err.old) (E.contents err.new) (E.has_failed err.new) }
 {

@@ -7,6 +7,7 @@ ghost use Rattle.rdf_stream.specs.Told.{told, written};
 ghost use Rattle.std.specs.Result.{IsErrOf};
 ghost use Rattle.rdf_command.specs.Addresses.{IsFolderFor};
 ghost use Rattle.rdf_command.specs.Programs.{SeveralEnd, documents_of, folders_of};
+ghost use Rattle.rdf_command.specs.Reasons.{shut_of};
 ghost use Rattle.rdf_command.specs.Runs.{AsWritten};
 ghost use Rattle.rdf_command.specs.Several.{AcceptsOne, BindsNotFrom, EndsAt, EndsEach, EndsOne, GivesBindings, GivesNoBindings, IsCheckJob, StopsOne, has_failed_output, shared_of, status_after, worse};
 
@@ -14,9 +15,8 @@ use crate::addresses::address_within;
 use crate::commands::{name_by, named};
 use crate::entry::{folder_of, open_prefixes};
 use crate::host::{Host, NotOpen};
-use crate::reports::{
-    refuse_address, refuse_address_of, refuse_file, refuse_prefixes, status, tell_of, tell_stop_of,
-};
+use crate::reasons::{refuse_file, refuse_file_of};
+use crate::reports::{refuse_address, refuse_address_of, refuse_prefixes, status, tell_stop_of};
 use crate::runs::check_to;
 use crate::task::Task;
 use rdf_stream::{
@@ -76,7 +76,7 @@ pub fn check_each<H: Host, O: Drain, E: Drain>(
     requires base { BaseFits task.now.base task.now.limits }
     requires out { O.has_failed out.old ≡ false }
     requires err { E.has_failed err.old ≡ false }
-    ensures { AsWritten (SeveralEnd (folders_of H.Host host.now) (H.has_document host.now) (H.is_shut host.now) task.now result)
+    ensures { AsWritten (SeveralEnd (folders_of H.Host host.now) (H.has_document host.now) (shut_of H.Host host.now) task.now result)
         O.Drain E.Drain out.old out.new err.old err.new }
 {
     let folder = match folder_for(alloc, host, task.addressed) {
@@ -85,7 +85,7 @@ pub fn check_each<H: Host, O: Drain, E: Drain>(
     };
     let source = match open_prefixes(host, task) {
         Ok(source) => source,
-        Err(NotOpen) => return refuse_file(err),
+        Err(name) => return refuse_file(alloc, host, name, task.explain, err),
     };
     let prefixes = match given(alloc, task.limits, source) {
         Ok(prefixes) => prefixes,
@@ -162,7 +162,7 @@ fn check_with<H: Host, O: Drain, E: Drain>(
     requires base { BaseFits (shared_of plan.now).base plan.now.limits }
     requires out { O.has_failed out.old ≡ false }
     requires err { E.has_failed err.old ≡ false }
-    ensures { AsWritten (EndsEach (H.has_document host.now) (H.is_shut host.now) (shared_of plan.now) (documents_of task.now) result)
+    ensures { AsWritten (EndsEach (H.has_document host.now) (shut_of H.Host host.now) (shared_of plan.now) (documents_of task.now) result)
         O.Drain E.Drain out.old out.new err.old err.new }
 {
     let first = (task.form, name_by(task.file.as_deref()));
@@ -196,7 +196,7 @@ fn check_next<H: Host, O: Drain, E: Drain>(
     requires base { BaseFits (shared_of plan.now).base plan.now.limits }
     requires out { O.has_failed out.old ≡ false }
     requires err { E.has_failed err.old ≡ false }
-    ensures ends { AsWritten (EndsAt (shared_of plan.now).folder (H.has_document host.now) (H.is_shut host.now) (shared_of plan.now) (document.entry.0, document.entry.1.now) result.status)
+    ensures ends { AsWritten (EndsAt (shared_of plan.now).folder (H.has_document host.now) (shut_of H.Host host.now) (shared_of plan.now) (document.entry.0, document.entry.1.now) result.status)
         O.Drain E.Drain out.old out.new err.old err.new }
     ensures failed { result.has_failed ≡ has_failed_output (written O.Drain out.new) (written E.Drain err.new) }
 {
@@ -218,7 +218,7 @@ fn check_one<H: Host, O: Drain, E: Drain>(
     requires base { BaseFits (shared_of plan.now).base plan.now.limits }
     requires out { O.has_failed out.old ≡ false }
     requires err { E.has_failed err.old ≡ false }
-    ensures { AsWritten (EndsAt (shared_of plan.now).folder (H.has_document host.now) (H.is_shut host.now) (shared_of plan.now) (document.entry.0, document.entry.1.now) result)
+    ensures { AsWritten (EndsAt (shared_of plan.now).folder (H.has_document host.now) (shut_of H.Host host.now) (shared_of plan.now) (document.entry.0, document.entry.1.now) result)
         O.Drain E.Drain out.old out.new err.old err.new }
 {
     match plan.folder {
@@ -238,7 +238,7 @@ fn check_at<H: Host, O: Drain, E: Drain>(
 ) -> u8
     requires out { O.has_failed out.old ≡ false }
     requires err { E.has_failed err.old ≡ false }
-    ensures { AsWritten (EndsAt (Some folder.now) (H.has_document host.now) (H.is_shut host.now) (shared_of plan.now) (document.entry.0, document.entry.1.now) result)
+    ensures { AsWritten (EndsAt (Some folder.now) (H.has_document host.now) (shut_of H.Host host.now) (shared_of plan.now) (document.entry.0, document.entry.1.now) result)
         O.Drain E.Drain out.old out.new err.old err.new }
 {
     let (_, name) = document;
@@ -259,7 +259,7 @@ fn check_based<H: Host, O: Drain, E: Drain>(
     requires base { BaseFits (shared_of plan.now).base plan.now.limits }
     requires out { O.has_failed out.old ≡ false }
     requires err { E.has_failed err.old ≡ false }
-    ensures { AsWritten (EndsOne (H.has_document host.now) (H.is_shut host.now) (shared_of plan.now) (document.entry.0, document.entry.1.now) result)
+    ensures { AsWritten (EndsOne (H.has_document host.now) (shut_of H.Host host.now) (shared_of plan.now) (document.entry.0, document.entry.1.now) result)
         O.Drain E.Drain out.old out.new err.old err.new }
 {
     let (form, name) = document;
@@ -269,10 +269,7 @@ fn check_based<H: Host, O: Drain, E: Drain>(
     };
     match host.open(named(name)) {
         Ok(source) => check_source(plan, (job, name), source, out, err),
-        Err(NotOpen) => {
-            tell_of(plan.alloc, name, b"cannot open file\n", err);
-            3
-        }
+        Err(NotOpen) => refuse_file_of(plan.alloc, host, name, plan.explain, err),
     }
 }
 

@@ -65,6 +65,8 @@ impl<'a> Host for InMemory<'a> {
 
     ghost is_shut = { λ _ _. ⊤ };
 
+    ghost has_reason = { λ _ _ _. ⊤ };
+
     ghost has_folder = { λ _ _. ⊤ };
 
     ghost has_no_folder = { λ _. ⊤ };
@@ -95,6 +97,10 @@ impl<'a> Host for InMemory<'a> {
             }
         }
         Err(NotOpen)
+    }
+
+    fn reason(&self, alloc: Global, _name: &str) -> Option<String> {
+        String::from_str(alloc, "no such file in memory").ok()
     }
 
     fn folder(&self, alloc: Global) -> Result<String, NoFolder> {

@@ -296,7 +296,7 @@ pub(crate) static FILES: [(&str, &str); 10] = [
     ("bad.txt", "ex: http://e/\nex: e\n"),
 ];
 
-pub(crate) static STARTED: [Started; 35] = [
+pub(crate) static STARTED: [Started; 36] = [
     Started {
         line: "rdfconv show x x x x x x x x x x x x x x x x x x x x x x x x x x x x x x x x x x x x x x x x x x x x x x x x",
         status: 2,
@@ -505,7 +505,13 @@ pub(crate) static STARTED: [Started; 35] = [
         line: "rdfconv check --explain open.ttl no.nt - data.ttl",
         status: 3,
         written: "-: accepted, 1 quads, 19 bytes\n",
-        reported: "open.ttl: unexpected token at byte 19, line 2\nopen.ttl:2: unexpected token; expected \";\", \",\" or \"]\"\nno.nt: cannot open file\ndata.ttl: unbound prefix at byte 0, line 1\ndata.ttl:1: unbound prefix\n",
+        reported: "open.ttl: unexpected token at byte 19, line 2\nopen.ttl:2: unexpected token; expected \";\", \",\" or \"]\"\nno.nt: cannot open file\nno.nt: no such file in memory\ndata.ttl: unbound prefix at byte 0, line 1\ndata.ttl:1: unbound prefix\n",
+    },
+    Started {
+        line: "rdfconv convert --explain --prefixes=no.txt data.ttl",
+        status: 3,
+        written: "",
+        reported: "rdfconv: cannot open file\nno.txt: no such file in memory\n",
     },
 ];
 
