@@ -35,6 +35,8 @@ class Cluster:
         self.workers, self.ended = [], 0
         self.scheduler = self.start('dask_scheduler', '--port', '0')
         while not os.path.exists(self.info):
+            if self.scheduler.poll() is not None:
+                sys.exit('try.py: no scheduler starts: Debian has it in python3-distributed')
             time.sleep(0.1)
         with open(self.info) as info:
             self.address = re.search(r'"address": "([^"]*)"', info.read())[1]
