@@ -11,12 +11,17 @@ use Rattle.rdf_tokens.specs.Grammars.{IsTooLong}
 use Rattle.rdf_tokens.specs.Scans.{most_bytes}
 use Rattle.rdf_stream.specs.declared.fault.StreamFault.{StreamFault}
 use Rattle.rdf_stream.specs.declared.fault.StreamFault.TheVariants as stream
-use Rattle.rdf_stream.specs.Devices.{HasGiven, Reading}
+use Rattle.rdf_stream.specs.Devices.{HasGiven, Reading, at_end}
 use Rattle.rdf_stream.specs.Pieces.{HaltsOn, ReadStops, ReadsAll, ReadsEnd, StaysOn, TakenBefore, TakesMore}
 
 -- of too many bytes those that a document may have are the same with more
 pub same_front : (bytes more : List ℕ) (at : Place) → IsTooLong bytes at → take most_bytes (bytes ++ more) ≡ take most_bytes bytes
 same_front bytes more at h = take-append-le most_bytes bytes more (omega (arith, h.0))
+
+-- All bytes of a source were given, and are not read on.
+pub whole_stops : {R : Type 0} (taken : R → List ℕ → R → Type 0) (halts : StreamFault → R → List ℕ → Bool → R → Type 0) (f : StreamFault) (bytes : List ℕ) (ended : Bool) (first now : R) →
+    halts f first bytes ended now → ReadStops taken halts f (Some bytes) (at_end ended) first now
+whole_stops taken halts f bytes ended first now h = inr (record { bytes = bytes; consumed = sym (append-nil bytes); ended = λ e. refl; live = refl }, h)
 
 -- too many bytes are too many with more
 pub too_long_more : (bytes more : List ℕ) (at : Place) → IsTooLong bytes at → IsTooLong (bytes ++ more) at

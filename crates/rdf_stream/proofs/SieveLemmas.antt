@@ -48,6 +48,11 @@ use Rattle.rdf_stream.specs.Checks.{IsRefusedFor}
 use Rattle.rdf_stream.specs.Skips.{IsAside, IsBadFor, comment_text, counted_up, fault_from, place_after}
 use Rattle.rdf_stream.proofs.LineCuts.{some_lines}
 
+-- bytes that are not none are some
+pub some_bytes : (w : List ℕ) → (length w == 0) ≡ false → 0 < length w
+some_bytes [] e = absurd (let z : true ≡ false = e in cc)
+some_bytes (c ∷ w) e = omega arith
+
 -- counts that stop are added up
 count_more : (a m n b c : ℕ) → counted_up m ≡ counted_up (a + b) → counted_up n ≡ counted_up (m + c) → counted_up n ≡ counted_up (a + (b + c))
 count_more a m n b c h k = omega (arith, h, k)
@@ -211,6 +216,11 @@ module _ {A D B : Type 0} (takes : drain.Ghosts D) (sets : drain.Ghosts B) where
     live = g.live;
     bad_live = m;
   }
+
+  -- where there are no bytes, no line is sifted
+  pub empty_sifted : (start : Place) (old : Sieve A) (d : D) (b : B) (block : List ℕ) → length block ≡ 0 → takes.has_failed d ≡ false → sets.has_failed b ≡ false → HasSifted takes sets start old d b (split_lines block) old d b
+  empty_sifted start old d b [] e live bad = sifted_none start old d b live bad
+  empty_sifted start old d b (c ∷ w) e live bad = absurd (let z : length (c ∷ w) ≡ 0 = e in omega arith)
 
   -- a bad line was put aside
   pub line_bad : (start : Place) (f : Fault) (old mid new : Sieve A) (d d' : D) (b b' : B) (line : List ℕ) → takes.has_failed d ≡ false → PutsNone old d line f mid d' → PutsBad sets mid b (fault_from start f) line new b' →

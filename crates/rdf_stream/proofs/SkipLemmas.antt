@@ -1,9 +1,9 @@
 -- A run that goes on after bad lines: what it has done after each piece, and at the end.
-use Rattle.std.proofs.Common.{◌≡◌, ℕ, suc, ◌+◌, ◌<◌, ◌≤◌, ◌-◌, ◌||◌, cond, Bool, true, false, List, [], ◌∷◌, ◌++◌, ◌⊎◌, inl, inr, Option, refl, sym, ap, ◌∙◌, subst, ⊎_elim, append_assoc, length, take, count_by, ◌==◌, arith, length-append, length-take}
+use Rattle.std.proofs.Common.{◌≡◌, ℕ, suc, ◌+◌, ◌<◌, ◌≤◌, ◌-◌, ◌||◌, cond, Bool, true, false, List, [], ◌∷◌, ◌++◌, ◌⊎◌, inl, inr, Option, refl, sym, ap, ◌∙◌, subst, ⊎_elim, append_assoc, length, take, drop, count_by, ◌==◌, arith, length-append, length-drop, length-take}
 use Rattle.std.specs.Io.KnownBytes.{Appends, Keeps}
 use Rattle.std.specs.List.{AllByRecursion, concat}
 use Rattle.std.proofs.KnownBytes.{Appends-kept, Appends-nil, Consumes-whole}
-use Rattle.std.proofs.lemmas.List.{append-nil}
+use Rattle.std.proofs.lemmas.List.{append-nil, take-append-drop}
 use Rattle.std.proofs.lemmas.List.Folds.{concat-append}
 use Rattle.rdf_terms.specs.Terms.{Quad}
 use Rattle.rdf_terms.specs.declared.kind.Dialect.TheVariants.{Lines}
@@ -45,12 +45,12 @@ use Rattle.rdf_stream.proofs.ConvertingLemmas.{graph_had, placed_ascii, placed_w
 use Rattle.rdf_stream.proofs.ConvertsLemmas.{lines_job}
 use Rattle.rdf_stream.proofs.LineCuts.{split_append}
 use Rattle.rdf_stream.proofs.PiecesLemmas.{none_given}
-use Rattle.rdf_stream.proofs.SieveLemmas.{feeds, feeds_cons, few_feeds, fails_then, past_concat, place_same, sifted_none, sifted_then, whole_front}
+use Rattle.rdf_stream.proofs.SieveLemmas.{feeds, feeds_cons, few_feeds, fails_more, fails_then, past_concat, past_lines, place_same, sifted_none, sifted_then, whole_front}
 
--- bytes that are not none are some
-pub some_bytes : (w : List ℕ) → (length w == 0) ≡ false → 0 < length w
-some_bytes [] e = absurd (let z : true ≡ false = e in cc)
-some_bytes (c ∷ w) e = omega arith
+-- no bytes are none
+pub no_bytes : (w : List ℕ) → length w ≡ 0 → w ≡ []
+no_bytes [] e = refl
+no_bytes (c ∷ w) e = absurd (let z : length (c ∷ w) ≡ 0 = e in omega arith)
 
 -- without a line end there is no line feed
 no_feeds : (w : List ℕ) → AllByRecursion (λ b. is_line_end b ≡ false) w → feeds w ≡ 0
@@ -117,6 +117,28 @@ block_split part front block more e (inr (w, c, s, t)) l =
     ap split_lines (sym (append_assoc part front more) ∙ ap (λ x. x ++ more) (sym e ∙ sym same))
     ∙ (split_append (part ++ w) c more t ∙ ap (λ x. split_lines x ++ split_lines more) same)
 
+-- the lines of a part and of what comes after it are its line and the others
+line_split : (part front : List ℕ) (n : ℕ) → IsEndedFront (take n front) → 0 < length (take n front) → split_lines (part ++ front) ≡ split_lines (part ++ take n front) ++ split_lines (drop n front)
+line_split part front n ended l =
+    ap (λ w. split_lines (part ++ w)) (sym (take-append-drop n front)) ∙ block_split part (take n front) (part ++ take n front) (drop n front) refl ended l
+
+-- where they fit, the line does, and behind it the others do
+pub room_behind : (at : LineStart) (part front : List ℕ) (n : ℕ) → HasRoom at (part ++ front) →
+    HasRoom at (part ++ take n front) × ((next : LineStart) → start_of next ≡ place_after (start_of at) (part ++ take n front) → HasRoom next (drop n front))
+room_behind at part front n room =
+    let few = room.few in
+    let lines = room.lines in
+    let t = length-take n front in
+    let d = length-drop n front in
+    let a = length-append part front in
+    let c = length-append part (take n front) in
+    let k = few_feeds (part ++ take n front) in (
+      record { few = omega (arith, few, t, a, c); lines = lines },
+      λ next e.
+          let o : next.offset ≡ at.offset + length (part ++ take n front) = ap (λ (p : Place). p.offset) e in
+          let l : next.line ≡ at.line + feeds (part ++ take n front) = ap (λ (p : Place). p.line) e in record { few = omega (arith, few, t, d, a, c, o); lines = omega (arith, lines, k, o, l) },
+    )
+
 module _ {A D B : Type 0} (takes : drain.Ghosts D) (sets : drain.Ghosts B) where
   -- nothing was read
   pub skipping_start : (first : Held A × D × B) → Begins takes sets first → first.0.part.items ≡ [] → first.0.bytes ≡ 0 → first.0.line ≡ 1 → takes.has_failed first.1 ≡ false → sets.has_failed first.2 ≡ false → IsSkipping takes sets first [] first
@@ -167,21 +189,54 @@ module _ {A D B : Type 0} (takes : drain.Ghosts D) (sets : drain.Ghosts B) where
     fails = h;
   }
 
-  -- or none of them
-  pub front_memory : (start : Place) (old new : Held A) (d : D) (b : B) (front : List ℕ) → new.sieve ≡ old.sieve → takes.has_failed d ≡ false → sets.has_failed b ≡ false → SiftFrontFails takes sets fault.Memory start old d b front new d b
-  front_memory start old new d b front e live bad = record {
+  -- A piece that begins with a line: its lines were sifted where they stand.
+  pub front_direct : (start : Place) (old new : Held A) (d d' : D) (b b' : B) (front : List ℕ) → old.part.items ≡ [] → IsEndedFront front →
+      HasSifted takes sets start old.sieve d b (split_lines front) new.sieve d' b' → new.part.items ≡ old.part.items → new.bytes ≡ old.bytes → new.line ≡ old.line → SiftsFront takes sets start old d b front new d' b'
+  front_direct start old new d d' b b' [] none ended h p n k = record {
     lines = [];
-    split = λ more. (split_lines (old.part.items ++ (front ++ more)), refl);
-    fails = ([], [], refl, subst (λ s. HasSifted takes sets start old.sieve d b [] s d b) (sym e) (sifted_none takes sets start old.sieve d b live bad));
+    sifted = h;
+    split = λ more. ap (λ w. split_lines (w ++ more)) (sym p);
+    whole = append-nil old.part.items ∙ sym p;
+    no_end = λ h. subst (AllByRecursion (λ b. is_line_end b ≡ false)) (sym p) h;
+    count = n;
+    line = k;
   }
+  front_direct start old new d d' b b' (c ∷ w) none ended h p n k =
+      front_sifted start old new d d' b b' (c ∷ w) (c ∷ w) (ap (λ u. u ++ c ∷ w) (sym none)) ended (omega arith) h (p ∙ none) n k
 
-  -- the last part of a line, where there is none
-  pub rest_none : (start : Place) (old : Held A) (d : D) (b : B) → length old.part.items ≡ 0 → takes.has_failed d ≡ false → sets.has_failed b ≡ false → HasSifted takes sets start old.sieve d b (split_lines old.part.items) old.sieve d b
-  rest_none start old d b e live bad = subst (λ ls. HasSifted takes sets start old.sieve d b ls old.sieve d b) (sym (empty old.part.items e)) (sifted_none takes sets start old.sieve d b live bad)
-    where
-      empty : (w : List ℕ) → length w ≡ 0 → split_lines w ≡ []
-      empty [] e = refl
-      empty (c ∷ w) e = absurd (let z : length (c ∷ w) ≡ 0 = e in omega arith)
+  -- not all of them were
+  pub direct_fails : (start : Place) (f : StreamFault) (old new : Held A) (d d' : D) (b b' : B) (front : List ℕ) → old.part.items ≡ [] → IsEndedFront front →
+      SiftFails takes sets f start old.sieve d b (split_lines front) new.sieve d' b' → SiftFrontFails takes sets f start old d b front new d' b'
+  direct_fails start f old new d d' b b' [] none ended h = record { lines = []; split = λ more. (split_lines (old.part.items ++ more), refl); fails = h }
+  direct_fails start f old new d d' b b' (c ∷ w) none ended h = front_fails start f old new d d' b b' (c ∷ w) (c ∷ w) (ap (λ u. u ++ c ∷ w) (sym none)) ended (omega arith) h
+
+  -- The line of which a part was held is not sifted.
+  pub line_stops : (start : Place) (f : StreamFault) (old new : Held A) (d d' : D) (b b' : B) (front : List ℕ) (n : ℕ) → IsEndedFront front → 0 < length front → IsEndedFront (take n front) → 0 < length (take n front) →
+      SiftFails takes sets f start old.sieve d b (split_lines (old.part.items ++ take n front)) new.sieve d' b' → SiftFrontFails takes sets f start old d b front new d' b'
+  line_stops start f old new d d' b b' front n ended l line m h =
+      front_fails start f old new d d' b b' front (old.part.items ++ front) refl ended l
+      (subst (λ ls. SiftFails takes sets f start old.sieve d b ls new.sieve d' b') (sym (line_split old.part.items front n line m))
+      (fails_more takes sets start f old.sieve new.sieve d d' b b' (split_lines (old.part.items ++ take n front)) (split_lines (drop n front)) h))
+
+  -- It was sifted, and the others behind it.
+  module _ (start next : Place) (old mid new : Held A) (d dm d' : D) (b bm b' : B) (front : List ℕ) (n : ℕ) (ended : IsEndedFront front) (l : 0 < length front) (line : IsEndedFront (take n front)) (m : 0 < length (take n front))
+      (h : HasSifted takes sets start old.sieve d b (split_lines (old.part.items ++ take n front)) mid.sieve dm bm) (at : next ≡ place_after start (old.part.items ++ take n front)) where
+    past : next ≡ place_past start (split_lines (old.part.items ++ take n front))
+    past = at ∙ sym (past_lines start [] (old.part.items ++ take n front))
+
+    pub both_sifted : HasSifted takes sets next mid.sieve dm bm (split_lines (drop n front)) new.sieve d' b' → new.part.items ≡ [] → new.bytes ≡ old.bytes → new.line ≡ old.line → SiftsFront takes sets start old d b front new d' b'
+    both_sifted k p c t =
+        front_sifted start old new d d' b b' front (old.part.items ++ front) refl ended l
+        (subst (λ ls. HasSifted takes sets start old.sieve d b ls new.sieve d' b') (sym (line_split old.part.items front n line m))
+        (sifted_then takes sets start old.sieve mid.sieve new.sieve d dm d' b bm b' (split_lines (old.part.items ++ take n front)) (split_lines (drop n front)) h
+        (subst (λ (p : Place). HasSifted takes sets p mid.sieve dm bm (split_lines (drop n front)) new.sieve d' b') past k))) p c t
+
+    pub both_fails : (f : StreamFault) → SiftFails takes sets f next mid.sieve dm bm (split_lines (drop n front)) new.sieve d' b' → SiftFrontFails takes sets f start old d b front new d' b'
+    both_fails f k =
+        front_fails start f old new d d' b b' front (old.part.items ++ front) refl ended l
+        (subst (λ ls. SiftFails takes sets f start old.sieve d b ls new.sieve d' b') (sym (line_split old.part.items front n line m))
+        (fails_then takes sets start f old.sieve mid.sieve new.sieve d dm d' b bm b' (split_lines (old.part.items ++ take n front)) (split_lines (drop n front)) h
+        (subst (λ (p : Place). SiftFails takes sets f p mid.sieve dm bm (split_lines (drop n front)) new.sieve d' b') past k)))
 
   module _ (first : Held A × D × B) (bytes : List ℕ) (old : Held A) (d : D) (b : B) (i : IsSkipping takes sets first bytes (old, d, b)) where
     -- what was sifted from the first line on

@@ -1,5 +1,5 @@
 -- What a conversion has done after each piece, and why it stops within one.
-use Rattle.std.specs.Prelude.{◌≡◌, ◌⊎◌, ◌≤◌, ℕ, Bool, true, false, List, [], length, Option}
+use Rattle.std.specs.Prelude.{◌≡◌, ◌⊎◌, ◌≤◌, ℕ, Bool, true, false, List, [], length, Option, Some}
 use Rattle.std.specs.Io.KnownBytes.{Appends}
 use Rattle.std.specs.List.{AllByRecursion}
 use Rattle.rdf_terms.specs.Terms.{Quad}
@@ -18,6 +18,7 @@ use Rattle.rdf_stream.specs.declared.fault.StreamFault.TheVariants as fault
 use Rattle.rdf_stream.specs.declared.line_out.LineOut.{LineOut}
 use Rattle.rdf_stream.specs.declared.devices.Source as source
 use Rattle.rdf_stream.specs.declared.devices.Drain as drain
+use Rattle.rdf_stream.specs.Devices.{at_end}
 use Rattle.rdf_stream.specs.Converts.{Accepts, AcceptsAll, IsPrompt, RefusesDocument, StopsFor, WritesFront, WritesSome}
 use Rattle.rdf_stream.specs.Told.{told}
 use Rattle.rdf_stream.specs.Faults.{fault_by}
@@ -136,3 +137,13 @@ ConversionStops {G} {X} w says takes reader output from left old new reported = 
 abbrev pub KeepsPrompt : {G X S D : Type 0} → Words G X Quad → source.Ghosts S → drain.Ghosts D → Driven G → Output → S → S → D → D → Type 0
 KeepsPrompt {G} {X} w says takes reader output from left old new = (x : X) → Starts w x reader output.form.style →
     IsPrompt (conversion w x reader.scanner.limit output) (says.remaining from) (told says left) (takes.contents old) (takes.contents new)
+
+-- Whatever the run began with, all of the bytes were converted.
+abbrev pub ConvertsWhole : {G X D : Type 0} → Words G X Quad → drain.Ghosts D → Driven G → Output → List ℕ → D → D → Summary → Type 0
+ConvertsWhole {G} {X} w takes reader output bytes old new summary = (x : X) → Starts w x reader output.form.style →
+    Accepts (conversion w x reader.scanner.limit output) bytes (takes.contents old) (takes.contents new) summary
+
+-- Whatever the run began with, this is why they were not, within them or at their end, and what was written.
+abbrev pub WholeStops : {G X D : Type 0} → Words G X Quad → drain.Ghosts D → Driven G → Output → List ℕ → D → D → StreamFault → Type 0
+WholeStops {G} {X} w takes reader output bytes old new reported = (x : X) → Starts w x reader output.form.style → (ended : Bool) ×
+    StopsFor reported (conversion w x reader.scanner.limit output) (Some bytes) (at_end ended) (takes.contents old) (takes.contents new) (takes.has_failed new)

@@ -91,6 +91,12 @@ pub record Holds {A : Type 0} (old : Held A) (part : List ℕ) (new : Held A) : 
   pub count : new.bytes ≡ old.bytes
   pub line : new.line ≡ old.line
 
+-- no part of a line is held any more, and what is counted stays
+pub record HoldsNone {A : Type 0} (old new : Held A) : Type 0 where
+  pub none : new.part.items ≡ []
+  pub count : new.bytes ≡ old.bytes
+  pub line : new.line ≡ old.line
+
 -- the bytes are a front of these, and the rest has no line end; where there are some, they end in one
 pub record EndsLines (front rest : List ℕ) : Type 0 where
   pub ended : IsEndedFront front

@@ -1,7 +1,7 @@
 // From a document to the lines of its quads.
 
 ghost use Rattle.std.specs.Prelude.{◌≡◌, ◌++◌, true, false, OnOk, IfOk, IfErr, IfSome};
-ghost use Rattle.rdf_stream.specs.Converting.{Begins, ConversionStops, Converts, IsConverting, IsPutting, KeepsPrompt, RunEnds, RunHalts, Starts};
+ghost use Rattle.rdf_stream.specs.Converting.{Begins, ConversionStops, Converts, ConvertsWhole, IsConverting, IsPutting, KeepsPrompt, RunEnds, RunHalts, Starts, WholeStops};
 ghost use Rattle.rdf_stream.specs.Converts.{AcceptsAll, IsPrompt, StopsFor};
 ghost use Rattle.rdf_stream.specs.Expected.{ExpectsFor, NoKind, RunExpects, Stands, trees_of};
 ghost use Rattle.rdf_stream.specs.Faults.{IsRefusal, IsSentOn};
@@ -19,7 +19,7 @@ use crate::line_out::{LineOut, stop};
 use crate::output::OutputView;
 use crate::parts::{Parts, take_parts};
 use crate::passes::Passes;
-use crate::pieces::{PIECE_LEN, Run, piece_buffer_for, read_pieces};
+use crate::pieces::{Run, piece_buffer, read_pieces, read_whole};
 use rdf_driver::{Kinds, QuadGrammar, Reader, Summary};
 use rdf_lines::{LineBuffer, LineEnding, Style, line_reader};
 use rdf_trig::tree_reader;
@@ -81,7 +81,6 @@ pub fn convert_expecting<A: Allocator + Copy, S: Source, D: Drain>(
             let reader = line_reader(alloc, form, job.limits());
             let result = convert_with(
                 alloc,
-                PIECE_LEN,
                 reader,
                 job.output(Style::Kept),
                 source,
@@ -95,7 +94,6 @@ pub fn convert_expecting<A: Allocator + Copy, S: Source, D: Drain>(
             let reader = tree_reader(alloc, job.options(form));
             let result = convert_with(
                 alloc,
-                PIECE_LEN,
                 reader,
                 job.output(Style::Tagged),
                 source,
@@ -108,11 +106,9 @@ pub fn convert_expecting<A: Allocator + Copy, S: Source, D: Drain>(
     }
 }
 
-/// Converts what the reader reads to the lines of its quads. No more than so many bytes are asked of the source at a
-/// time, and no more than a piece has.
-pub(crate) fn convert_with<A: Allocator + Copy, G: Passes<A>, S: Source, D: Drain>(
+/// Converts what the reader reads to the lines of its quads.
+fn convert_with<A: Allocator + Copy, G: Passes<A>, S: Source, D: Drain>(
     alloc: A,
-    len: usize,
     reader: Reader<G, A>,
     output: OutputView<'_>,
     source: &mut S,
@@ -135,13 +131,33 @@ pub(crate) fn convert_with<A: Allocator + Copy, G: Passes<A>, S: Source, D: Drai
         (S.remaining source.old) (told S.Source source.new) expected.new }
 {
     *expected = Kinds::none();
-    let mut piece = piece_buffer_for(alloc, len)?;
+    let mut piece = piece_buffer(alloc)?;
     let mut reader = reader;
     let mut buffer = LineBuffer::new(alloc);
     let mut lines = LineOut::new(output, &mut buffer, drain);
     let result = read_pieces(source, piece.as_mut_slice(), &mut reader, &mut lines);
     *expected = expected_beside(&reader, &result);
     result
+}
+
+/// Converts bytes that are all of a document to the lines of its quads.
+pub(crate) fn convert_whole<A: Allocator + Copy, G: Passes<A>, D: Drain>(
+    alloc: A,
+    reader: Reader<G, A>,
+    output: OutputView<'_>,
+    bytes: &[u8],
+    drain: &mut D,
+) -> Result<Summary, StreamFault>
+    requires starts { (x : G.Setting) × Starts G.words x reader output.lines.style }
+    requires styled { output.lines.style ≡ G.style }
+    requires drain { D.has_failed drain.old ≡ false }
+    ensures accepted { IfOk result (ConvertsWhole G.words D.Drain reader (output_of output.entry) bytes.now drain.old drain.new) }
+    ensures stops { IfErr result (WholeStops G.words D.Drain reader (output_of output.entry) bytes.now drain.old drain.new) }
+{
+    let mut reader = reader;
+    let mut buffer = LineBuffer::new(alloc);
+    let mut lines = LineOut::new(output, &mut buffer, drain);
+    read_whole(bytes, &mut reader, &mut lines)
 }
 
 impl<'a, A: Allocator + Copy, G: QuadGrammar + Passes<A>, D: Drain> Run<LineOut<'a, D, A>>

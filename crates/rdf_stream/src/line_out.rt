@@ -188,7 +188,8 @@ impl<'a, D: Drain, A: Allocator + Copy> LineOut<'a, D, A> {
         Ok(())
     }
 
-    // Puts the line of a quad as it is, for a caller that names itself.
+    // Puts the line of a quad as it is, for a caller that names itself. With its drain it is one of a kind, so that the
+    // line buffer's code for it has one caller.
     #[inline(always)]
     fn put_line<C>(&mut self, quad: &QuadRef<'_>) -> Result<(), PutFault>
         requires live { D.has_failed self.old.drain.now ≡ false }
@@ -196,7 +197,7 @@ impl<'a, D: Drain, A: Allocator + Copy> LineOut<'a, D, A> {
         ensures left { OnErr result (LeavesBytes D.contents D.has_failed self.old (line_of self.old.form.lines quad.now) self.new) }
         ensures device { (D.has_failed self.new.drain.now ≡ true) ↔ (result ≡ Err PutFault.Device) }
     {
-        match self.buffer.put_line_for::<C>(quad, self.form.lines) {
+        match self.buffer.put_line_for::<(C, D)>(quad, self.form.lines) {
             Ok(()) => {}
             // No reader gives a quad that its style can't write. If one did, it would end the run.
             Err(LabelFault::NotLabelled) => return Err(PutFault::Memory),

@@ -1,9 +1,10 @@
 // Reading a source to its end, piece by piece.
 
-ghost use Rattle.std.specs.Prelude.{◌≡◌, ◌+◌, ◌<◌, ◌≤◌, ◌++◌, ℕ, List, [], Bool, true, false, length, OnOk, IfOk, IfErr};
+ghost use Rattle.std.specs.Prelude.{◌≡◌, ◌+◌, ◌<◌, ◌≤◌, ◌++◌, ℕ, List, [], Bool, true, false, length, Some, OnOk, IfOk, IfErr};
 ghost use Rattle.rdf_tokens.specs.Scans.{most_bytes};
 ghost use Rattle.rdf_driver.specs.declared.summary.Summary.{Summary};
 ghost use Rattle.rdf_stream.specs.declared.fault.StreamFault.{StreamFault};
+ghost use Rattle.rdf_stream.specs.Devices.{at_end};
 ghost use Rattle.rdf_stream.specs.Pieces.{HaltsOn, HasBegun, ReadsAll, ReadStops, ReadsEnd, StaysOn, TakenBefore, TakesMore};
 ghost use Rattle.rdf_stream.specs.Told.{told};
 
@@ -13,7 +14,7 @@ use rdf_driver::Summary;
 use std::alloc::{AllocError, Allocator};
 
 /// The number of bytes that are asked of a source at a time.
-pub(crate) const PIECE_LEN: usize = 65536;
+const PIECE_LEN: usize = 65536;
 
 /// Takes the bytes of a source, piece by piece, and hands on what comes of them.
 pub(crate) trait Run<L> {
@@ -80,19 +81,25 @@ pub(crate) fn read_pieces<S: Source, L, R: Run<L>>(
     }
 }
 
+/// Reads bytes that are all that there are.
+pub(crate) fn read_whole<L, R: Run<L>>(
+    bytes: &[u8],
+    run: &mut R,
+    out: &mut L,
+) -> Result<Summary, StreamFault>
+    requires begun { R.taken (run.old, out.old) [] (run.old, out.old) }
+    ensures read { IfOk result (λ summary. ReadsAll R.ends (Some bytes.now) (at_end true) summary (run.old, out.old) (run.new, out.new)) }
+    ensures stops { IfErr result (λ f. (ended : Bool) × ReadStops R.taken R.halts f (Some bytes.now) (at_end ended) (run.old, out.old) (run.new, out.new)) }
+{
+    match run.take(bytes, out) {
+        Ok(()) => run.end(out),
+        Err(fault) => Err(fault),
+    }
+}
+
 /// A buffer for pieces.
 pub(crate) fn piece_buffer<A: Allocator + Copy>(alloc: A) -> Result<Vec<u8, A>, AllocError>
     ensures { IfOk result (λ piece. 0 < length piece.items) }
 {
-    piece_buffer_for(alloc, PIECE_LEN)
-}
-
-/// A buffer for the pieces of a source that gives so many bytes.
-pub(crate) fn piece_buffer_for<A: Allocator + Copy>(
-    alloc: A,
-    len: usize,
-) -> Result<Vec<u8, A>, AllocError>
-    ensures { IfOk result (λ piece. 0 < length piece.items) }
-{
-    Vec::from_elem(alloc, 0u8, len.clamp(1, PIECE_LEN))
+    Vec::from_elem(alloc, 0u8, PIECE_LEN)
 }

@@ -4,12 +4,12 @@ ghost use Rattle.std.specs.Prelude.{◌≡◌, ◌+◌, ◌<◌, ◌≤◌, ◌+
 ghost use Rattle.rdf_tokens.specs.Scans.{most_bytes};
 ghost use Rattle.rdf_lines.specs.SplitLines.{split_lines};
 ghost use Rattle.rdf_lines.specs.declared.form.Style.{Style};
-ghost use Rattle.rdf_stream.specs.Sieves.{HasMarkBytes, HasNoMark, HasRoom, HasSifted, IsTried, PutBadFails, PutGoodFails, PutsBad, PutsGood, PutsNone, SiftFails, start_of};
+ghost use Rattle.rdf_stream.specs.Sieves.{HasMarkBytes, HasNoMark, HasRoom, HasSifted, IsEndedFront, IsTried, PutBadFails, PutGoodFails, PutsBad, PutsGood, PutsNone, SiftFails, start_of};
 ghost use Rattle.rdf_stream.specs.Skips.{comment_text, fault_from, place_after};
 ghost use Rattle.rdf_stream.specs.declared.fault.StreamFault.TheVariants.{Memory};
 
-use crate::conversions::convert_with;
-use crate::devices::{Drain, Failed, In};
+use crate::conversions::convert_whole;
+use crate::devices::{Drain, Failed};
 use crate::fault::StreamFault;
 use crate::memory::Kept;
 use crate::messages::put_refusal;
@@ -17,7 +17,6 @@ use crate::output::OutputView;
 use crate::put::put_all;
 use crate::skips::line_feeds;
 use memchr::memchr2;
-use rdf_driver::Kinds;
 use rdf_iri::Limits;
 use rdf_lines::{LineForm, line_reader};
 use rdf_terms::Reason;
@@ -66,8 +65,8 @@ pub(crate) struct LineStart {
 }
 
 impl LineStart {
-    // Where the line behind the bytes begins.
-    fn past(self, bytes: &[u8]) -> LineStart
+    /// Where the line behind the bytes begins.
+    pub(crate) fn past(self, bytes: &[u8]) -> LineStart
         requires room { HasRoom self bytes.now }
         ensures { start_of result ≡ place_after (start_of self) bytes.now }
     {
@@ -119,8 +118,8 @@ impl<'a, A: Allocator + Copy> Sieve<'a, A> {
         }
     }
 
-    /// Sifts the lines of a block that begins there. They are tried at once first, then in groups, and the lines of a
-    /// group in which one is bad one by one: so no line is tried more than three times.
+    /// Sifts the lines of a block that begins there, if there are some. They are tried at once first, then in groups, and
+    /// the lines of a group in which one is bad one by one: so no line is tried more than three times.
     pub(crate) fn sift<D: Drain, B: Drain>(
         &mut self,
         start: LineStart,
@@ -129,13 +128,15 @@ impl<'a, A: Allocator + Copy> Sieve<'a, A> {
         bad: &mut B,
     ) -> Result<(), StreamFault>
         requires styled { self.old.output.lines.style ≡ Style.Kept }
-        requires some { 0 < length block.now }
         requires room { HasRoom start block.now }
         requires live { D.has_failed drain.old ≡ false }
         requires bad_live { B.has_failed bad.old ≡ false }
         ensures sifted { IfOk result (λ _. HasSifted D.Drain B.Drain (start_of start) self.old drain.old bad.old (split_lines block.now) self.new drain.new bad.new) }
         ensures fails { IfErr result (λ f. SiftFails D.Drain B.Drain f (start_of start) self.old drain.old bad.old (split_lines block.now) self.new drain.new bad.new) }
     {
+        if block.is_empty() {
+            return Ok(());
+        }
         match self.put_good(block, drain) {
             Ok(None) => Ok(()),
             Ok(Some(_)) => self.sift_groups(start, block, drain, bad),
@@ -320,19 +321,9 @@ impl<'a, A: Allocator + Copy> Sieve<'a, A> {
                 line: 1,
             }));
         }
-        let mut source = In::new(bytes);
         let mut kept = Kept::new(self.alloc);
-        let mut expected = Kinds::none();
         let reader = line_reader(self.alloc, self.form, self.limits);
-        match convert_with(
-            self.alloc,
-            bytes.len(),
-            reader,
-            self.output,
-            &mut source,
-            &mut kept,
-            &mut expected,
-        ) {
+        match convert_whole(self.alloc, reader, self.output, bytes, &mut kept) {
             Ok(summary) => Ok(Tried::Good(Converted {
                 lines: kept.bytes,
                 quads: summary.quads,
@@ -385,11 +376,12 @@ fn group_len(bytes: &[u8]) -> usize
     }
 }
 
-// How many bytes the first line has, with its end.
-fn line_len(bytes: &[u8]) -> usize
+/// How many bytes the first line has, with its end.
+pub(crate) fn line_len(bytes: &[u8]) -> usize
     requires some { 0 < length bytes.now }
     ensures within { result ≤ length bytes.now }
     ensures progress { 0 < result }
+    ensures ended { IsEndedFront bytes.now → IsEndedFront (take result bytes.now) }
     ensures line { split_lines bytes.now ≡ take result bytes.now ∷ split_lines (drop result bytes.now) }
 {
     match memchr2(b'\n', b'\r', bytes) {

@@ -9,7 +9,7 @@ ghost use Rattle.rdf_lines.specs.SplitLines.{split_lines};
 ghost use Rattle.rdf_stream.specs.Sieves.{HasSifted, IsSkipping, SiftFails, SkipEnds, SkipHalts};
 ghost use Rattle.rdf_stream.specs.declared.fault.StreamFault.TheVariants.{Memory};
 ghost use Rattle.rdf_stream.specs.Sieves as sieves;
-ghost use Rattle.rdf_stream.specs.Skips.{HasLines, SkipStops, SkipsAll};
+ghost use Rattle.rdf_stream.specs.Skips.{HasLines, SkipStops, SkipsAll, place_after};
 ghost use Rattle.rdf_stream.specs.Told.{told};
 
 use crate::devices::{Drain, Failed, Source};
@@ -17,7 +17,7 @@ use crate::fault::StreamFault;
 use crate::form::Kind;
 use crate::job::Job;
 use crate::pieces::piece_buffer;
-use crate::sieve::{LineStart, Sieve};
+use crate::sieve::{LineStart, Sieve, line_len};
 use memchr::{memchr, memrchr2};
 use rdf_lines::Style;
 use rdf_terms::Reason;
@@ -175,7 +175,8 @@ impl<'a, A: Allocator + Copy> Held<'a, A> {
         }
     }
 
-    // Sifts the lines that the front of a piece ends, of which the first begins there.
+    // Sifts the lines that the front of a piece ends, of which the first begins there: that of which a part is held by
+    // itself, and the others where they stand.
     fn sift_front<D: Drain, B: Drain>(
         &mut self,
         start: LineStart,
@@ -191,19 +192,52 @@ impl<'a, A: Allocator + Copy> Held<'a, A> {
         ensures sifts { IfOk result (λ _. sieves.SiftsFront D.Drain B.Drain (sieves.start_of start) self.old drain.old bad.old front.now self.new drain.new bad.new) }
         ensures fails { IfErr result (λ f. sieves.SiftFrontFails D.Drain B.Drain f (sieves.start_of start) self.old drain.old bad.old front.now self.new drain.new bad.new) }
     {
+        if self.part.as_slice().is_empty() {
+            return self.sieve.sift(start, front, drain, bad);
+        }
         if front.is_empty() {
             return Ok(());
         }
-        match self.part.extend_from_slice(front) {
+        let len = line_len(front);
+        let next = match self.end_line(start, &front[..len], drain, bad) {
+            Ok(next) => next,
+            Err(fault) => return Err(fault),
+        };
+        match self.sieve.sift(next, &front[len..], drain, bad) {
+            Ok(()) => Ok(()),
+            Err(fault) => Err(fault),
+        }
+    }
+
+    // Sifts the line of which a part is held and this is the rest, and answers where the next one begins.
+    fn end_line<D: Drain, B: Drain>(
+        &mut self,
+        start: LineStart,
+        rest: &[u8],
+        drain: &mut D,
+        bad: &mut B,
+    ) -> Result<LineStart, StreamFault>
+        requires styled { self.old.sieve.output.lines.style ≡ Style.Kept }
+        requires room { sieves.HasRoom start (self.old.part.items ++ rest.now) }
+        requires live { D.has_failed drain.old ≡ false }
+        requires bad_live { B.has_failed bad.old ≡ false }
+        ensures sifted { IfOk result (λ _. HasSifted D.Drain B.Drain (sieves.start_of start) self.old.sieve drain.old bad.old (split_lines (self.old.part.items ++ rest.now)) self.new.sieve drain.new bad.new) }
+        ensures none { IfOk result (λ _. sieves.HoldsNone self.old self.new) }
+        ensures next { IfOk result (λ next. sieves.start_of next ≡ place_after (sieves.start_of start) (self.old.part.items ++ rest.now)) }
+        ensures fails { IfErr result (λ f. SiftFails D.Drain B.Drain f (sieves.start_of start) self.old.sieve drain.old bad.old (split_lines (self.old.part.items ++ rest.now)) self.new.sieve drain.new bad.new) }
+    {
+        match self.part.extend_from_slice(rest) {
             Ok(()) => {}
             Err(_) => return Err(StreamFault::Memory),
         }
-        match self.sieve.sift(start, self.part.as_slice(), drain, bad) {
+        let line = self.part.as_slice();
+        match self.sieve.sift(start, line, drain, bad) {
             Ok(()) => {}
             Err(fault) => return Err(fault),
         }
+        let next = start.past(line);
         self.part.clear();
-        Ok(())
+        Ok(next)
     }
 
     // Holds the part of a line.
@@ -286,11 +320,7 @@ impl<'a, A: Allocator + Copy> Held<'a, A> {
         ensures same { IfOk result (λ _. self.new.bytes ≡ self.old.bytes) }
         ensures fails { IfErr result (λ f. SiftFails D.Drain B.Drain f (sieves.start_of start) self.old.sieve drain.old bad.old (split_lines self.old.part.items) self.new.sieve drain.new bad.new) }
     {
-        let rest = self.part.as_slice();
-        if rest.is_empty() {
-            return Ok(());
-        }
-        self.sieve.sift(start, rest, drain, bad)
+        self.sieve.sift(start, self.part.as_slice(), drain, bad)
     }
 }
 

@@ -1,13 +1,13 @@
-use Rattle.std.proofs.Common.{Some, true, ap, inl, refl, subst, arith}
+use Rattle.std.proofs.Common.{Some, ap, inl, refl, subst, arith}
 use Rattle.rdf_lines.specs.Accepting.{line_words}
 use Rattle.rdf_lines.specs.declared.rules.Rules.{Rules}
 use Rattle.rdf_lines.specs.Documents.{in_lines}
 use Rattle.rdf_tokens.specs.Scans.{place_of}
-use Rattle.rdf_stream.specs.Converts.{Accepts, RefusesDocument}
+use Rattle.rdf_stream.specs.Converts.{Accepts}
 use Rattle.rdf_stream.specs.Languages.{conversion}
 use Rattle.rdf_stream.specs.Outputs.{output_of}
 use Rattle.rdf_stream.proofs.DocumentLemmas.{lines_convertible}
-use Rattle.rdf_stream.proofs.SieveLemmas.{converted_good, known, mark_bad, mark_had, refusal, refused_bad, refused_for, refused_place}
+use Rattle.rdf_stream.proofs.SieveLemmas.{converted_good, mark_bad, mark_had, refusal, refused_bad, refused_for, refused_place}
 use Rattle.rdf_stream.proofs.sieve.Sieve.convert.Goals as goal
 
 pub returns-then-is_marked-clause-tried : goal.returns-then-is_marked-clause-tried
@@ -19,19 +19,18 @@ returns-then-is_marked-clause-tried g c =
       place = record { within = omega arith; line = refl };
     }
 
-pub convert_with-requires-clause-starts : goal.convert_with-requires-clause-starts
-convert_with-requires-clause-starts g c = (_, record { convertible = lines_convertible _ _ c.requires.styled; read = c.line_reader-reader.ensures.read })
+pub convert_whole-requires-clause-starts : goal.convert_whole-requires-clause-starts
+convert_whole-requires-clause-starts g c = (_, record { convertible = lines_convertible _ _ c.requires.styled; read = c.line_reader-reader.ensures.read })
 
 pub returns-in-Ok-clause-tried : goal.returns-in-Ok-clause-tried
 returns-in-Ok-clause-tried g c =
     let s = c.args.self.now in
     let x : Rules = record { form = s.form; iri = s.limits.iri } in
     let o = output_of s.output in
-    let given = known (λ bytes. Accepts (conversion line_words x c.line_reader-reader.result.scanner.limit o) bytes (Some c.new-kept.result.bytes.items) (Some c.convert_with.new.drain.bytes.items) c.in-Ok.summary) c.new-source.result.remaining c.args.bytes.now
-    (ap (λ r. r.remaining) c.new-source.ensures) (c.in-Ok.ensures.accepted x (record { convertible = lines_convertible _ _ c.requires.styled; read = c.line_reader-reader.ensures.read })) in
-    let r = converted_good s.form s.limits.token s.limits.iri o.form o.graph s.is_first c.args.bytes.now c.new-kept.result.bytes.items c.convert_with.new.drain.bytes.items c.in-Ok.summary c.new-kept.ensures.none
+    let given = c.in-Ok.ensures.accepted x (record { convertible = lines_convertible _ _ c.requires.styled; read = c.line_reader-reader.ensures.read }) in
+    let r = converted_good s.form s.limits.token s.limits.iri o.form o.graph s.is_first c.args.bytes.now c.new-kept.result.bytes.items c.convert_whole.new.drain.bytes.items c.in-Ok.summary c.new-kept.ensures.none
     (c.is_marked.ensures.unmarked c.if-is_marked.false)
-    (subst (λ n. Accepts (conversion line_words x n o) c.args.bytes.now (Some c.new-kept.result.bytes.items) (Some c.convert_with.new.drain.bytes.items) c.in-Ok.summary) c.line_reader-reader.ensures.token given) in
+    (subst (λ n. Accepts (conversion line_words x n o) c.args.bytes.now (Some c.new-kept.result.bytes.items) (Some c.convert_whole.new.drain.bytes.items) c.in-Ok.summary) c.line_reader-reader.ensures.token given) in
     record { quads = r.0; is_good = r.1; lines = r.2; count = r.3 }
 
 pub returns-in-Err-Refused-clause-tried : goal.returns-in-Err-Refused-clause-tried
@@ -43,8 +42,7 @@ returns-in-Err-Refused-clause-tried g c =
     let job = conversion line_words x n (output_of s.output) in
     let stops = c.in-Err-Refused.ensures.stops x (record { convertible = lines_convertible _ _ c.requires.styled; read = c.line_reader-reader.ensures.read }) in
     let same = ap (λ k. in_lines s.form k s.limits.iri) c.line_reader-reader.ensures.token in
-    let refused = known (λ bytes. RefusesDocument f.reason job bytes true (place_of f) (Some c.new-kept.result.bytes.items) (Some c.convert_with.new.drain.bytes.items)) c.new-source.result.remaining c.args.bytes.now
-    (ap (λ r. r.remaining) c.new-source.ensures) (refusal c.in-Err-Refused.field-0 f c.in-Err-Refused.field-0-is job _ _ _ _ _ stops) in
+    let refused = refusal c.in-Err-Refused.field-0 f c.in-Err-Refused.field-0-is job (Some c.args.bytes.now) _ _ _ _ stops.1 in
     let why = refused_for job s.form s.limits.token s.limits.iri same s.is_first c.args.bytes.now f _ _ (c.is_marked.ensures.unmarked c.if-is_marked.false) refused in
     record {
       is_bad = refused_bad job s.form s.limits.token s.limits.iri same s.is_first c.args.bytes.now f.reason (place_of f) _ _ refused;
