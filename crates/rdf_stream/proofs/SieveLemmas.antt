@@ -1,8 +1,8 @@
 -- Lines that are sifted, one after another.
-use Rattle.std.proofs.Common.{◌≡◌, ℕ, zero, suc, ◌+◌, ◌<◌, ◌≤◌, ◌==◌, cond, Bool, true, false, List, [], ◌∷◌, ◌++◌, inl, inr, Option, Some, IfSome, refl, sym, ap, ◌∙◌, subst, append_assoc, length, take, drop, arith, length-append, length-drop, length-take}
+use Rattle.std.proofs.Common.{◌≡◌, ℕ, ◌+◌, ◌<◌, ◌≤◌, ◌==◌, cond, Bool, true, false, List, [], ◌∷◌, ◌++◌, inl, inr, Option, Some, IfSome, refl, sym, ap, ◌∙◌, subst, append_assoc, length, take, drop, arith, length-append, length-drop, length-take}
 use Rattle.std.specs.Io.KnownBytes.{Appends}
 use Rattle.std.specs.List.{All, concat}
-use Rattle.std.specs.Prelude.{encode_utf8_all, map, slice_index, count_by}
+use Rattle.std.specs.Prelude.{encode_utf8_all, map, count_by}
 use Rattle.std.specs.Str.{IsUtf8, chars}
 use Rattle.std.specs.Str.Lossy.{utf8_valid_len}
 use Rattle.std.proofs.Math.Utf8.{encode, encodes}
@@ -499,24 +499,6 @@ feed_one b = one (cond (b == 10) 1 0)
 -- those of a byte and of the others
 pub feeds_cons : (b : ℕ) (w : List ℕ) → feeds (b ∷ w) ≡ cond (b == 10) 1 0 + feeds w
 feeds_cons b w = feeds-append (b ∷ []) w ∙ ap (λ n. n + feeds w) (feed_one b)
-
--- up to the first there is none
-pub first_feed : (w : List ℕ) (at : ℕ) → ((k : ℕ) → k < at → (slice_index w k == 10) ≡ false) → (slice_index w at == 10) ≡ true → at < length w → feeds w ≡ 1 + feeds (drop (suc at) w)
-first_feed [] at f e l = absurd (omega arith)
-first_feed (b ∷ w) zero f e l = feeds_cons b w ∙ ap (λ t. cond t 1 0 + feeds w) e
-first_feed (b ∷ w) (suc n) f e l =
-    let k = first_feed w n (λ k h. f (suc k) (omega arith)) e (omega arith) in
-    let h : feeds (b ∷ w) ≡ 0 + feeds w = feeds_cons b w ∙ ap (λ t. cond t 1 0 + feeds w) (f 0 (omega arith)) in
-    h ∙ (ap (λ n. 0 + n) k ∙ none (1 + feeds (drop (suc n) w)))
-  where
-    none : (n : ℕ) → 0 + n ≡ n
-    none n = omega arith
-
--- without one there are none
-pub no_feed : (w : List ℕ) → ((k : ℕ) → k < length w → (slice_index w k == 10) ≡ false) → feeds w ≡ 0
-no_feed [] f = refl
-no_feed (b ∷ w) f =
-    feeds_cons b w ∙ (ap (λ t. cond t 1 0 + feeds w) (f 0 (omega arith)) ∙ ap (λ n. 0 + n) (no_feed w (λ k h. f (suc k) (omega arith))))
 
 -- there are no more than bytes
 pub few_feeds : (w : List ℕ) → feeds w ≤ length w

@@ -1,6 +1,6 @@
 // Memory as a drain.
 
-ghost use Rattle.std.specs.Prelude.{◌≡◌, Some, [], false};
+ghost use Rattle.std.specs.Prelude.{◌≡◌, Some, [], false, IfOk};
 
 use crate::devices::{Drain, Failed};
 use std::alloc::{AllocError, Allocator, Global};
@@ -14,16 +14,16 @@ pub(crate) struct Kept<A: Allocator = Global> {
 }
 
 impl<A: Allocator> Kept<A> {
-    /// Nothing is kept.
-    pub(crate) fn new(alloc: A) -> Kept<A>
-        ensures none { result.bytes.items ≡ [] }
-        ensures live { result.failed ≡ false }
+    /// Nothing is kept, and there is room for so many bytes.
+    pub(crate) fn with_capacity(alloc: A, capacity: usize) -> Result<Kept<A>, AllocError>
+        ensures none { IfOk result (λ kept. kept.bytes.items ≡ []) }
+        ensures live { IfOk result (λ kept. kept.failed ≡ false) }
     {
-        Kept {
-            bytes: Vec::new(alloc),
+        Ok(Kept {
+            bytes: Vec::with_capacity(alloc, capacity)?,
             failed: false,
             flushed: false,
-        }
+        })
     }
 }
 

@@ -15,12 +15,11 @@ use crate::memory::Kept;
 use crate::messages::put_refusal;
 use crate::output::OutputView;
 use crate::put::put_all;
-use crate::skips::line_feeds;
 use memchr::memchr2;
 use rdf_iri::Limits;
 use rdf_lines::{LineForm, line_reader};
 use rdf_terms::Reason;
-use rdf_tokens::Fault;
+use rdf_tokens::{Fault, line_feeds};
 use std::alloc::{AllocError, Allocator, Global};
 
 /// A group of lines goes up to the first line end after so many bytes.
@@ -72,7 +71,7 @@ impl LineStart {
     {
         LineStart {
             offset: self.offset + bytes.len() as u64,
-            line: self.line + line_feeds(bytes),
+            line: self.line + line_feeds(bytes) as u64,
         }
     }
 
@@ -321,7 +320,10 @@ impl<'a, A: Allocator + Copy> Sieve<'a, A> {
                 line: 1,
             }));
         }
-        let mut kept = Kept::new(self.alloc);
+        let mut kept = match Kept::with_capacity(self.alloc, bytes.len()) {
+            Ok(kept) => kept,
+            Err(AllocError) => return Err(StreamFault::Memory),
+        };
         let reader = line_reader(self.alloc, self.form, self.limits);
         match convert_whole(self.alloc, reader, self.output, bytes, &mut kept) {
             Ok(summary) => Ok(Tried::Good(Converted {

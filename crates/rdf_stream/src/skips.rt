@@ -18,10 +18,10 @@ use crate::form::Kind;
 use crate::job::Job;
 use crate::pieces::piece_buffer;
 use crate::sieve::{LineStart, Sieve, line_len};
-use memchr::{memchr, memrchr2};
+use memchr::memrchr2;
 use rdf_lines::Style;
 use rdf_terms::Reason;
-use rdf_tokens::Fault;
+use rdf_tokens::{Fault, line_feeds};
 use std::alloc::{Allocator, Global};
 
 /// The number of bytes that a document has at most.
@@ -261,7 +261,7 @@ impl<'a, A: Allocator + Copy> Held<'a, A> {
     {
         let room = MOST_BYTES - self.bytes;
         if piece.len() as u64 > room {
-            let line = self.line + line_feeds(&piece[..room as usize]);
+            let line = self.line + line_feeds(&piece[..room as usize]) as u64;
             return Err(StreamFault::Refused(Fault {
                 reason: Reason::DocumentTooLong,
                 offset: MOST_BYTES,
@@ -269,7 +269,7 @@ impl<'a, A: Allocator + Copy> Held<'a, A> {
             }));
         }
         self.bytes += piece.len() as u64;
-        self.line += line_feeds(piece);
+        self.line += line_feeds(piece) as u64;
         Ok(())
     }
 
@@ -333,18 +333,4 @@ fn lines_len(piece: &[u8]) -> usize
         Some(at) => at + 1,
         None => 0,
     }
-}
-
-// How many of the bytes are LF.
-pub(crate) fn line_feeds(bytes: &[u8]) -> u64
-    requires few { length bytes.now ≤ most_bytes }
-    ensures { result ≡ count_by (λ b. b == 10) bytes.now }
-{
-    let mut count = 0;
-    let mut rest = bytes;
-    while let Some(at) = memchr(b'\n', rest) {
-        count += 1;
-        rest = &rest[at..][1..];
-    }
-    count
 }

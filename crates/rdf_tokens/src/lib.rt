@@ -19,6 +19,7 @@ mod states;
 mod strings;
 mod token;
 
+pub use good::line_feeds;
 pub use peek::Peeked;
 pub use plain::{RunClass, plain_run};
 pub use rdf_terms::{Dialect, Kind};

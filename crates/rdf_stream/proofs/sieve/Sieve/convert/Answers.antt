@@ -22,15 +22,15 @@ returns-then-is_marked-clause-tried g c =
 pub convert_whole-requires-clause-starts : goal.convert_whole-requires-clause-starts
 convert_whole-requires-clause-starts g c = (_, record { convertible = lines_convertible _ _ c.requires.styled; read = c.line_reader-reader.ensures.read })
 
-pub returns-in-Ok-clause-tried : goal.returns-in-Ok-clause-tried
-returns-in-Ok-clause-tried g c =
+pub returns-in-Ok-convert_whole-clause-tried : goal.returns-in-Ok-convert_whole-clause-tried
+returns-in-Ok-convert_whole-clause-tried g c =
     let s = c.args.self.now in
     let x : Rules = record { form = s.form; iri = s.limits.iri } in
     let o = output_of s.output in
-    let given = c.in-Ok.ensures.accepted x (record { convertible = lines_convertible _ _ c.requires.styled; read = c.line_reader-reader.ensures.read }) in
-    let r = converted_good s.form s.limits.token s.limits.iri o.form o.graph s.is_first c.args.bytes.now c.new-kept.result.bytes.items c.convert_whole.new.drain.bytes.items c.in-Ok.summary c.new-kept.ensures.none
+    let given = c.in-Ok-convert_whole.ensures.accepted x (record { convertible = lines_convertible _ _ c.requires.styled; read = c.line_reader-reader.ensures.read }) in
+    let r = converted_good s.form s.limits.token s.limits.iri o.form o.graph s.is_first c.args.bytes.now c.in-Ok.kept.bytes.items c.convert_whole.new.drain.bytes.items c.in-Ok-convert_whole.summary c.in-Ok.ensures.none
     (c.is_marked.ensures.unmarked c.if-is_marked.false)
-    (subst (λ n. Accepts (conversion line_words x n o) c.args.bytes.now (Some c.new-kept.result.bytes.items) (Some c.convert_whole.new.drain.bytes.items) c.in-Ok.summary) c.line_reader-reader.ensures.token given) in
+    (subst (λ n. Accepts (conversion line_words x n o) c.args.bytes.now (Some c.in-Ok.kept.bytes.items) (Some c.convert_whole.new.drain.bytes.items) c.in-Ok-convert_whole.summary) c.line_reader-reader.ensures.token given) in
     record { quads = r.0; is_good = r.1; lines = r.2; count = r.3 }
 
 pub returns-in-Err-Refused-clause-tried : goal.returns-in-Err-Refused-clause-tried
