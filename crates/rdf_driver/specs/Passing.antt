@@ -19,6 +19,7 @@ passed r bytes quads tokens = record {
   grammar = r.grammar;
   so_far = record { quads = r.so_far.quads + quads; tokens = r.so_far.tokens + tokens; bytes = r.so_far.bytes + length bytes };
   done = r.done;
+  found = r.found;
 }
 
 -- The bytes spell so many tokens, which give these quads and lead the grammar back to where it is.

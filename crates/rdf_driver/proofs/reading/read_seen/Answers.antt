@@ -1,7 +1,6 @@
 -- The loop over the tokens that can be seen: each was accepted.
-use Rattle.std.proofs.Common.{sym, subst}
 use Rattle.rdf_driver.specs.Reading.{moment, moment_of}
-use Rattle.rdf_driver.proofs.ReadingLemmas.{Runs, fails_next, runs_blank, runs_both, runs_none, runs_token}
+use Rattle.rdf_driver.proofs.ReadingLemmas.{runs_blank, runs_both, runs_none, runs_token}
 use Rattle.rdf_driver.proofs.reading.read_seen.Goals as goal
 
 pub seen-init : goal.seen-init
