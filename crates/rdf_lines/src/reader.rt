@@ -1,11 +1,11 @@
 // The reader of the line formats.
 
-ghost use Rattle.std.specs.Prelude.{◌≡◌, ◌≤◌, ◌+◌, [], false, true, not, is_ok, OnOk, IfOk, IfErr};
+ghost use Rattle.std.specs.Prelude.{◌≡◌, ◌≤◌, ◌+◌, [], None, false, true, not, is_ok, OnOk, IfOk, IfErr};
 ghost use Rattle.rdf_tokens.specs.Scans.{most_bytes, unread_bytes, place_of};
 ghost use Rattle.rdf_terms.specs.declared.kind.Kind.{Kind};
 ghost use Rattle.rdf_driver.specs.Kinds.{has};
 ghost use Rattle.rdf_driver.specs.Words.{KnowsNext};
-ghost use Rattle.rdf_driver.specs.Readers.{HasRead, SameLimits, Feeds, FeedFails, Finishes, FinishFails, TakesExactly, FinishesExactly, IsPlacedWith, IsPlacedInRead};
+ghost use Rattle.rdf_driver.specs.Readers.{HasRead, SameLimits, Feeds, FeedFails, Finishes, FinishFails, TakesExactly, FinishesExactly, FindsNoOther, IsPlacedWith, IsPlacedInRead};
 ghost use Rattle.rdf_driver.specs.Readers as R;
 ghost use Rattle.rdf_lines.specs.Documents.{most_held};
 ghost use Rattle.rdf_lines.specs.Lines.{trees};
@@ -48,6 +48,7 @@ pub fn line_reader<A: Allocator + Copy>(
     ensures token { result.scanner.limit ≡ limits.token }
     ensures iri { result.grammar.rules.iri ≡ limits.iri }
     ensures most { R.most_held line_words result ≡ most_held limits }
+    ensures found { result.found ≡ None }
 {
     Reader::new(alloc, LineGrammar::new(alloc, form, limits), limits.token())
 }
@@ -60,6 +61,7 @@ impl<A: Allocator + Copy> LineReader<A> {
         ensures token { result.scanner.limit ≡ limits.token }
         ensures iri { result.grammar.rules.iri ≡ limits.iri }
         ensures most { R.most_held line_words result ≡ most_held limits }
+        ensures found { result.found ≡ None }
     {
         LineReader {
             reader: line_reader(alloc, form, limits),
@@ -76,6 +78,7 @@ impl<A: Allocator + Copy> LineReader<A> {
             self.old sink.old piece.now self.new sink.new) }
         ensures exact { TakesExactly line_words self.old piece.now result }
         ensures place { IfErr result (IsPlacedWith line_words self.old piece.now) }
+        ensures found { FindsNoOther result self.new.found }
         ensures done { self.new.done ≡ not (is_ok result) }
         ensures limits { SameLimits line_words self.old self.new }
     {
@@ -89,6 +92,7 @@ impl<A: Allocator + Copy> LineReader<A> {
         ensures err { IfErr result (λ f. FinishFails line_words S.takes S.leaves S.has_failed f.reason (place_of f) self.old sink.old self.new sink.new) }
         ensures exact { FinishesExactly line_words self.old result }
         ensures place { IfErr result (IsPlacedInRead line_words self.old) }
+        ensures found { FindsNoOther result self.new.found }
         ensures done { self.new.done ≡ true }
         ensures limits { SameLimits line_words self.old self.new }
     {
@@ -109,6 +113,14 @@ impl<A: Allocator + Copy> LineReader<A> {
         ensures exact { (k : Kind) → KnowsNext line_words (λ x. trees x.form) self.now.grammar k (has result k) }
     {
         self.reader.expected()
+    }
+
+    /// The kind of the token that stands at the fault's place, after `Reason::Unexpected` (`finds` of `Refuses`). None
+    /// before an error, and after another one; after `Reason::Ended` it is what it was. It takes no memory.
+    pub fn found(&self) -> Option<Kind>
+        ensures { result ≡ self.now.found }
+    {
+        self.reader.found()
     }
 
     /// The bytes of the texts that are held: of the next token, as far as it has come, and of the line that is being read. After each

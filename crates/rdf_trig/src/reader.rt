@@ -1,12 +1,12 @@
 // The reader of Turtle and TriG.
 
-ghost use Rattle.std.specs.Prelude.{◌≡◌, ◌+◌, ◌≤◌, [], true, false, not, is_ok, OnOk, IfOk, IfErr, SomeIff};
+ghost use Rattle.std.specs.Prelude.{◌≡◌, ◌+◌, ◌≤◌, [], None, true, false, not, is_ok, OnOk, IfOk, IfErr, SomeIff};
 ghost use Rattle.rdf_tokens.specs.Scans.{most_bytes, place_of, unread_bytes};
 ghost use Rattle.rdf_terms.specs.declared.kind.Kind.{Kind};
 ghost use Rattle.rdf_driver.specs.Kinds.{has};
 ghost use Rattle.rdf_driver.specs.Words.{KnowsNext};
 ghost use Rattle.rdf_driver.specs.Readers as R;
-ghost use Rattle.rdf_driver.specs.Readers.{HasRead, SameLimits, Feeds, FeedFails, Finishes, FinishFails, TakesExactly, FinishesExactly, IsPlacedWith, IsPlacedInRead};
+ghost use Rattle.rdf_driver.specs.Readers.{HasRead, SameLimits, Feeds, FeedFails, Finishes, FinishFails, TakesExactly, FinishesExactly, FindsNoOther, IsPlacedWith, IsPlacedInRead};
 ghost use Rattle.rdf_iri.specs.Scope.{BaseFits};
 ghost use Rattle.rdf_trig.specs.Documents.{trees};
 ghost use Rattle.rdf_trig.specs.Language.{chosen_alone};
@@ -150,6 +150,7 @@ pub fn tree_reader<A: Allocator + Copy>(alloc: A, options: Options<A>) -> Reader
     ensures form { result.grammar.form ≡ options.form }
     ensures token { result.scanner.limit ≡ options.start.limits.token }
     ensures most { R.most_held tree_words result ≡ most_held options.start.limits }
+    ensures found { result.found ≡ None }
 {
     let limit = options.limits.token();
     Reader::new(alloc, TreeGrammar::new(alloc, options), limit)
@@ -162,6 +163,7 @@ impl<A: Allocator + Copy> TrigReader<A> {
         ensures form { result.grammar.form ≡ options.form }
         ensures token { result.scanner.limit ≡ options.start.limits.token }
         ensures most { R.most_held tree_words result ≡ most_held options.start.limits }
+        ensures found { result.found ≡ None }
     {
         TrigReader {
             reader: tree_reader(alloc, options),
@@ -178,6 +180,7 @@ impl<A: Allocator + Copy> TrigReader<A> {
             (place_of f) self.old sink.old piece.now self.new sink.new) }
         ensures exact { TakesExactly tree_words self.old piece.now result }
         ensures place { IfErr result (IsPlacedWith tree_words self.old piece.now) }
+        ensures found { FindsNoOther result self.new.found }
         ensures done { self.new.done ≡ not (is_ok result) }
         ensures limits { SameLimits tree_words self.old self.new }
     {
@@ -191,6 +194,7 @@ impl<A: Allocator + Copy> TrigReader<A> {
         ensures err { IfErr result (λ f. FinishFails tree_words S.takes S.leaves S.has_failed f.reason (place_of f) self.old sink.old self.new sink.new) }
         ensures exact { FinishesExactly tree_words self.old result }
         ensures place { IfErr result (IsPlacedInRead tree_words self.old) }
+        ensures found { FindsNoOther result self.new.found }
         ensures done { self.new.done ≡ true }
         ensures limits { SameLimits tree_words self.old self.new }
     {
@@ -211,6 +215,14 @@ impl<A: Allocator + Copy> TrigReader<A> {
         ensures exact { (k : Kind) → KnowsNext tree_words (λ x. trees x.form x.start) self.now.grammar k (has result k) }
     {
         self.reader.expected()
+    }
+
+    /// The kind of the token that stands at the fault's place, after `Reason::Unexpected` (`finds` of `Refuses`). None
+    /// before an error, and after another one; after `Reason::Ended` it is what it was. It takes no memory.
+    pub fn found(&self) -> Option<Kind>
+        ensures { result ≡ self.now.found }
+    {
+        self.reader.found()
     }
 
     /// How many bytes of text are held: those of which no token was given, and all texts of the grammar, those of the open frames and of the
