@@ -7,6 +7,7 @@ use Rattle.std.specs.Str.{chars}
 use Rattle.std.proofs.lemmas.Str.{chars-nil}
 use Rattle.std.specs.Io.KnownBytes.{Appends}
 use Rattle.std.specs.List.{AllByRecursion}
+use Rattle.rdf_terms.specs.declared.kind.Kind.{Kind}
 use Rattle.rdf_terms.specs.declared.reason.Reason.{Reason}
 use Rattle.rdf_terms.specs.declared.reason.Reason.TheVariants as reason
 use Rattle.rdf_terms.specs.Terms.{Quad, Subject, IsGraph, IsIri, IsQuad}
@@ -276,8 +277,8 @@ module _ {G X D A : Type 0} (contents : D → Option (List ℕ)) (failed : D →
     pub refused : (ahead : List Token) × RefusedIn l reading why at ahead × Due (w.documents x) ahead (o.quads ++ more)
     pub left : LeftOff reading.tokens mid
 
-  refuses : (why : Reason) (at : Place) (readings : List ℕ → Reading) (g : G) (mid : LineOut D A) → R.Refuses w (Takes contents failed) reader lines readings why at g mid → RefusedAt why at (readings bytes) mid
-  refuses why at readings g mid r =
+  refuses : (why : Reason) (at : Place) (readings : List ℕ → Reading) (g : G) (found : Option Kind) (mid : LineOut D A) → R.Refuses w (Takes contents failed) reader lines readings why at g found mid → RefusedAt why at (readings bytes) mid
+  refuses why at readings g found mid r =
       let d = r.refused x bytes o.quads o.read in
       record {
         more = r.more;
@@ -353,7 +354,7 @@ module _ {G X D A : Type 0} (contents : D → Option (List ℕ)) (failed : D →
     left_piece reason.Memory h = leaves_off (piece_reading w reader.scanner.limit piece) mid h.0
     left_piece reason.Sink h = leaves_off (piece_reading w reader.scanner.limit piece) mid h.0
     left_piece reason.DocumentTooLong h = overruns h
-    left_piece why h = (refuses why (record { offset = n; line = k }) (piece_reading w reader.scanner.limit piece) reader'.grammar mid h).left
+    left_piece why h = (refuses why (record { offset = n; line = k }) (piece_reading w reader.scanner.limit piece) reader'.grammar reader'.found mid h).left
 
     fault_piece : (after : LineOut D A) (why : Reason) → FailsPiece why → ReportsFault contents failed mid after →
         HaltsFor (fault_by why (record { reason = why; offset = n; line = k })) job (bytes ++ piece) false (contents first.drain.now) (contents after.drain.now) (failed after.drain.now)
@@ -362,7 +363,7 @@ module _ {G X D A : Type 0} (contents : D → Option (List ℕ)) (failed : D →
     fault_piece after reason.Sink h t = absurd (false≢true (sym t.live ∙ h.1))
     fault_piece after reason.DocumentTooLong h t = (t.live_now, tells_full after h t)
     fault_piece after why h t =
-        (t.live_now, tells_due why (record { offset = n; line = k }) read_so_far mid after (refuses why (record { offset = n; line = k }) (piece_reading w reader.scanner.limit piece) reader'.grammar mid h) t)
+        (t.live_now, tells_due why (record { offset = n; line = k }) read_so_far mid after (refuses why (record { offset = n; line = k }) (piece_reading w reader.scanner.limit piece) reader'.grammar reader'.found mid h) t)
 
     -- an error in a piece
     pub piece_halts : (why : Reason) (after : LineOut D A) (reported : StreamFault) → FailsPiece why → SameOut mid after → Reports contents failed (record { reason = why; offset = n; line = k }) reported mid after →
@@ -384,7 +385,7 @@ module _ {G X D A : Type 0} (contents : D → Option (List ℕ)) (failed : D →
     left_end reason.Ended h = absurd (false≢true (sym o.read.running ∙ h.0))
     left_end reason.Memory h = leaves_off end_reading mid h.0
     left_end reason.Sink h = leaves_off end_reading mid h.0
-    left_end why h = (refuses why (record { offset = n; line = k }) end_reading reader'.grammar mid h).left
+    left_end why h = (refuses why (record { offset = n; line = k }) end_reading reader'.grammar reader'.found mid h).left
 
     fault_end : (after : LineOut D A) (why : Reason) → FailsEnd why → ReportsFault contents failed mid after →
         HaltsFor (fault_by why (record { reason = why; offset = n; line = k })) job bytes true (contents first.drain.now) (contents after.drain.now) (failed after.drain.now)
@@ -392,7 +393,7 @@ module _ {G X D A : Type 0} (contents : D → Option (List ℕ)) (failed : D →
     fault_end after reason.Memory h t = (t.live_now, tells_some read_all.tokens mid after (left_end reason.Memory h) t)
     fault_end after reason.Sink h t = absurd (false≢true (sym t.live ∙ h.1))
     fault_end after reason.DocumentTooLong h t = absurd (h.refused x bytes o.quads o.read).1
-    fault_end after why h t = (t.live_now, tells_due why (record { offset = n; line = k }) read_all mid after (refuses why (record { offset = n; line = k }) end_reading reader'.grammar mid h) t)
+    fault_end after why h t = (t.live_now, tells_due why (record { offset = n; line = k }) read_all mid after (refuses why (record { offset = n; line = k }) end_reading reader'.grammar reader'.found mid h) t)
 
     -- an error at the end
     pub end_halts : (why : Reason) (after : LineOut D A) (reported : StreamFault) → FailsEnd why → SameOut mid after → Reports contents failed (record { reason = why; offset = n; line = k }) reported mid after →

@@ -4,6 +4,7 @@ use Rattle.std.proofs.lemmas.List.{append-nil, take-append-le, take-append-drop}
 use Rattle.std.proofs.lemmas.Bool.{false≢true}
 use Rattle.std.proofs.KnownBytes.{Appends-nil, Consumes-whole}
 use Rattle.std.specs.Io.KnownBytes.{Appends}
+use Rattle.rdf_terms.specs.declared.kind.Kind.{Kind}
 use Rattle.rdf_terms.specs.declared.kind.Dialect.{Dialect}
 use Rattle.rdf_terms.specs.declared.reason.Reason.{Reason}
 use Rattle.rdf_terms.specs.declared.reason.Reason.TheVariants as reason
@@ -231,9 +232,9 @@ module _ {D A : Type 0} (contents : D → Option (List ℕ)) (failed : D → Boo
     pub all : before ++ more ≡ without_end ahead
     pub left : LeftOff (tokens_in job b e) mid
 
-  refuses : (why : Reason) (at : Place) (b : List ℕ) (e : Bool) (readings : List ℕ → Reading) (g : ℕ) (mid : LineOut D A) → readings bytes ≡ tokens_of d reader.scanner.limit b e →
-      R.Refuses w (TakesToken contents failed) reader lines readings why at g mid → RefusedAt why at b e mid
-  refuses why at b e readings g mid same h =
+  refuses : (why : Reason) (at : Place) (b : List ℕ) (e : Bool) (readings : List ℕ → Reading) (g : ℕ) (found : Option Kind) (mid : LineOut D A) → readings bytes ≡ tokens_of d reader.scanner.limit b e →
+      R.Refuses w (TakesToken contents failed) reader lines readings why at g found mid → RefusedAt why at b e mid
+  refuses why at b e readings g found mid same h =
       let (ahead, refused, due) = h.refused tt bytes before o.read in
       let x : RefusedIn l (tokens_in job b e) why at ahead = subst (λ r. RefusedIn l r why at ahead) (same ∙ same_reading b e) refused in
       let all = due_tokens d ahead (before ++ h.more) due in
@@ -316,7 +317,7 @@ module _ {D A : Type 0} (contents : D → Option (List ℕ)) (failed : D → Boo
     left_piece reason.Memory h = leaves_off all_bytes false (piece_reading w reader.scanner.limit piece) mid refl h.0
     left_piece reason.Sink h = leaves_off all_bytes false (piece_reading w reader.scanner.limit piece) mid refl h.0
     left_piece reason.DocumentTooLong h = overruns h
-    left_piece why h = (refuses why here all_bytes false (piece_reading w reader.scanner.limit piece) reader'.grammar mid refl h).left
+    left_piece why h = (refuses why here all_bytes false (piece_reading w reader.scanner.limit piece) reader'.grammar reader'.found mid refl h).left
 
     fault_piece : (after : LineOut D A) (why : Reason) → FailsPiece why → ReportsFault contents failed mid after →
         HaltsFor (fault_by why (record { reason = why; offset = n; line = k })) job all_bytes false (contents first.drain.now) (contents after.drain.now) (failed after.drain.now)
@@ -324,7 +325,7 @@ module _ {D A : Type 0} (contents : D → Option (List ℕ)) (failed : D → Boo
     fault_piece after reason.Memory h t = (t.live_now, tells_some (tokens_in job all_bytes false) mid after (left_piece reason.Memory h) t)
     fault_piece after reason.Sink h t = absurd (false≢true (sym t.live ∙ h.1))
     fault_piece after reason.DocumentTooLong h t = (t.live_now, overruns_shown after h t)
-    fault_piece after why h t = (t.live_now, tells_refused why here all_bytes false mid after (refuses why here all_bytes false (piece_reading w reader.scanner.limit piece) reader'.grammar mid refl h) t)
+    fault_piece after why h t = (t.live_now, tells_refused why here all_bytes false mid after (refuses why here all_bytes false (piece_reading w reader.scanner.limit piece) reader'.grammar reader'.found mid refl h) t)
 
     -- an error in a piece
     piece_halts : (why : Reason) (after : LineOut D A) (reported : StreamFault) → FailsPiece why → SameOut mid after → Reports contents failed (record { reason = why; offset = n; line = k }) reported mid after →
@@ -346,14 +347,14 @@ module _ {D A : Type 0} (contents : D → Option (List ℕ)) (failed : D → Boo
     left_end reason.Ended h = absurd (false≢true (sym o.read.running ∙ h.0))
     left_end reason.Memory h = leaves_off bytes true end_reading mid refl h.0
     left_end reason.Sink h = leaves_off bytes true end_reading mid refl h.0
-    left_end why h = (refuses why end_at bytes true end_reading reader'.grammar mid refl h).left
+    left_end why h = (refuses why end_at bytes true end_reading reader'.grammar reader'.found mid refl h).left
 
     fault_end : (after : LineOut D A) (why : Reason) → FailsEnd why → ReportsFault contents failed mid after →
         HaltsFor (fault_by why (record { reason = why; offset = n; line = k })) job bytes true (contents first.drain.now) (contents after.drain.now) (failed after.drain.now)
     fault_end after reason.Ended h t = absurd (false≢true (sym o.read.running ∙ h.0))
     fault_end after reason.Memory h t = (t.live_now, tells_some (tokens_in job bytes true) mid after (left_end reason.Memory h) t)
     fault_end after reason.Sink h t = absurd (false≢true (sym t.live ∙ h.1))
-    fault_end after why h t = (t.live_now, tells_refused why end_at bytes true mid after (refuses why end_at bytes true end_reading reader'.grammar mid refl h) t)
+    fault_end after why h t = (t.live_now, tells_refused why end_at bytes true mid after (refuses why end_at bytes true end_reading reader'.grammar reader'.found mid refl h) t)
 
     -- an error at the end
     end_halts : (why : Reason) (after : LineOut D A) (reported : StreamFault) → FailsEnd why → SameOut mid after → Reports contents failed (record { reason = why; offset = n; line = k }) reported mid after →

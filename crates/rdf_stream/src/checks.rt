@@ -2,20 +2,20 @@
 
 ghost use Rattle.std.specs.Prelude.{◌≡◌, true, false, OnOk, IfOk, IfErr};
 ghost use Rattle.rdf_stream.specs.Checks.{BeginsToRead, CheckAccepts, CheckEnds, CheckHalts, CheckStops, HasChecked, IsAllAccepted, IsChecking, ReadingStops};
-ghost use Rattle.rdf_stream.specs.Expected.{ExpectsFor, NoKind, RunExpects, Stands, trees_of};
+ghost use Rattle.rdf_stream.specs.Expected.{ExpectsFor, NoDetails, RunExpects, Stands, trees_of};
 ghost use Rattle.rdf_stream.specs.Faults.{IsRefusal};
 ghost use Rattle.rdf_stream.specs.Languages.{language_of};
 ghost use Rattle.rdf_stream.specs.Told.{told};
 
 use crate::devices::Source;
-use crate::expected::expected_beside;
+use crate::expected::{Details, details_beside};
 use crate::fault::StreamFault;
 use crate::form::Kind;
 use crate::job::Job;
 use crate::parts::{Parts, take_parts};
 use crate::passes::Passes;
 use crate::pieces::{Run, piece_buffer, read_pieces};
-use rdf_driver::{Kinds, Reader, Summary};
+use rdf_driver::{Reader, Summary};
 use rdf_lines::{LineEnding, line_reader};
 use rdf_terms::{PutFault, QuadRef, QuadSink};
 use rdf_trig::tree_reader;
@@ -34,19 +34,20 @@ pub fn check<A: Allocator + Copy, S: Source>(
     ensures stops { IfErr result (λ fault. CheckStops fault (language_of job) (S.remaining source.old) (told S.Source source.new)) }
     ensures refused { IfErr result IsRefusal }
 {
-    let mut expected = Kinds::none();
-    check_expecting(alloc, job, source, &mut expected)
+    let mut details = Details::none();
+    check_expecting(alloc, job, source, &mut details)
 }
 
-/// What `check` does, and the kinds of tokens that could have stood in the place of one that was unexpected. A kind is
-/// in the set exactly if some document begins with the tokens before that place and then a token of the kind, whatever
-/// it spells; limits, and what names and references stand for, are left aside. The set is empty where the document is
-/// accepted and where the fault is another one. What it had before is dropped.
+/// What `check` does, and what is known of a token that was unexpected: its kind, and the kinds of tokens that could
+/// have stood in its place. A kind is in that set exactly if some document begins with the tokens before that place and
+/// then a token of the kind, whatever it spells; limits, and what names and references stand for, are left aside. Where
+/// the document is accepted and where the fault is another one the set is empty, and no kind was found. What the details
+/// were before is dropped.
 pub fn check_expecting<A: Allocator + Copy, S: Source>(
     alloc: A,
     job: Job<A>,
     source: &mut S,
-    expected: &mut Kinds,
+    details: &mut Details,
 ) -> Result<Summary, StreamFault>
     requires more { S.has_ended source.old ≡ false }
     requires source { S.has_failed source.old ≡ false }
@@ -54,20 +55,20 @@ pub fn check_expecting<A: Allocator + Copy, S: Source>(
     ensures ended { OnOk result (S.has_ended source.new ≡ true) }
     ensures stops { IfErr result (λ fault. CheckStops fault (language_of job) (S.remaining source.old) (told S.Source source.new)) }
     ensures refused { IfErr result IsRefusal }
-    ensures none { OnOk result (NoKind expected.new) }
-    ensures expected { IfErr result (λ fault. ExpectsFor fault (language_of job) (trees_of job) (S.remaining source.old) (told S.Source source.new) expected.new) }
+    ensures none { OnOk result (NoDetails details.new) }
+    ensures expected { IfErr result (λ fault. ExpectsFor fault (language_of job) (trees_of job) (S.remaining source.old) (told S.Source source.new) details.new) }
 {
     let mut job = job;
     match job.form().kind() {
         Kind::Line(form) => {
             let limits = job.limits();
             drop(job);
-            check_with(alloc, line_reader(alloc, form, limits), source, expected)
+            check_with(alloc, line_reader(alloc, form, limits), source, details)
         }
         Kind::Tree(form) => {
             let options = job.options(form);
             drop(job);
-            check_with(alloc, tree_reader(alloc, options), source, expected)
+            check_with(alloc, tree_reader(alloc, options), source, details)
         }
     }
 }
@@ -76,7 +77,7 @@ fn check_with<A: Allocator + Copy, G: Passes<A>, S: Source>(
     alloc: A,
     reader: Reader<G, A>,
     source: &mut S,
-    expected: &mut Kinds,
+    details: &mut Details,
 ) -> Result<Summary, StreamFault>
     requires begun { (x : G.Setting) × BeginsToRead G.words x reader }
     requires more { S.has_ended source.old ≡ false }
@@ -86,13 +87,13 @@ fn check_with<A: Allocator + Copy, G: Passes<A>, S: Source>(
     ensures stops { IfErr result (ReadingStops G.words S.Source reader source.old source.new) }
     ensures refused { IfErr result IsRefusal }
     ensures expected { RunExpects G.words G.trees (λ x. BeginsToRead G.words x reader) reader.scanner.limit result
-        (S.remaining source.old) (told S.Source source.new) expected.new }
+        (S.remaining source.old) (told S.Source source.new) details.new }
 {
-    *expected = Kinds::none();
+    *details = Details::none();
     let mut piece = piece_buffer(alloc)?;
     let mut reader = reader;
     let result = read_pieces(source, piece.as_mut_slice(), &mut reader, &mut NoQuads);
-    *expected = expected_beside(&reader, &result);
+    *details = details_beside(&reader, &result);
     result
 }
 

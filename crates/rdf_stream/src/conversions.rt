@@ -3,7 +3,7 @@
 ghost use Rattle.std.specs.Prelude.{◌≡◌, ◌++◌, true, false, OnOk, IfOk, IfErr, IfSome};
 ghost use Rattle.rdf_stream.specs.Converting.{Begins, ConversionStops, Converts, ConvertsWhole, IsConverting, IsPutting, KeepsPrompt, RunEnds, RunHalts, Starts, WholeStops};
 ghost use Rattle.rdf_stream.specs.Converts.{AcceptsAll, IsPrompt, StopsFor};
-ghost use Rattle.rdf_stream.specs.Expected.{ExpectsFor, NoKind, RunExpects, Stands, trees_of};
+ghost use Rattle.rdf_stream.specs.Expected.{ExpectsFor, NoDetails, RunExpects, Stands, trees_of};
 ghost use Rattle.rdf_stream.specs.Faults.{IsRefusal, IsSentOn};
 ghost use Rattle.rdf_stream.specs.Languages.{conversion_of, language_of};
 ghost use Rattle.rdf_stream.specs.LineOut.{OnlyGrows};
@@ -11,7 +11,7 @@ ghost use Rattle.rdf_stream.specs.Outputs.{output_of};
 ghost use Rattle.rdf_stream.specs.Told.{AsTold, told};
 
 use crate::devices::{Drain, Failed, Source};
-use crate::expected::expected_beside;
+use crate::expected::{Details, details_beside};
 use crate::fault::StreamFault;
 use crate::form::Kind;
 use crate::job::Job;
@@ -20,7 +20,7 @@ use crate::output::OutputView;
 use crate::parts::{Parts, take_parts};
 use crate::passes::Passes;
 use crate::pieces::{Run, piece_buffer, read_pieces, read_whole};
-use rdf_driver::{Kinds, QuadGrammar, Reader, Summary};
+use rdf_driver::{QuadGrammar, Reader, Summary};
 use rdf_lines::{LineBuffer, LineEnding, Style, line_reader};
 use rdf_trig::tree_reader;
 use std::alloc::Allocator;
@@ -48,18 +48,17 @@ pub fn convert<A: Allocator + Copy, S: Source, D: Drain>(
     ensures prompt { IsPrompt (conversion_of job) (S.remaining source.old) (told S.Source source.new)
         (D.contents drain.old) (D.contents drain.new) }
 {
-    let mut expected = Kinds::none();
-    convert_expecting(alloc, job, source, drain, &mut expected)
+    let mut details = Details::none();
+    convert_expecting(alloc, job, source, drain, &mut details)
 }
 
-/// What `convert` does, and the kinds of tokens that could have stood in the place of one that was unexpected, as
-/// `check_expecting` says.
+/// What `convert` does, and what is known of a token that was unexpected, as `check_expecting` says.
 pub fn convert_expecting<A: Allocator + Copy, S: Source, D: Drain>(
     alloc: A,
     job: Job<A>,
     source: &mut S,
     drain: &mut D,
-    expected: &mut Kinds,
+    details: &mut Details,
 ) -> Result<Summary, StreamFault>
     requires more { S.has_ended source.old ≡ false }
     requires source { S.has_failed source.old ≡ false }
@@ -72,8 +71,8 @@ pub fn convert_expecting<A: Allocator + Copy, S: Source, D: Drain>(
     ensures sent { IfErr result (λ fault. IsSentOn fault (D.is_flushed drain.new)) }
     ensures prompt { IsPrompt (conversion_of job) (S.remaining source.old) (told S.Source source.new)
         (D.contents drain.old) (D.contents drain.new) }
-    ensures none { OnOk result (NoKind expected.new) }
-    ensures expected { IfErr result (λ fault. ExpectsFor fault (language_of job) (trees_of job) (S.remaining source.old) (told S.Source source.new) expected.new) }
+    ensures none { OnOk result (NoDetails details.new) }
+    ensures expected { IfErr result (λ fault. ExpectsFor fault (language_of job) (trees_of job) (S.remaining source.old) (told S.Source source.new) details.new) }
 {
     let mut job = job;
     match job.form().kind() {
@@ -85,7 +84,7 @@ pub fn convert_expecting<A: Allocator + Copy, S: Source, D: Drain>(
                 job.output(Style::Kept),
                 source,
                 drain,
-                expected,
+                details,
             );
             drop(job);
             result
@@ -98,7 +97,7 @@ pub fn convert_expecting<A: Allocator + Copy, S: Source, D: Drain>(
                 job.output(Style::Tagged),
                 source,
                 drain,
-                expected,
+                details,
             );
             drop(job);
             result
@@ -113,7 +112,7 @@ fn convert_with<A: Allocator + Copy, G: Passes<A>, S: Source, D: Drain>(
     output: OutputView<'_>,
     source: &mut S,
     drain: &mut D,
-    expected: &mut Kinds,
+    details: &mut Details,
 ) -> Result<Summary, StreamFault>
     requires starts { (x : G.Setting) × Starts G.words x reader output.lines.style }
     requires styled { output.lines.style ≡ G.style }
@@ -128,15 +127,15 @@ fn convert_with<A: Allocator + Copy, G: Passes<A>, S: Source, D: Drain>(
     ensures sent { IfErr result (λ fault. IsSentOn fault (D.is_flushed drain.new)) }
     ensures prompt { KeepsPrompt G.words S.Source D.Drain reader (output_of output.entry) source.old source.new drain.old drain.new }
     ensures expected { RunExpects G.words G.trees (λ x. Starts G.words x reader output.entry.lines.style) reader.scanner.limit result
-        (S.remaining source.old) (told S.Source source.new) expected.new }
+        (S.remaining source.old) (told S.Source source.new) details.new }
 {
-    *expected = Kinds::none();
+    *details = Details::none();
     let mut piece = piece_buffer(alloc)?;
     let mut reader = reader;
     let mut buffer = LineBuffer::new(alloc);
     let mut lines = LineOut::new(output, &mut buffer, drain);
     let result = read_pieces(source, piece.as_mut_slice(), &mut reader, &mut lines);
-    *expected = expected_beside(&reader, &result);
+    *details = details_beside(&reader, &result);
     result
 }
 

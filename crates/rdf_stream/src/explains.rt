@@ -2,8 +2,9 @@
 
 ghost use Rattle.std.specs.Prelude.{◌≡◌, ◌||◌, ◌&&◌, ◌++◌, IfOk, OnOk, length, not, option_map};
 ghost use Rattle.rdf_driver.specs.Kinds.{has};
-ghost use Rattle.rdf_stream.specs.Explains.{between, expected_text, explain_text, listed, only_said, said, texts_of, words_for};
+ghost use Rattle.rdf_stream.specs.Explains.{between, expected_text, explain_text, found_text, listed, only_said, said, texts_of, word_of, words_for};
 
+use crate::expected::Details;
 use crate::messages::{put_number, words};
 use rdf_driver::Kinds;
 use rdf_terms::Kind;
@@ -11,23 +12,41 @@ use rdf_tokens::Fault;
 use std::alloc::{AllocError, Allocator};
 
 /// The line that explains the refusal of the document of this name, with its LF: where the place is, why it is refused,
-/// and the kinds of tokens that could have stood there, where there are any.
+/// the kind of the token that stands there, where it was found, and the kinds of tokens that could have stood there, where
+/// there are any.
 pub fn explain<A: Allocator + Copy>(
     alloc: A,
     name: &str,
     fault: &Fault,
-    expected: Kinds,
+    details: &Details,
 ) -> Result<Vec<u8, A>, AllocError>
-    ensures { IfOk result (λ line. line.items ≡ explain_text name.now fault.now expected) }
+    ensures { IfOk result (λ line. line.items ≡ explain_text name.now fault.now details.now) }
 {
     let mut line = Vec::from_slice(alloc, name.as_bytes())?;
     line.extend_from_slice(b":")?;
     put_number(fault.line, &mut line)?;
     line.extend_from_slice(b": ")?;
     line.extend_from_slice(words(fault.reason).as_bytes())?;
-    put_expected(expected, &mut line)?;
+    put_found(details.found, &mut line)?;
+    put_expected(details.expected, &mut line)?;
     line.extend_from_slice(b"\n")?;
     Ok(line)
+}
+
+// The kind that was found there, where there is one.
+fn put_found<A: Allocator + Copy>(
+    found: Option<Kind>,
+    line: &mut Vec<u8, A>,
+) -> Result<(), AllocError>
+    ensures { OnOk result (line.new.items ≡ line.old.items ++ found_text found) }
+{
+    match found {
+        None => Ok(()),
+        Some(kind) => {
+            line.extend_from_slice(b": ")?;
+            line.extend_from_slice(word_of(kind).as_bytes())
+        }
+    }
 }
 
 // The kinds that could have stood there, where there are any.
@@ -97,43 +116,87 @@ fn words_for(kinds: Kinds) -> [Option<&'static str>; 27]
     ensures { texts_of result ≡ words_for kinds }
 {
     [
-        said(kinds.contains(Kind::IriRef), "IRI"),
-        said(kinds.contains(Kind::LabelNode), "blank node label"),
-        said(has_string(kinds), "string"),
-        said(kinds.contains(Kind::LangTag), "language tag"),
-        said(kinds.contains(Kind::Carets), "\"^^\""),
-        said(kinds.contains(Kind::Dot), "\".\""),
-        said(kinds.contains(Kind::LineEnd), "line end"),
-        said(has_number(kinds), "number"),
-        said(kinds.contains(Kind::True), "\"true\""),
-        said(kinds.contains(Kind::False), "\"false\""),
-        said(kinds.contains(Kind::A), "\"a\""),
+        said(kinds.contains(Kind::IriRef), word_of(Kind::IriRef)),
+        said(kinds.contains(Kind::LabelNode), word_of(Kind::LabelNode)),
+        said(has_string(kinds), word_of(Kind::ShortString)),
+        said(kinds.contains(Kind::LangTag), word_of(Kind::LangTag)),
+        said(kinds.contains(Kind::Carets), word_of(Kind::Carets)),
+        said(kinds.contains(Kind::Dot), word_of(Kind::Dot)),
+        said(kinds.contains(Kind::LineEnd), word_of(Kind::LineEnd)),
+        said(has_number(kinds), word_of(Kind::Integer)),
+        said(kinds.contains(Kind::True), word_of(Kind::True)),
+        said(kinds.contains(Kind::False), word_of(Kind::False)),
+        said(kinds.contains(Kind::A), word_of(Kind::A)),
         said(
             has_first_alone(kinds, Kind::AtPrefix, Kind::LangTag),
-            "\"@prefix\"",
+            word_of(Kind::AtPrefix),
         ),
         said(
             has_first_alone(kinds, Kind::AtBase, Kind::LangTag),
-            "\"@base\"",
+            word_of(Kind::AtBase),
         ),
-        said(kinds.contains(Kind::Prefix), "\"PREFIX\""),
-        said(kinds.contains(Kind::Base), "\"BASE\""),
-        said(kinds.contains(Kind::Graph), "\"GRAPH\""),
+        said(kinds.contains(Kind::Prefix), word_of(Kind::Prefix)),
+        said(kinds.contains(Kind::Base), word_of(Kind::Base)),
+        said(kinds.contains(Kind::Graph), word_of(Kind::Graph)),
         said(
             has_first_alone(kinds, Kind::PnameNs, Kind::PnameLn),
-            "prefix",
+            word_of(Kind::PnameNs),
         ),
-        said(kinds.contains(Kind::PnameLn), "prefixed name"),
-        said(kinds.contains(Kind::Semicolon), "\";\""),
-        said(kinds.contains(Kind::Comma), "\",\""),
-        said(kinds.contains(Kind::OpenBracket), "\"[\""),
-        said(kinds.contains(Kind::CloseBracket), "\"]\""),
-        said(kinds.contains(Kind::OpenParen), "\"(\""),
-        said(kinds.contains(Kind::CloseParen), "\")\""),
-        said(kinds.contains(Kind::OpenBrace), "\"{\""),
-        said(kinds.contains(Kind::CloseBrace), "\"}\""),
-        said(kinds.contains(Kind::End), "end of document"),
+        said(kinds.contains(Kind::PnameLn), word_of(Kind::PnameLn)),
+        said(kinds.contains(Kind::Semicolon), word_of(Kind::Semicolon)),
+        said(kinds.contains(Kind::Comma), word_of(Kind::Comma)),
+        said(
+            kinds.contains(Kind::OpenBracket),
+            word_of(Kind::OpenBracket),
+        ),
+        said(
+            kinds.contains(Kind::CloseBracket),
+            word_of(Kind::CloseBracket),
+        ),
+        said(kinds.contains(Kind::OpenParen), word_of(Kind::OpenParen)),
+        said(kinds.contains(Kind::CloseParen), word_of(Kind::CloseParen)),
+        said(kinds.contains(Kind::OpenBrace), word_of(Kind::OpenBrace)),
+        said(kinds.contains(Kind::CloseBrace), word_of(Kind::CloseBrace)),
+        said(kinds.contains(Kind::End), word_of(Kind::End)),
     ]
+}
+
+// The word for a kind.
+fn word_of(kind: Kind) -> &'static str
+    ensures { result.now ≡ word_of kind }
+{
+    match kind {
+        Kind::IriRef => "IRI",
+        Kind::LabelNode => "blank node label",
+        Kind::ShortString => "string",
+        Kind::LongString => "string",
+        Kind::LangTag => "language tag",
+        Kind::Carets => "\"^^\"",
+        Kind::Dot => "\".\"",
+        Kind::LineEnd => "line end",
+        Kind::Integer => "number",
+        Kind::Decimal => "number",
+        Kind::Double => "number",
+        Kind::True => "\"true\"",
+        Kind::False => "\"false\"",
+        Kind::A => "\"a\"",
+        Kind::AtPrefix => "\"@prefix\"",
+        Kind::AtBase => "\"@base\"",
+        Kind::Prefix => "\"PREFIX\"",
+        Kind::Base => "\"BASE\"",
+        Kind::Graph => "\"GRAPH\"",
+        Kind::PnameNs => "prefix",
+        Kind::PnameLn => "prefixed name",
+        Kind::Semicolon => "\";\"",
+        Kind::Comma => "\",\"",
+        Kind::OpenBracket => "\"[\"",
+        Kind::CloseBracket => "\"]\"",
+        Kind::OpenParen => "\"(\"",
+        Kind::CloseParen => "\")\"",
+        Kind::OpenBrace => "\"{\"",
+        Kind::CloseBrace => "\"}\"",
+        Kind::End => "end of document",
+    }
 }
 
 // The word, where it is said.

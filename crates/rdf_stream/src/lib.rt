@@ -29,6 +29,7 @@ mod without_crs;
 pub use checks::{check, check_expecting};
 pub use conversions::{convert, convert_expecting};
 pub use devices::{Drain, Failed, In, Out, Source};
+pub use expected::Details;
 pub use explains::explain;
 pub use fault::{LoadFault, StreamFault};
 pub use form::Form;

@@ -37,4 +37,4 @@ pub returns-clause-expected : goal.returns-clause-expected
 returns-clause-expected g c =
     let w = g.G.Grammar.words in
     run_expects w g.G.Foresees.trees (λ x. BeginsToRead w x c.args.reader) c.args.reader.scanner.limit (λ x b. b.lawful.ends x) (Taken w) (Halted w)
-    (c.args.reader, _) (c.read_pieces-result.new.run, _) c.read_pieces-result.new.run (λ f bytes e h. h.1) _ _ _ _ c.read_pieces-result.ensures.stops c.expected_beside.ensures
+    (c.args.reader, _) (c.read_pieces-result.new.run, _) c.read_pieces-result.new.run (λ f bytes e h. h.1) _ _ _ _ c.read_pieces-result.ensures.stops c.details_beside.ensures

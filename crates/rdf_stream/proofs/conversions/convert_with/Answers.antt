@@ -87,4 +87,4 @@ returns-clause-expected g c =
     (λ f bytes e h x b.
     h.2 x
     (begun_fresh _ g.D.Drain.contents g.D.Drain.has_failed g.D.Drain.is_flushed w g.G.Passes.style x (output_of c.args.output) (c.args.reader, c.new-lines.result) _ fresh b))
-    _ _ _ _ c.read_pieces-result.ensures.stops c.expected_beside.ensures
+    _ _ _ _ c.read_pieces-result.ensures.stops c.details_beside.ensures

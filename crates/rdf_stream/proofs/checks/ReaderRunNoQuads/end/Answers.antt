@@ -14,6 +14,6 @@ returns-in-Err-clause-halts g c = λ first bytes i. (
       (end_halts g.G.Grammar.words first.0 c.args.self.now bytes i.0 _ _ _ c.in-Err.fault.reason c.in-Err.fault.offset c.in-Err.fault.line c.in-Err.ensures.err),
   λ x b.
       let (quads, read) = i.0.read x b in
-      subst (λ reported. StandsFor g.G.Grammar.words x first.0.scanner.limit reported bytes true c.finish.new.self.grammar) (sym c.from.ensures)
+      subst (λ reported. StandsFor g.G.Grammar.words x first.0.scanner.limit reported bytes true c.finish.new.self) (sym c.from.ensures)
       (stands_at_end g.G.Grammar.words x c.args.self.now bytes quads read first.0.scanner.limit i.0.limit _ _ _ _ _ _ c.in-Err.fault.offset c.in-Err.fault.line c.in-Err.fault.reason c.in-Err.ensures.err),
 )

@@ -35,9 +35,9 @@ returns-in-Err-clause-halts g c = λ more first bytes i.
           let w = g.G.Grammar.words in
           let limit = first.0.scanner.limit in
           let now = c.feed.new.self in
-          subst (λ all. StandsFor w x limit c.stop.result all false now.grammar) (append_assoc bytes part more)
-          (stands_more w x limit (b.starts.convertible.lawful.ends x) now.grammar c.stop.result (bytes ++ part) more
-          (stands_told g.D.Drain.contents g.D.Drain.has_failed w x limit c.in-Err.fault _ _ _ (bytes ++ part) false now.grammar c.stop.ensures.reports
+          subst (λ all. StandsFor w x limit c.stop.result all false now) (append_assoc bytes part more)
+          (stands_more w x limit (b.starts.convertible.lawful.ends x) now c.stop.result (bytes ++ part) more
+          (stands_told g.D.Drain.contents g.D.Drain.has_failed w x limit c.in-Err.fault _ _ _ (bytes ++ part) false now c.stop.ensures.reports
           (stands_in_piece w x c.args.self.now bytes put.quads put.read limit i.limit _ _ _ _ _ now c.in-Err.fault.offset c.in-Err.fault.line part c.in-Err.fault.reason c.in-Err.ensures.err))),
     )
 

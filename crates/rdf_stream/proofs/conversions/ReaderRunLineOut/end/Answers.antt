@@ -39,6 +39,6 @@ returns-in-Err-clause-halts g c = λ first bytes i. (
   c.stop.ensures.sent,
   λ x b.
       let put = (putting g.D.Drain.contents g.D.Drain.has_failed g.G.Grammar.words g.G.Passes.style first.0 first.1 bytes c.args.self.now c.args.lines.now i).put x b in
-      stands_told g.D.Drain.contents g.D.Drain.has_failed g.G.Grammar.words x first.0.scanner.limit c.in-Err.fault _ _ _ bytes true c.finish.new.self.grammar c.stop.ensures.reports
+      stands_told g.D.Drain.contents g.D.Drain.has_failed g.G.Grammar.words x first.0.scanner.limit c.in-Err.fault _ _ _ bytes true c.finish.new.self c.stop.ensures.reports
       (stands_at_end g.G.Grammar.words x c.args.self.now bytes put.quads put.read first.0.scanner.limit i.limit _ _ _ _ _ c.finish.new.self c.in-Err.fault.offset c.in-Err.fault.line c.in-Err.fault.reason c.in-Err.ensures.err),
 )
