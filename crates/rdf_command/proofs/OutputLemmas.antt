@@ -45,7 +45,7 @@ module _ (t other : Task) (prefixes : Option (Option (List ℕ))) (known : Optio
   of_stop : (bindings : List (List ℕ × List ℕ)) (source : Reading) (status : ℕ) (out_old : Option (List ℕ)) (out : Written) (err_old : Option (List ℕ)) (err : Written)
       → RunStops So bindings status known source out_old out err_old err → RunStops t bindings status known source out_old out err_old err
   of_stop bindings source status out_old out err_old err s =
-      record { fault = s.fault; status_is = s.status_is; stops = s.stops; sent = s.sent; kinds = s.kinds; expected = s.expected; reported = s.reported }
+      record { fault = s.fault; status_is = s.status_is; stops = s.stops; sent = s.sent; details = s.details; expected = s.expected; reported = s.reported }
 
   run_of : (left : FilesRead) (status : ℕ) (out_old : Option (List ℕ)) (out : Written) (err_old : Option (List ℕ)) (err : Written)
       → RunEnds So prefixes known left status out_old out err_old err → RunEnds t prefixes known left status out_old out err_old err

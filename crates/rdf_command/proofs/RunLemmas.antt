@@ -5,10 +5,11 @@ use Rattle.rdf_stream.specs.Checks.{IsAccepted}
 use Rattle.rdf_stream.specs.Devices.{AppendsFront, Reading, Written}
 use Rattle.rdf_stream.specs.Jobs.{JobRead}
 use Rattle.rdf_stream.specs.Languages.{language_of}
+use Rattle.rdf_stream.specs.declared.expected.Details.{Details}
 use Rattle.rdf_stream.specs.declared.fault.StreamFault.{StreamFault}
 use Rattle.rdf_stream.specs.declared.fault.StreamFault.TheVariants.{Refused, Read, Write, Memory}
 use Rattle.rdf_command.specs.declared.task.Task.{Task}
-use Rattle.rdf_command.specs.Runs.{Does, HandsOver, RunEnds, SendsOn, StartsWith, StopsAction, TellsKinds, accepted_text, job_of}
+use Rattle.rdf_command.specs.Runs.{Does, HandsOver, RunEnds, SendsOn, StartsWith, StopsAction, TellsDetails, accepted_text, job_of}
 use Rattle.rdf_command.specs.Statuses.{ReportsExplained, status_of}
 use Rattle.rdf_command.specs.Words.{name_of}
 
@@ -30,10 +31,10 @@ module _ (t : Task) (prefixes : Option (Option (List ℕ))) (left : Option Readi
       inl (bindings, starts, ((λ e. (subst (λ j. IfSome known (λ bytes. Does t.action j bytes out_old out.contents)) is done, flushed)), (λ n. absurd (n refl)), prompt_so))
 
   pub run_stopped : (fault : StreamFault) (status : ℕ) → status ≡ status_of fault → StopsAction t.action fault job known source out_old out.contents out.has_failed
-      → SendsOn t.action fault out.is_flushed → (kinds : ℕ) → TellsKinds t.action fault job known source kinds
-      → ReportsExplained t.explain (name_of t) fault kinds err_old err.contents err.has_failed
+      → SendsOn t.action fault out.is_flushed → (details : Details) → TellsDetails t.action fault job known source details
+      → ReportsExplained t.explain (name_of t) fault details err_old err.contents err.has_failed
       → RunEnds t prefixes known (record { prefixes = left; document = source }) status out_old out err_old err
-  run_stopped fault status same stops sent kinds expected reported =
+  run_stopped fault status same stops sent details expected reported =
       inl (
         bindings,
         starts,
@@ -44,8 +45,8 @@ module _ (t : Task) (prefixes : Option (Option (List ℕ))) (left : Option Readi
             status_is = same;
             stops = subst (λ j. StopsAction t.action fault j known source out_old out.contents out.has_failed) is stops;
             sent = sent;
-            kinds = kinds;
-            expected = subst (λ j. TellsKinds t.action fault j known source kinds) is expected;
+            details = details;
+            expected = subst (λ j. TellsDetails t.action fault j known source details) is expected;
             reported = reported;
           }),
           prompt_so,

@@ -2,8 +2,9 @@
 use Rattle.std.specs.Prelude.{◌≡◌, ◌⊎◌, ℕ, Bool, true, false, List, Option, Some, None, option_map}
 use Rattle.std.specs.String.{string_bytes}
 use Rattle.clap.specs.Words.{Text}
+use Rattle.rdf_stream.specs.declared.expected.Details.{Details}
 use Rattle.rdf_stream.specs.Devices.{Reading, Written}
-use Rattle.rdf_stream.specs.Expected.{NoKind}
+use Rattle.rdf_stream.specs.Expected.{NoDetails}
 use Rattle.rdf_stream.specs.Jobs.{JobRead}
 use Rattle.rdf_stream.specs.Languages.{conversion_of}
 use Rattle.rdf_stream.specs.Messages.{report_text}
@@ -61,9 +62,9 @@ pub record StopsAside (says : Outputs) (how : Told) (job : JobRead) (known : Opt
   pub stops : SkipStops fault (conversion_of job) known left out_old out.contents first bad.contents out.has_failed bad.has_failed
   pub status_is : status ≡ status_of fault
   pub is_left : says.is_left how.bad
-  pub kinds : ℕ
-  pub none : NoKind kinds
-  pub reported : ReportsExplained how.explain how.document fault kinds err_old err.contents err.has_failed
+  pub details : Details
+  pub none : NoDetails details
+  pub reported : ReportsExplained how.explain how.document fault details err_old err.contents err.has_failed
 
 -- A file could not get its name, which the status and the text on the error output say, and it is what it was.
 pub record NamesNot (says : Outputs) (name : Text) (status : ℕ) (err_old : Option (List ℕ)) (err : Written) : Type 0 where

@@ -2,12 +2,13 @@
 use Rattle.std.specs.Prelude.{◌≡◌, ◌≢◌, ◌⊎◌, ℕ, Bool, true, false, List, [], ◌++◌, codes, decimal, Option, Some, None, IfSome, option_map}
 use Rattle.std.specs.Io.KnownBytes.{Appends}
 use Rattle.rdf_driver.specs.declared.summary.Summary.{Summary}
+use Rattle.rdf_stream.specs.declared.expected.Details.{Details}
 use Rattle.rdf_stream.specs.Checks.{CheckStops, IsAccepted}
 use Rattle.rdf_stream.specs.Converts.{IsConverted, IsPrompt, StopsFor}
 use Rattle.rdf_stream.specs.declared.devices.Drain as drain
 use Rattle.rdf_stream.specs.declared.devices.Source as source
 use Rattle.rdf_stream.specs.Devices.{AppendsFront, Reading, Written}
-use Rattle.rdf_stream.specs.Expected.{ExpectsFor, NoKind, trees_of}
+use Rattle.rdf_stream.specs.Expected.{ExpectsFor, NoDetails, trees_of}
 use Rattle.rdf_stream.specs.Faults.{IsSentOn}
 use Rattle.rdf_stream.specs.Told.{told, written}
 use Rattle.rdf_iri.specs.Limits.{Sizes}
@@ -107,16 +108,16 @@ SendsOn Check fault flushed = Unit
 SendsOn Show fault flushed = IsSentOn fault flushed
 SendsOn Convert fault flushed = IsSentOn fault flushed
 
--- Which kinds of tokens could have stood in the place of one that was unexpected. `show` looks at tokens alone, and tells none.
-abbrev pub TellsKinds : Action → StreamFault → JobRead → Option (List ℕ) → Reading → ℕ → Type 0
-TellsKinds Show fault job known left kinds = NoKind kinds
-TellsKinds action fault job known left kinds = ExpectsFor fault (language_of job) (trees_of job) known left kinds
+-- What is known of a token that was unexpected. `show` looks at tokens alone, and tells nothing.
+abbrev pub TellsDetails : Action → StreamFault → JobRead → Option (List ℕ) → Reading → Details → Type 0
+TellsDetails Show fault job known left details = NoDetails details
+TellsDetails action fault job known left details = ExpectsFor fault (language_of job) (trees_of job) known left details
 
 -- The document was accepted, and what the task asks for was written and flushed.
 abbrev pub IsDone : Task → List (List ℕ × List ℕ) → Option (List ℕ) → Option (List ℕ) → Written → Type 0
 IsDone t bindings known out_old out = IfSome known (λ bytes. Does t.action (job_of t bindings) bytes out_old out.contents) × (out.is_flushed ≡ true)
 
--- The run stopped for a fault, which its status and the text on the error output say, with the kinds that could have stood there where the task asks
+-- The run stopped for a fault, which its status and the text on the error output say, with what is known of an unexpected token where the task asks
 -- for an explanation.
 pub record RunStops (t : Task) (bindings : List (List ℕ × List ℕ)) (status : ℕ) (known : Option (List ℕ)) (source : Reading)
     (out_old : Option (List ℕ)) (out : Written) (err_old : Option (List ℕ)) (err : Written) : Type 0 where
@@ -124,9 +125,9 @@ pub record RunStops (t : Task) (bindings : List (List ℕ × List ℕ)) (status 
   pub status_is : status ≡ status_of fault
   pub stops : StopsAction t.action fault (job_of t bindings) known source out_old out.contents out.has_failed
   pub sent : SendsOn t.action fault out.is_flushed
-  pub kinds : ℕ
-  pub expected : TellsKinds t.action fault (job_of t bindings) known source kinds
-  pub reported : ReportsExplained t.explain (name_of t) fault kinds err_old err.contents err.has_failed
+  pub details : Details
+  pub expected : TellsDetails t.action fault (job_of t bindings) known source details
+  pub reported : ReportsExplained t.explain (name_of t) fault details err_old err.contents err.has_failed
 
 -- A run with these bindings, over a source of these bytes, left the source and the two outputs like this: it is done at 0, and else it stopped.
 -- In either case no line waited while more was asked for.

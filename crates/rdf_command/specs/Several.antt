@@ -3,6 +3,7 @@ use Rattle.std.specs.Prelude.{◌≡◌, ◌⊎◌, ◌||◌, ℕ, Bool, true, f
 use Rattle.rdf_iri.specs.Bindings.{BindingMap, IsReadFrom}
 use Rattle.rdf_iri.specs.Limits.{Sizes}
 use Rattle.rdf_lines.specs.declared.form.Escapes.TheVariants.{Plain}
+use Rattle.rdf_stream.specs.declared.expected.Details.{Details}
 use Rattle.rdf_stream.specs.Devices.{Reading, Written}
 use Rattle.rdf_stream.specs.Expected.{ExpectsFor, trees_of}
 use Rattle.rdf_stream.specs.Jobs.{JobRead}
@@ -65,16 +66,16 @@ pub record AcceptsOne (job : JobRead) (name : List ℕ) (known : Option (List �
   pub flushed : out.is_flushed ≡ true
   pub untold : err.contents ≡ err_old
 
--- The document was not accepted, for a fault that the status and the line about it say, with the kinds that could have stood there where an explanation
+-- The document was not accepted, for a fault that the status and the line about it say, with what is known of an unexpected token where an explanation
 -- is asked for.
 pub record StopsOne (asked : Bool) (job : JobRead) (name : List ℕ) (known : Option (List ℕ)) (left : Reading) (status : ℕ)
     (out_old : Option (List ℕ)) (out : Written) (err_old : Option (List ℕ)) (err : Written) : Type 0 where
   pub fault : StreamFault
   pub status_is : status ≡ status_of fault
   pub stops : StopsCheckAs (Some name) fault job known left out_old out.contents out.has_failed
-  pub kinds : ℕ
-  pub expected : ExpectsFor fault (language_of job) (trees_of job) known left kinds
-  pub reported : ReportsExplainedOf asked name fault kinds err_old err.contents err.has_failed
+  pub details : Details
+  pub expected : ExpectsFor fault (language_of job) (trees_of job) known left details
+  pub reported : ReportsExplainedOf asked name fault details err_old err.contents err.has_failed
 
 -- The document of this format and name was opened and read.
 pub record ReadsOne (has_document : Option (List ℕ) → Option (List ℕ) → Type 0) (shared : Shared) (d : Form × List ℕ) (status : ℕ)

@@ -6,6 +6,7 @@ use Rattle.clap.specs.Words.{kind_of}
 use Rattle.clap.specs.declared.error.kind.ErrorKind.{ErrorKind}
 use Rattle.clap.specs.declared.error.kind.ErrorKind.TheVariants.{DisplayHelp, DisplayVersion}
 use Rattle.rdf_stream.specs.Devices.{AppendsFront}
+use Rattle.rdf_stream.specs.declared.expected.Details.{Details}
 use Rattle.rdf_stream.specs.Explains.{explain_text}
 use Rattle.rdf_stream.specs.Messages.{fault_text, report_text}
 use Rattle.rdf_stream.specs.declared.fault.LoadFault.{LoadFault}
@@ -41,9 +42,9 @@ abbrev pub ReportsFaultOf : List ℕ → StreamFault → Option (List ℕ) → O
 ReportsFaultOf name fault old new failed = ReportsOf name (fault_text fault ++ codes "\n") old new failed
 
 -- the line that explains a refusal of the document of this name, where that is asked for
-abbrev pub explanation : Bool → List ℕ → StreamFault → ℕ → List ℕ
-explanation true name (Refused f) kinds = explain_text name f kinds
-explanation asked name fault kinds = []
+abbrev pub explanation : Bool → List ℕ → StreamFault → Details → List ℕ
+explanation true name (Refused f) details = explain_text name f details
+explanation asked name fault details = []
 
 -- the line that reports a document whose name ends in no format
 abbrev pub no_format_text : List ℕ → List ℕ
@@ -60,14 +61,14 @@ ReportsFault fault old new failed = Reports (report_text fault) old new failed
 
 -- What is reported of a fault of the document of this name, where its refusal is asked to be explained or not. The line that explains it takes memory
 -- too, and is left out where that is refused.
-abbrev pub ReportsExplained : Bool → List ℕ → StreamFault → ℕ → Option (List ℕ) → Option (List ℕ) → Bool → Type 0
-ReportsExplained asked name fault kinds old new failed =
-    Reports (report_text fault ++ explanation asked name fault kinds) old new failed ⊎ ReportsFault fault old new failed
+abbrev pub ReportsExplained : Bool → List ℕ → StreamFault → Details → Option (List ℕ) → Option (List ℕ) → Bool → Type 0
+ReportsExplained asked name fault details old new failed =
+    Reports (report_text fault ++ explanation asked name fault details) old new failed ⊎ ReportsFault fault old new failed
 
 -- the same of one of several documents
-abbrev pub ReportsExplainedOf : Bool → List ℕ → StreamFault → ℕ → Option (List ℕ) → Option (List ℕ) → Bool → Type 0
-ReportsExplainedOf asked name fault kinds old new failed =
-    ReportsOf name (fault_text fault ++ codes "\n" ++ explanation asked name fault kinds) old new failed ⊎ ReportsFaultOf name fault old new failed
+abbrev pub ReportsExplainedOf : Bool → List ℕ → StreamFault → Details → Option (List ℕ) → Option (List ℕ) → Bool → Type 0
+ReportsExplainedOf asked name fault details old new failed =
+    ReportsOf name (fault_text fault ++ codes "\n" ++ explanation asked name fault details) old new failed ⊎ ReportsFaultOf name fault old new failed
 
 -- a line of a file of bindings that is refused is a mistake of the words
 abbrev pub load_status : LoadFault → ℕ

@@ -16,7 +16,7 @@ use crate::reports::{
 };
 use crate::runs::{Files, job_of};
 use crate::task::{Action, Task};
-use rdf_stream::{Drain, Failed, Job, Kinds, SkipSummary, Source, convert_skipping};
+use rdf_stream::{Details, Drain, Failed, Job, SkipSummary, Source, convert_skipping};
 use std::alloc::Global;
 
 /// What a run that goes on after bad lines is told beside its job.
@@ -288,7 +288,7 @@ fn put_aside<H: Host, S: Source, D: Drain, E: Drain>(
             host.discard(bad, how.bad);
             let stop = Stop {
                 fault,
-                expected: Kinds::none(),
+                details: Details::none(),
             };
             tell_stop(how.alloc, how.document, how.explain, &stop, err);
             Err(status(&stop.fault))

@@ -11,8 +11,8 @@ use crate::task::WordsFault;
 use clap::Error;
 use itoa::Buffer;
 use rdf_stream::{
-    Drain, Failed, Kinds, LoadFault, SkipSummary, StreamFault, TermFault, explain as explain_line,
-    out_of_memory, put_all, read_failed, report, write_failed,
+    Details, Drain, Failed, LoadFault, SkipSummary, StreamFault, TermFault,
+    explain as explain_line, out_of_memory, put_all, read_failed, report, write_failed,
 };
 use std::alloc::{AllocError, Global};
 
@@ -21,8 +21,8 @@ use std::alloc::{AllocError, Global};
 pub struct Stop {
     /// The fault.
     pub fault: StreamFault,
-    /// The kinds of tokens that could have stood in the place of one that was unexpected. `show` tells none.
-    pub expected: Kinds,
+    /// What is known of a token that was unexpected. `show` tells nothing.
+    pub details: Details,
 }
 
 /// The status of a fault.
@@ -40,7 +40,7 @@ pub fn status(fault: &StreamFault) -> u8
 /// refusal alone takes memory. Where that is refused, nothing is reported.
 pub fn tell_stop<E: Drain>(alloc: Global, name: &str, explain: bool, stop: &Stop, err: &mut E)
     requires { E.has_failed err.old ≡ false }
-    ensures { ReportsExplained explain name.now stop.now.fault stop.now.expected (E.contents err.old) (E.contents err.new) (E.has_failed err.new) }
+    ensures { ReportsExplained explain name.now stop.now.fault stop.now.details (E.contents err.old) (E.contents err.new) (E.has_failed err.new) }
 {
     match &stop.fault {
         StreamFault::Refused(_) => {
@@ -58,7 +58,7 @@ pub fn tell_stop<E: Drain>(alloc: Global, name: &str, explain: bool, stop: &Stop
 
 // The line that reports a stop, and the line that explains it. That is left out where memory for it is refused.
 fn report_of(alloc: Global, name: &str, explain: bool, stop: &Stop) -> Result<Vec<u8>, AllocError>
-    ensures { IfOk result (λ text. (text.items ≡ report_text stop.now.fault ++ explanation explain name.now stop.now.fault stop.now.expected)
+    ensures { IfOk result (λ text. (text.items ≡ report_text stop.now.fault ++ explanation explain name.now stop.now.fault stop.now.details)
         ⊎ (text.items ≡ report_text stop.now.fault)) }
 {
     let mut text = Vec::new(alloc);
@@ -79,12 +79,12 @@ fn put_explanation(
     stop: &Stop,
     text: &mut Vec<u8>,
 ) -> Result<(), AllocError>
-    ensures put { OnOk result (text.new.items ≡ text.old.items ++ explanation explain name.now stop.now.fault stop.now.expected) }
+    ensures put { OnOk result (text.new.items ≡ text.old.items ++ explanation explain name.now stop.now.fault stop.now.details) }
     ensures left_out { OnErr result (text.new.items ≡ text.old.items) }
 {
     match &stop.fault {
         StreamFault::Refused(fault) if explain => {
-            let line = explain_line(alloc, name, fault, stop.expected)?;
+            let line = explain_line(alloc, name, fault, &stop.details)?;
             text.extend_from_slice(line.as_slice())
         }
         _ => Ok(()),
@@ -94,7 +94,7 @@ fn put_explanation(
 /// Reports why one of several documents, that of this name, was not accepted, and explains it where that is asked for.
 pub fn tell_stop_of<E: Drain>(alloc: Global, name: &str, explain: bool, stop: &Stop, err: &mut E)
     requires { E.has_failed err.old ≡ false }
-    ensures { ReportsExplainedOf explain name.now stop.now.fault stop.now.expected (E.contents err.old) (E.contents err.new) (E.has_failed err.new) }
+    ensures { ReportsExplainedOf explain name.now stop.now.fault stop.now.details (E.contents err.old) (E.contents err.new) (E.has_failed err.new) }
 {
     match report_of(alloc, name, explain, stop) {
         Ok(text) => tell_of(alloc, name, &text[b"rdfconv: ".len()..], err),

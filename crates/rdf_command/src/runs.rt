@@ -11,13 +11,13 @@ ghost use Rattle.rdf_stream.specs.Jobs.{word_of};
 ghost use Rattle.rdf_stream.specs.Languages.{conversion_of, language_of};
 ghost use Rattle.rdf_stream.specs.Told.{AsTold, told};
 ghost use Rattle.rdf_command.specs.Runs.{AreFresh, AsWritten, Does, HandsOver, IsCheckedAs, IsJobOf, RunEnds, SendsOn, StartsNot, StopsAction, StopsCheckAs};
-ghost use Rattle.rdf_command.specs.Runs.{TellsKinds, accepted_text, files_told, front_of};
+ghost use Rattle.rdf_command.specs.Runs.{TellsDetails, accepted_text, files_told, front_of};
 
 use crate::commands::name_by;
 use crate::reports::{Stop, named_front, put_number, refuse_prefixes, status, tell_stop};
 use crate::task::{Action, Task};
 use rdf_stream::{
-    Drain, Failed, Iri, Job, Kinds, LoadFault, NodePrefix, Source, StreamFault, Summary,
+    Details, Drain, Failed, Iri, Job, LoadFault, NodePrefix, Source, StreamFault, Summary,
     check_expecting, convert_expecting, load_bindings, put_all, show,
 };
 use std::alloc::{AllocError, Global};
@@ -134,7 +134,7 @@ fn act<S: Source, O: Drain>(
     ensures flushed { OnOk result (O.is_flushed out.new ≡ true) }
     ensures stops { IfErr result (λ stop. AsTold (StopsAction action stop.fault job) S.Source O.Drain source.old source.new out.old out.new) }
     ensures sent { IfErr result (λ stop. SendsOn action stop.fault (O.is_flushed out.new)) }
-    ensures expected { IfErr result (λ stop. TellsKinds action stop.fault job (S.remaining source.old) (told S.Source source.new) stop.expected) }
+    ensures expected { IfErr result (λ stop. TellsDetails action stop.fault job (S.remaining source.old) (told S.Source source.new) stop.details) }
     ensures prompt { HandsOver action job (S.remaining source.old) (told S.Source source.new) (O.contents out.old) (O.contents out.new) }
 {
     match action {
@@ -143,7 +143,7 @@ fn act<S: Source, O: Drain>(
             Ok(_) => Ok(()),
             Err(fault) => Err(Stop {
                 fault,
-                expected: Kinds::none(),
+                details: Details::none(),
             }),
         },
         Action::Convert => convert_to(alloc, job, source, out),
@@ -164,13 +164,13 @@ fn convert_to<S: Source, O: Drain>(
     ensures flushed { OnOk result (O.is_flushed out.new ≡ true) }
     ensures stops { IfErr result (λ stop. AsTold (StopsFor stop.fault (conversion_of job)) S.Source O.Drain source.old source.new out.old out.new) }
     ensures sent { IfErr result (λ stop. IsSentOn stop.fault (O.is_flushed out.new)) }
-    ensures expected { IfErr result (λ stop. ExpectsFor stop.fault (language_of job) (trees_of job) (S.remaining source.old) (told S.Source source.new) stop.expected) }
+    ensures expected { IfErr result (λ stop. ExpectsFor stop.fault (language_of job) (trees_of job) (S.remaining source.old) (told S.Source source.new) stop.details) }
     ensures prompt { IsPrompt (conversion_of job) (S.remaining source.old) (told S.Source source.new) (O.contents out.old) (O.contents out.new) }
 {
-    let mut expected = Kinds::none();
-    match convert_expecting(alloc, job, source, out, &mut expected) {
+    let mut details = Details::none();
+    match convert_expecting(alloc, job, source, out, &mut details) {
         Ok(_) => Ok(()),
-        Err(fault) => Err(Stop { fault, expected }),
+        Err(fault) => Err(Stop { fault, details }),
     }
 }
 
@@ -188,19 +188,19 @@ pub fn check_to<S: Source, O: Drain>(
     ensures accepted { OnOk result (IfSome (S.remaining source.old) (λ bytes. IsCheckedAs (option_map (λ s. s.now) name.entry) job bytes (O.contents out.old) (O.contents out.new))) }
     ensures flushed { OnOk result (O.is_flushed out.new ≡ true) }
     ensures stops { IfErr result (λ stop. AsTold (StopsCheckAs (option_map (λ s. s.now) name.entry) stop.fault job) S.Source O.Drain source.old source.new out.old out.new) }
-    ensures expected { IfErr result (λ stop. ExpectsFor stop.fault (language_of job) (trees_of job) (S.remaining source.old) (told S.Source source.new) stop.expected) }
+    ensures expected { IfErr result (λ stop. ExpectsFor stop.fault (language_of job) (trees_of job) (S.remaining source.old) (told S.Source source.new) stop.details) }
 {
-    let mut expected = Kinds::none();
-    let summary = match check_expecting(alloc, job, source, &mut expected) {
+    let mut details = Details::none();
+    let summary = match check_expecting(alloc, job, source, &mut details) {
         Ok(summary) => summary,
-        Err(fault) => return Err(Stop { fault, expected }),
+        Err(fault) => return Err(Stop { fault, details }),
     };
     let text = match accepted_line(alloc, name, summary) {
         Ok(text) => text,
         Err(AllocError) => {
             return Err(Stop {
                 fault: StreamFault::Memory,
-                expected,
+                details,
             });
         }
     };
@@ -208,7 +208,7 @@ pub fn check_to<S: Source, O: Drain>(
         Ok(()) => Ok(()),
         Err(Failed) => Err(Stop {
             fault: StreamFault::Write,
-            expected,
+            details,
         }),
     }
 }

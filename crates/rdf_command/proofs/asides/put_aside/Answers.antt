@@ -12,7 +12,7 @@ returns-in-Err-convert_skipping-clause-none g c =
       stops = c.in-Err-convert_skipping.ensures.stops;
       status_is = c.status.ensures;
       is_left = c.discard.ensures;
-      kinds = c.none.result;
+      details = c.none.result;
       none = c.none.ensures;
       reported = c.tell_stop.ensures;
     })

@@ -18,10 +18,10 @@ returns-clause-ends g c =
     let name : c.name_by.result.now ≡ name_of c.args.task =
     c.name_by.ensures ∙ ap name_by (c.as_deref.ensures.value ∙ ap (option_map string_bytes) c.take-file.ensures.value) in
     let told_so =
-    subst (λ n. ReportsExplained c.args.task.explain n stop.fault stop.expected (g.E.Drain.contents c.args.err.now) (g.E.Drain.contents c.tell_stop.new.err)
+    subst (λ n. ReportsExplained c.args.task.explain n stop.fault stop.details (g.E.Drain.contents c.args.err.now) (g.E.Drain.contents c.tell_stop.new.err)
     (g.E.Drain.has_failed c.tell_stop.new.err)) name c.tell_stop.ensures in
     run_stopped c.args.task _ _ h.0 h.1 c.in-Ok.job h.2 _ (told g.I.Source c.act.new.source) _ _ _ _ c.act.ensures.prompt stop.fault _ c.status.ensures
-    c.in-Err-act.ensures.stops c.in-Err-act.ensures.sent stop.expected c.in-Err-act.ensures.expected told_so
+    c.in-Err-act.ensures.stops c.in-Err-act.ensures.sent stop.details c.in-Err-act.ensures.expected told_so
 
 pub returns-clause-untold : goal.returns-clause-untold
 returns-clause-untold g c none = absurd (some_status c.in-Err-act.stop.fault (sym c.status.ensures ∙ none))

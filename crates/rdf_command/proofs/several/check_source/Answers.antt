@@ -13,7 +13,7 @@ returns g c = (
     fault = c.in-Err.stop.fault;
     status_is = c.status.ensures;
     stops = c.in-Err.ensures.stops;
-    kinds = c.in-Err.stop.expected;
+    details = c.in-Err.stop.details;
     expected = c.in-Err.ensures.expected;
     reported = c.tell_stop_of.ensures;
   }),
