@@ -1,4 +1,4 @@
-// Which kinds of tokens the readers name after an unexpected token, and runs beside their faults.
+// Which kind of token the readers find to be unexpected, and which they name in its place, and runs beside their faults.
 
 ghost use Rattle.std.specs.Prelude.{◌≡◌, ◌≤◌, false, length};
 
@@ -8,18 +8,19 @@ use rdf_driver::Kinds;
 use rdf_iri::Limits;
 use rdf_lines::LineForm;
 use rdf_stream::{
-    Form as Format, In, Job, Out, StreamFault, check_expecting, convert_expecting, explain,
+    Details, Form as Format, In, Job, Out, StreamFault, check_expecting, convert_expecting, explain,
 };
 use rdf_terms::{Kind, Reason};
 use rdf_trig::DocForm;
 use std::alloc::Global;
 
-/// A document with an unexpected token, its place, and the kinds that could stand there.
+/// A document with an unexpected token, its place and kind, and the kinds that could stand there.
 #[derive(Clone, Copy)]
 struct Row {
     form: Form,
     bytes: &'static [u8],
     offset: u64,
+    found: Kind,
     kinds: &'static [Kind],
 }
 
@@ -34,6 +35,7 @@ fn set_of(kinds: &[Kind]) -> Kinds {
 
 fn is_named(row: &Row, report: &Report) -> bool {
     report.expected.bits() == set_of(row.kinds).bits()
+        && report.found == Some(row.found)
         && match report.answer {
             Ok(_) => false,
             Err(fault) => fault.reason == Reason::Unexpected && fault.offset == row.offset,
@@ -65,18 +67,21 @@ static ROWS: [Row; 19] = [
         form: Form::Lines(LineForm::NTriples),
         bytes: b"<a:s> <a:p> <a:o> <a:g> .",
         offset: 18,
+        found: Kind::IriRef,
         kinds: &[Kind::Dot],
     },
     Row {
         form: Form::Lines(LineForm::NQuads),
         bytes: b"<a:s> <a:p> <a:o> \"g\" .",
         offset: 18,
+        found: Kind::ShortString,
         kinds: &[Kind::IriRef, Kind::LabelNode, Kind::Dot],
     },
     Row {
         form: Form::Lines(LineForm::NQuads),
         bytes: b"<a:s> <a:p> \"x\" \"g\" .",
         offset: 16,
+        found: Kind::ShortString,
         kinds: &[
             Kind::IriRef,
             Kind::LabelNode,
@@ -89,60 +94,70 @@ static ROWS: [Row; 19] = [
         form: Form::Lines(LineForm::NQuads),
         bytes: b"<a:s> <a:p> <a:o> <a:g> <a:g>",
         offset: 24,
+        found: Kind::IriRef,
         kinds: &[Kind::Dot],
     },
     Row {
         form: Form::Lines(LineForm::NTriples),
         bytes: b"<a:s> <a:p> \"x\"^^_:t .",
         offset: 17,
+        found: Kind::LabelNode,
         kinds: &[Kind::IriRef],
     },
     Row {
         form: Form::Lines(LineForm::NTriples),
         bytes: b"<a:s> _:p <a:o> .",
         offset: 6,
+        found: Kind::LabelNode,
         kinds: &[Kind::IriRef],
     },
     Row {
         form: Form::Lines(LineForm::NTriples),
         bytes: b"<a:s> <a:p> . ",
         offset: 12,
+        found: Kind::Dot,
         kinds: &[Kind::IriRef, Kind::LabelNode, Kind::ShortString],
     },
     Row {
         form: Form::Lines(LineForm::NTriples),
         bytes: b"<a:s> <a:p> <a:o> . <a:s>",
         offset: 20,
+        found: Kind::IriRef,
         kinds: &[Kind::LineEnd, Kind::End],
     },
     Row {
         form: Form::Lines(LineForm::NTriples),
         bytes: b"\"s\"",
         offset: 0,
+        found: Kind::ShortString,
         kinds: &[Kind::IriRef, Kind::LabelNode, Kind::LineEnd, Kind::End],
     },
     Row {
         form: Form::Statements(DocForm::Turtle),
         bytes: b"<a:s> <a:p> [ <a:q> 1 .",
         offset: 22,
+        found: Kind::Dot,
         kinds: &[Kind::Semicolon, Kind::Comma, Kind::CloseBracket],
     },
     Row {
         form: Form::Statements(DocForm::Turtle),
         bytes: b"<a:s> <a:p> <a:o> }",
         offset: 18,
+        found: Kind::CloseBrace,
         kinds: &[Kind::Dot, Kind::Semicolon, Kind::Comma],
     },
     Row {
         form: Form::Statements(DocForm::Turtle),
         bytes: b"<a:s> \"p\" 1 .",
         offset: 6,
+        found: Kind::ShortString,
         kinds: &[Kind::IriRef, Kind::A, Kind::PnameNs, Kind::PnameLn],
     },
     Row {
         form: Form::Statements(DocForm::TriG),
         bytes: b"<a:s> \"p\" 1 .",
         offset: 6,
+        found: Kind::ShortString,
         kinds: &[
             Kind::IriRef,
             Kind::A,
@@ -155,12 +170,14 @@ static ROWS: [Row; 19] = [
         form: Form::Statements(DocForm::TriG),
         bytes: b"GRAPH [ <a:s>",
         offset: 8,
+        found: Kind::IriRef,
         kinds: &[Kind::CloseBracket],
     },
     Row {
         form: Form::Statements(DocForm::TriG),
         bytes: b"<a:g> { <a:s> <a:p> \"x\" ]",
         offset: 24,
+        found: Kind::CloseBracket,
         kinds: &[
             Kind::LangTag,
             Kind::Carets,
@@ -176,6 +193,7 @@ static ROWS: [Row; 19] = [
         form: Form::Statements(DocForm::TriG),
         bytes: b"<a:s> <a:p> ( 1 . ",
         offset: 16,
+        found: Kind::Dot,
         kinds: &[
             Kind::IriRef,
             Kind::LabelNode,
@@ -197,12 +215,14 @@ static ROWS: [Row; 19] = [
         form: Form::Statements(DocForm::Turtle),
         bytes: b"@prefix <a:b> .",
         offset: 8,
+        found: Kind::IriRef,
         kinds: &[Kind::PnameNs],
     },
     Row {
         form: Form::Statements(DocForm::Turtle),
         bytes: b"[ <a:p> 1 ] , ",
         offset: 12,
+        found: Kind::Comma,
         kinds: &[
             Kind::IriRef,
             Kind::Dot,
@@ -215,6 +235,7 @@ static ROWS: [Row; 19] = [
         form: Form::Statements(DocForm::Turtle),
         bytes: b"<a:s> <a:p> 1",
         offset: 13,
+        found: Kind::End,
         kinds: &[Kind::Dot, Kind::Semicolon, Kind::Comma],
     },
 ];
@@ -246,10 +267,13 @@ fn format_of(form: Form) -> Format {
     }
 }
 
-/// The set that a check of the document hands out, and the one that a conversion does. Each comes with a set that has
-/// a kind.
-fn handed_out(alloc: Global, format: Format, bytes: &[u8]) -> Option<(Kinds, Kinds)> {
-    let mut checked = Kinds::none().with(Kind::Graph);
+/// What a check of the document hands out, and what a conversion does. Each comes with a kind that is expected, and one
+/// that was found.
+fn handed_out(alloc: Global, format: Format, bytes: &[u8]) -> Option<(Details, Details)> {
+    let mut checked = Details {
+        expected: Kinds::none().with(Kind::Graph),
+        found: Some(Kind::Graph),
+    };
     let mut converted = checked;
     let job = Job::new(format, None, Limits::default())?;
     let _ = check_expecting(alloc, job, &mut In::new(bytes), &mut checked);
@@ -261,11 +285,23 @@ fn handed_out(alloc: Global, format: Format, bytes: &[u8]) -> Option<(Kinds, Kin
     Some((checked, converted))
 }
 
-/// Whether both sets have these kinds and no others.
-fn hands_out(alloc: Global, format: Format, bytes: &[u8], kinds: &[Kind]) -> bool {
-    let bits = set_of(kinds).bits();
+/// Whether these kinds and no others are expected, and this one was found.
+fn has_details(details: &Details, kinds: &[Kind], found: Option<Kind>) -> bool {
+    details.expected.bits() == set_of(kinds).bits() && details.found == found
+}
+
+/// Whether both hand out these kinds and no others, and this one.
+fn hands_out(
+    alloc: Global,
+    format: Format,
+    bytes: &[u8],
+    kinds: &[Kind],
+    found: Option<Kind>,
+) -> bool {
     match handed_out(alloc, format, bytes) {
-        Some((checked, converted)) => checked.bits() == bits && converted.bits() == bits,
+        Some((checked, converted)) => {
+            has_details(&checked, kinds, found) && has_details(&converted, kinds, found)
+        }
         None => false,
     }
 }
@@ -274,7 +310,13 @@ fn hands_out(alloc: Global, format: Format, bytes: &[u8], kinds: &[Kind]) -> boo
 fn a_run_hands_out_the_kinds_that_could_stand_there(rt: HostRuntime) {
     for row in ROWS.as_slice() {
         assert!(rt;
-            hands_out(rt.alloc(), format_of(row.form), row.bytes, row.kinds),
+            hands_out(
+                rt.alloc(),
+                format_of(row.form),
+                row.bytes,
+                row.kinds,
+                Some(row.found)
+            ),
             "{}",
             row.offset
         );
@@ -288,7 +330,7 @@ static OTHERS: [&[u8]; 4] = [b"", b"<a:s> <a:p> <a:o> .", b"<a:s> <p> <a:o> .", 
 fn a_run_hands_out_no_kind_where_no_token_is_unexpected(rt: HostRuntime) {
     for bytes in OTHERS.as_slice() {
         assert!(rt;
-            hands_out(rt.alloc(), Format::Turtle, bytes, &[]),
+            hands_out(rt.alloc(), Format::Turtle, bytes, &[], None),
             "{bytes:?}"
         );
     }
@@ -305,38 +347,38 @@ static EXPLAINED: [Explained; 5] = [
     Explained {
         format: Format::NTriples,
         bytes: b"<a:s> <a:p> \"x\" <a:g> .",
-        line: "a:1: unexpected token; expected language tag, \"^^\" or \".\"\n",
+        line: "a:1: unexpected token: IRI; expected language tag, \"^^\" or \".\"\n",
     },
     Explained {
         format: Format::NQuads,
         bytes: b"\n\n<a:s> <a:p> <a:o> <a:g> <a:g>",
-        line: "a:3: unexpected token; expected \".\"\n",
+        line: "a:3: unexpected token: IRI; expected \".\"\n",
     },
     Explained {
         format: Format::NTriples,
         bytes: b"\"s\"",
-        line: "a:1: unexpected token; expected IRI, blank node label, line end or end of document\n",
+        line: "a:1: unexpected token: string; expected IRI, blank node label, line end or end of document\n",
     },
     Explained {
         format: Format::Turtle,
         bytes: b"@prefix <a:b> .",
-        line: "a:1: unexpected token; expected prefix\n",
+        line: "a:1: unexpected token: IRI; expected prefix\n",
     },
     Explained {
         format: Format::TriG,
         bytes: b"<a:s> <a:p> ( 1 . ",
-        line: "a:1: unexpected token; expected IRI, blank node label, string, number, \"true\", \"false\", prefixed name, \"[\", \"(\" or \")\"\n",
+        line: "a:1: unexpected token: \".\"; expected IRI, blank node label, string, number, \"true\", \"false\", prefixed name, \"[\", \"(\" or \")\"\n",
     },
 ];
 
 /// Whether a refusal of the document named `a` is explained by this line.
 fn is_explained(alloc: Global, format: Format, bytes: &[u8], line: &str) -> bool {
-    let mut expected = Kinds::none();
+    let mut details = Details::none();
     let Some(job) = Job::new(format, None, Limits::default()) else {
         return false;
     };
-    match check_expecting(alloc, job, &mut In::new(bytes), &mut expected) {
-        Err(StreamFault::Refused(fault)) => match explain(alloc, "a", &fault, expected) {
+    match check_expecting(alloc, job, &mut In::new(bytes), &mut details) {
+        Err(StreamFault::Refused(fault)) => match explain(alloc, "a", &fault, &details) {
             Ok(text) => text.as_slice() == line.as_bytes(),
             Err(_) => false,
         },

@@ -6,7 +6,7 @@ ghost use Rattle.std.specs.Prelude.{◌≡◌, Bool, true, false, OnOk, OnErr};
 use rdf_driver::{Fault, Kinds, Summary};
 use rdf_iri::Limits;
 use rdf_lines::{LineForm, LineReader};
-use rdf_terms::{QuadSink, Reason};
+use rdf_terms::{Kind, QuadSink, Reason};
 use rdf_trig::{DocForm, Options, TrigReader};
 use std::alloc::Allocator;
 
@@ -39,6 +39,8 @@ pub struct Report {
     pub held: u64,
     /// The kinds of which a token could come next then.
     pub expected: Kinds,
+    /// The kind of the token that is refused, if it is unexpected.
+    pub found: Option<Kind>,
     /// Whether the calls after the last one report that reading has ended.
     pub has_ended: bool,
 }
@@ -70,6 +72,8 @@ trait PieceReader {
     fn held(&self) -> u64;
 
     fn expected(&self) -> Kinds;
+
+    fn found(&self) -> Option<Kind>;
 }
 
 impl<A: Allocator + Copy> PieceReader for LineReader<A> {
@@ -90,6 +94,10 @@ impl<A: Allocator + Copy> PieceReader for LineReader<A> {
     fn expected(&self) -> Kinds {
         self.expected()
     }
+
+    fn found(&self) -> Option<Kind> {
+        self.found()
+    }
 }
 
 impl<A: Allocator + Copy> PieceReader for TrigReader<A> {
@@ -109,6 +117,10 @@ impl<A: Allocator + Copy> PieceReader for TrigReader<A> {
 
     fn expected(&self) -> Kinds {
         self.expected()
+    }
+
+    fn found(&self) -> Option<Kind> {
+        self.found()
     }
 }
 
@@ -181,12 +193,14 @@ fn report_on<R: PieceReader, S: QuadSink>(
     let held = reader.held();
     let answer = finish_fed(reader, fed, sink);
     let expected = reader.expected();
+    let found = reader.found();
     let fed = reader.feed(MORE, sink).err();
     let finished = reader.finish(sink).err();
     Report {
         answer,
         held,
         expected,
+        found,
         has_ended: is_ended(fed) && is_ended(finished),
     }
 }
