@@ -42,5 +42,5 @@ git commit -q --no-verify -m 'bad'
 if bash workflow.sh >"$room/said" 2>&1; then exit 1; fi
 grep -qx 'a b/bad one.ttl:2: unbound prefix' "$room/said"
 grep -qx '::error file=a b/bad one.ttl,line=2::unbound prefix' "$room/said"
-grep -qx '::error file=open.ttl,line=1::unexpected token; expected ".", ";" or ","' "$room/said"
+grep -qx '::error file=open.ttl,line=1::unexpected token: IRI; expected ".", ";" or ","' "$room/said"
 echo 'hook and workflow: as they should'
