@@ -14,7 +14,7 @@ use Rattle.std.proofs.lemmas.Str.{encodes-append, chars-encodes, encodes-chars}
 use Rattle.std.proofs.lemmas.Bool.{false≢true, false_from_ne_true, eqb-true}
 use Rattle.rdf_tokens.specs.Good.{good, has_byte_order_mark, most_bytes}
 use Rattle.rdf_tokens.proofs.GoodLemmas.{good_front}
-use Rattle.rdf_tokens.proofs.LawLemmas.{places}
+use Rattle.rdf_tokens.proofs.RefusalPlaces as places
 use Rattle.rdf_tokens.proofs.PlaceLemmas.{feeds-append}
 use Rattle.rdf_tokens.proofs.PastGood.{good_past}
 use Rattle.rdf_driver.specs.declared.summary.Summary.{Summary}
@@ -395,41 +395,13 @@ refused_for job form limit iri same first bytes f old new n h = let r = subst (�
     by DocumentTooLong h = (h.0, h.1)
     by r h = (h.0, h.1)
 
--- a token of a list
-all_at : (P : Token → Type 0) (ahead later all : List Token) (t : Token) → all ≡ ahead ++ t ∷ later → All P all → P t
-all_at P ahead later all t e h = at ahead (subst (All P) e h)
-  where
-    at : (ahead : List Token) → All P (ahead ++ t ∷ later) → P t
-    at [] h = All-head P t later h
-    at (x ∷ ahead) h = at ahead (All-tail P x (ahead ++ t ∷ later) h)
-
--- a document that is too long has its place in the bytes
-too_long_place : (bytes : List ℕ) (at : Place) → IsTooLong bytes at → IsPlaceIn bytes at
-too_long_place bytes at x =
-    let size : length (take most_bytes bytes) ≡ most_bytes = length-take-le most_bytes bytes (omega arith) in
-    let same : take (length (take most_bytes bytes)) bytes ≡ take most_bytes bytes = ap (λ n. take n bytes) size in
-    subst (IsPlaceIn bytes) (sym x.1) (record { within = omega arith; line = ap (λ w. 1 + count_by (λ b. b == 10) w) (sym same) })
-
 -- A refusal has its place in the bytes.
 pub refused_place : (l : Language) (bytes : List ℕ) (why : Reason) (at : Place) → IsRefusedFor why l bytes true at → IsPlaceIn bytes at
 refused_place l bytes why at h = by why h
   where
-    stop : (ahead : List Token) (o : Outcome) → StopsAt l (reading_of l bytes true) o at ahead → IsPlaceIn bytes at
-    stop ahead o s = subst (IsPlaceIn bytes) s.place (places l.dialect l.limit bytes true).1
-
-    token : (ahead later : List Token) (t : Token) → (reading_of l bytes true).tokens ≡ ahead ++ t ∷ later → t.at ≡ at → IsPlaceIn bytes at
-    token ahead later t s p = subst (IsPlaceIn bytes) p (all_at (StandsIn bytes) ahead later (reading_of l bytes true).tokens t s (places l.dialect l.limit bytes true).0).place
-
     by : (why : Reason) → IsRefusedFor why l bytes true at → IsPlaceIn bytes at
-    by BadUtf8 (ahead, s) = stop ahead _ s
-    by NoToken (ahead, s) = stop ahead _ s
-    by BadEscape (ahead, s) = stop ahead _ s
-    by TokenTooLong (ahead, s) = stop ahead _ s
-    by DocumentTooLong x = too_long_place bytes at x.0
-    by Memory (ahead, s) = absurd s
-    by Ended (ahead, s) = absurd s
-    by Sink (ahead, s) = absurd s
-    by why (ahead, s) = token ahead s.after s.token s.tokens s.place
+    by DocumentTooLong x = places.too_long_place bytes at x.0
+    by why x = places.refused_place l bytes true why at x
 
 -- What is converted is a good line.
 pub converted_good : (form : LineForm) (limit iri : ℕ) (f : Form) (g : Option (List ℕ)) (first : Bool) (bytes old new : List ℕ) (s : Summary) → old ≡ [] → (first ≡ false → HasNoMark bytes) →

@@ -47,6 +47,7 @@ pub mod NextLemmas
 mod RoomLemmas
 pub mod Inside
 pub mod LawLemmas
+pub mod RefusalPlaces
 pub mod PassingLemmas
 pub mod OutcomeLemmas
 pub mod OpenText
