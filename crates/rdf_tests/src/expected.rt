@@ -267,14 +267,18 @@ fn format_of(form: Form) -> Format {
     }
 }
 
-/// What a check of the document hands out, and what a conversion does. Each comes with a kind that is expected, and one
-/// that was found.
-fn handed_out(alloc: Global, format: Format, bytes: &[u8]) -> Option<(Details, Details)> {
-    let mut checked = Details {
+/// A kind that is expected, and one that was found.
+fn some_details() -> Details {
+    Details {
         expected: Kinds::none().with(Kind::Graph),
         found: Some(Kind::Graph),
-    };
-    let mut converted = checked;
+    }
+}
+
+/// What a check of the document hands out, and what a conversion does. Both come with details that are dropped.
+fn handed_out(alloc: Global, format: Format, bytes: &[u8]) -> Option<(Details, Details)> {
+    let mut checked = some_details();
+    let mut converted = some_details();
     let job = Job::new(format, None, Limits::default())?;
     let _ = check_expecting(alloc, job, &mut In::new(bytes), &mut checked);
     let job = Job::new(format, None, Limits::default())?;
