@@ -19,7 +19,7 @@ use crate::line_out::{LineOut, stop};
 use crate::output::OutputView;
 use crate::parts::{Parts, take_parts};
 use crate::passes::Passes;
-use crate::pieces::{Run, piece_buffer, read_pieces, read_whole};
+use crate::pieces::{Run, piece_buffer, read_bytes, read_pieces};
 use rdf_driver::{QuadGrammar, Reader, Summary};
 use rdf_lines::{LineBuffer, LineEnding, Style, line_reader};
 use rdf_trig::tree_reader;
@@ -156,7 +156,7 @@ pub(crate) fn convert_whole<A: Allocator + Copy, G: Passes<A>, D: Drain>(
     let mut reader = reader;
     let mut buffer = LineBuffer::new(alloc);
     let mut lines = LineOut::new(output, &mut buffer, drain);
-    read_whole(bytes, &mut reader, &mut lines)
+    read_bytes(bytes, &mut reader, &mut lines)
 }
 
 impl<'a, A: Allocator + Copy, G: QuadGrammar + Passes<A>, D: Drain> Run<LineOut<'a, D, A>>

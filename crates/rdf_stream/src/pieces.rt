@@ -82,7 +82,7 @@ pub(crate) fn read_pieces<S: Source, L, R: Run<L>>(
 }
 
 /// Reads bytes that are all that there are.
-pub(crate) fn read_whole<L, R: Run<L>>(
+pub(crate) fn read_bytes<L, R: Run<L>>(
     bytes: &[u8],
     run: &mut R,
     out: &mut L,

@@ -4,8 +4,8 @@ use Rattle.rdf_stream.proofs.ConvertsLemmas.{begins, begun_fresh, converted, ove
 use Rattle.rdf_stream.proofs.PiecesLemmas.{if_err, if_ok}
 use Rattle.rdf_stream.proofs.conversions.convert_whole.Goals as goal
 
-pub read_whole-requires : goal.read_whole-requires
-read_whole-requires g c = record {
+pub read_bytes-requires : goal.read_bytes-requires
+read_bytes-requires g c = record {
   begun =
       begins _ g.D.Drain.contents g.D.Drain.has_failed g.D.Drain.is_flushed g.G.Grammar.words g.G.Passes.style c.requires.starts.0 (c.args.reader, c.new-lines.result)
       (begun_fresh _ g.D.Drain.contents g.D.Drain.has_failed g.D.Drain.is_flushed g.G.Grammar.words g.G.Passes.style _ (output_of c.args.output) (c.args.reader, c.new-lines.result) _
@@ -15,20 +15,20 @@ read_whole-requires g c = record {
 
 pub returns-clause-accepted : goal.returns-clause-accepted
 returns-clause-accepted g c =
-    if_ok c.read_whole.result _ _
+    if_ok c.read_bytes.result _ _
     (λ s a x b.
     converted _ g.D.Drain.contents g.D.Drain.has_failed g.D.Drain.is_flushed g.G.Grammar.words g.G.Passes.style x (output_of c.args.output) (c.args.reader, c.new-lines.result)
-    (c.read_whole.new.run, c.read_whole.new.out) _ _
+    (c.read_bytes.new.run, c.read_bytes.new.out) _ _
     (over_empty _ _ _ _ _ c.new-lines.ensures.form c.new-lines.ensures.buffer c.new-buffer.ensures c.new-lines.ensures.drain c.requires.drain) (search rules) b _ _ s a)
-    c.read_whole.ensures.read
+    c.read_bytes.ensures.read
 
 pub returns-clause-stops : goal.returns-clause-stops
 returns-clause-stops g c =
-    if_err c.read_whole.result _ _
+    if_err c.read_bytes.result _ _
     (λ reported a x b. (
       a.0,
       stopped _ g.D.Drain.contents g.D.Drain.has_failed g.D.Drain.is_flushed g.G.Grammar.words g.G.Passes.style x (output_of c.args.output) (c.args.reader, c.new-lines.result)
-          (c.read_whole.new.run, c.read_whole.new.out) _ _
+          (c.read_bytes.new.run, c.read_bytes.new.out) _ _
           (over_empty _ _ _ _ _ c.new-lines.ensures.form c.new-lines.ensures.buffer c.new-buffer.ensures c.new-lines.ensures.drain c.requires.drain) (search rules) b _ _ reported a.1,
     ))
-    c.read_whole.ensures.stops
+    c.read_bytes.ensures.stops

@@ -1,6 +1,6 @@
 use Rattle.std.proofs.Common.{[], false, true}
 use Rattle.rdf_stream.proofs.PiecesLemmas.{if_err, whole_stops}
-use Rattle.rdf_stream.proofs.pieces.read_whole.Goals as goal
+use Rattle.rdf_stream.proofs.pieces.read_bytes.Goals as goal
 
 pub end-requires : goal.end-requires
 end-requires g c = record { begun = ((c.args.run.now, c.args.out.now), c.args.bytes.now, c.in-Ok.ensures.takes _ [] c.requires.begun) }

@@ -1,0 +1,53 @@
+-- What a call tells of an unexpected token.
+use Rattle.std.specs.Prelude.{◌≡◌, ◌≢◌, ℕ, true, false, List, [], Option, None, Some}
+use Rattle.rdf_terms.specs.declared.kind.Kind.{Kind}
+use Rattle.rdf_terms.specs.declared.reason.Reason.{Reason}
+use Rattle.rdf_terms.specs.declared.reason.Reason.TheVariants.{Unexpected as UnexpectedToken}
+use Rattle.rdf_driver.specs.Kinds.{has}
+use Rattle.rdf_tokens.specs.Tokens.{Place}
+use Rattle.rdf_stream.specs.declared.expected.Details.{Details}
+use Rattle.rdf_stream.specs.declared.fault.StreamFault.{StreamFault}
+use Rattle.rdf_stream.specs.declared.fault.StreamFault.TheVariants.{Refused}
+use Rattle.rdf_stream.specs.Expected.{CouldStand, NoDetails, trees_of}
+use Rattle.rdf_stream.specs.Jobs.{JobRead}
+use Rattle.rdf_stream.specs.Languages.{language_of}
+use Rattle.rdf_tokens.specs.Scans.{place_of}
+use Rattle.rdf_c.specs.Calls.{AsksFor}
+use Rattle.rdf_c.specs.Numbers.{number_of_reason}
+use Rattle.rdf_c.specs.declared.kinds.Unexpected.{Unexpected}
+use Rattle.rdf_c.specs.declared.outcome.Outcome.{Outcome}
+use Rattle.rdf_c.specs.declared.request.Request.{Request}
+
+-- the bits of a kind alone, or of none
+abbrev pub IsMaskOf : ℕ → Option Kind → Type 0
+IsMaskOf bits None = (k : Kind) → has bits k ≡ false
+IsMaskOf bits (Some kind) = (has bits kind ≡ true) × ((k : Kind) → k ≢ kind → has bits k ≡ false)
+
+-- of a refusal of the job's document: what is known of an unexpected token
+abbrev pub TellsOf : Reason → JobRead → List ℕ → Place → Details → Type 0
+TellsOf UnexpectedToken job input at details = CouldStand (language_of job) (trees_of job) input true at details
+TellsOf reason job input at details = NoDetails details
+
+-- what is told beside the outcome of a check of the job: nothing but of a refused document
+pub record HasTold (job : JobRead) (input : List ℕ) (o : Outcome) (details : Details) : Type 0 where
+  pub refused : o.status ≡ 1 → (reason : Reason) × (o.reason ≡ number_of_reason reason) × TellsOf reason job input (record { offset = o.offset; line = o.line }) details
+  pub others : o.status ≢ 1 → NoDetails details
+
+-- the same beside that of a call
+pub record HasToldFor (request : Request) (base_text prefixes input : List ℕ) (o : Outcome) (details : Details) : Type 0 where
+  pub refused : o.status ≡ 1 → (job : JobRead) × AsksFor request base_text prefixes [] job × HasTold job input o details
+  pub others : o.status ≢ 1 → NoDetails details
+
+-- and as the bits of a call
+pub record HasExpected (request : Request) (base_text prefixes input : List ℕ) (o : Outcome) (u : Unexpected) : Type 0 where
+  pub details : Details
+  pub told : HasToldFor request base_text prefixes input o details
+  pub expected : u.expected ≡ details.expected
+  pub found : IsMaskOf u.found details.found
+
+-- ---- within a call
+
+-- what is handed out beside a fault
+abbrev pub TellsFor : StreamFault → JobRead → List ℕ → Details → Type 0
+TellsFor (Refused f) job input details = TellsOf f.reason job input (place_of f) details
+TellsFor fault job input details = NoDetails details
