@@ -72,7 +72,9 @@ put 644 "$parts/librdfconv.a" usr/lib/x86_64-linux-gnu/librdfconv.a
 sed "s/@VERSION@/$RDFCONV_VERSION/" packaging/debian/rdfconv.pc >"$work/rdfconv.pc"
 put 644 "$work/rdfconv.pc" usr/lib/x86_64-linux-gnu/pkgconfig/rdfconv.pc
 put_packed "$tree/docs/rdfconv_convert.3" usr/share/man/man3/rdfconv_convert.3.gz
-ln -s rdfconv_convert.3.gz "$root/usr/share/man/man3/rdfconv_check.3.gz"
+for call in rdfconv_check rdfconv_check_expecting; do
+    ln -s rdfconv_convert.3.gz "$root/usr/share/man/man3/$call.3.gz"
+done
 put 644 "$tree/examples/library/convert.c" usr/share/doc/librdfconv-dev/examples/convert.c
 put 644 "$tree/examples/library/convert.cc" usr/share/doc/librdfconv-dev/examples/convert.cc
 finish libdevel "Recommends: libc6-dev, pkg-config"

@@ -75,6 +75,12 @@ REFUSED = [
 ]
 
 
+# Documents that are refused for an unexpected token, each with its format.
+UNEXPECTED = [('nt', '<a:s> <a:p> <a:o>\n'), ('nt', '<a:s> .'), ('nt', '"a"'), ('nt', '<a:s> <a:p> "a"@en ^^'), ('nq', '<a:s> <a:p> <a:o> "a" .'),
+              ('ttl', '<a:s> <a:p> [ <a:q> 1 .'), ('ttl', '@prefix 1 .'), ('ttl', '( ] .'), ('ttl', 'a'),
+              ('trig', '<a:g> { <a:s> <a:p> 1 } }'), ('trig', 'GRAPH .'), ('trig', '{ 1')]
+
+
 def by_program(program, action, case, name, prefixes):
     format, base, named, (ascii, word) = case
     words = [program, action, '--format', format, *(['--base', base] if base else []), *(['--prefixes', prefixes] if named != '-' else []),
@@ -187,12 +193,30 @@ def compare_arguments(counts):
     counts.expect('a document of 64 MB is read where it stands', more < 32 << 10)
 
 
+def compare_kinds(counts, program):
+    """Of an unexpected token its kind, and the kinds of which one could have stood there, beside the program's words."""
+    for format, document in UNEXPECTED:
+        words = [program, 'check', '--format', format, '--explain']
+        said = subprocess.run(words, input=document.encode(), capture_output=True).stderr.decode().splitlines()[-1]
+        for call in rdfconv.check, rdfconv.convert:
+            try:
+                call(document, format)
+                told = 'accepted'
+            except rdfconv.Refused as refused:
+                left_out = ({'"@prefix"', '"@base"'} if 'language tag' in refused.expected else set()) | ({'prefix'} if 'prefixed name' in refused.expected else set())
+                *others, last = [name for name in refused.expected if name not in left_out]
+                told = f'-:{refused.line}: {refused.reason}: {refused.found}; expected {", ".join(others)}{" or " if others else ""}{last}'
+            counts.expect(f'{call.__name__} of {document!r}, {told} beside {said}', told == said)
+
+
 def compare_shown(counts, room):
-    """What the header says is what the module has, the header gives the library no NULL, and the library exports the two calls alone."""
+    """What the header says is what the module has, the header gives the library no NULL, and the library exports the three calls alone."""
     with open(f'{HERE}/rdfconv.h') as file:
         header = file.read()
     reasons = re.search(r'RDFCONV_REASONS \{(.*?)\}', header, re.S)[1]
     counts.expect('reasons of header and module', re.findall('"(.*?)"', reasons) == rdfconv.REASONS)
+    kinds = re.search(r'RDFCONV_KINDS \{(.*?) \}\n', header, re.S)[1]
+    counts.expect('kinds of header and module', [name.replace('\\"', '"') for name in re.findall(r'"((?:\\"|[^"])*)"', kinds)] == rdfconv.KINDS)
     limits = {name: (int(least), int(most)) for name, least, most in re.findall(r'uint64_t (\w+); +/\* .*, (\d+) to (\d+) \*/', header)}
     counts.expect('limits of header and module', limits == rdfconv.LIMITS)
     asked = re.search(r'RDFCONV_REQUEST\(format\) \{ \(format\), (.*) \}', header)[1].split(', ')
@@ -204,7 +228,7 @@ def compare_shown(counts, room):
         built = subprocess.run(words).returncode == 0
         counts.expect(f'{" ".join(compiler)}: no warning, and no NULL', built and subprocess.run([f'{room}/nulls']).returncode == 0)
     names = subprocess.run(['nm', '-D', '--defined-only', f'{HERE}/librdfconv.so'], capture_output=True, text=True).stdout.split()[2::3]
-    counts.expect(f'librdfconv.so exports {", ".join(names)}', sorted(names) == ['rdfconv_check', 'rdfconv_convert'])
+    counts.expect(f'librdfconv.so exports {", ".join(names)}', sorted(names) == ['rdfconv_check', 'rdfconv_check_expecting', 'rdfconv_convert'])
     shutil.copy(f'{HERE}/rdfconv.py', room)
     told = subprocess.run([sys.executable, '-c', 'import rdfconv'], cwd=room, capture_output=True, text=True)
     said = f'ImportError: {os.path.realpath(room)}/librdfconv.so is missing. To make it, run {os.path.realpath(room)}/build.sh\n'
@@ -220,6 +244,7 @@ def main(program, files):
         compare_runs(counts, program, files + [f'{room}/{name}' for name in MADE], room)
         compare_failures(counts, program, room)
         compare_arguments(counts)
+        compare_kinds(counts, program)
         compare_shown(counts, room)
     print(f'{counts.runs} runs over {len(files) + len(MADE)} documents, and {counts.others} other comparisons: {counts.differ} differ')
     return counts.differ != 0

@@ -49,6 +49,16 @@ typedef struct {
     "ended", "unexpected token", "relative IRI", "IRI too long", "write failed", "unbound prefix", "no base", "too deep", \
     "too many bindings", "bad binding" }
 
+/* what is known of an unexpected token (its reason is 8): sets of kinds, of which RDFCONV_KINDS has the names, that of the lowest bit first */
+typedef struct {
+    uint64_t found;           /* its kind alone, or 0 where no token was unexpected */
+    uint64_t expected;        /* the kinds of which a token could have stood in its place, whatever it spells; limits, prefixes and bases aside */
+} rdfconv_unexpected;
+
+#define RDFCONV_KINDS { "IRI", "blank node label", "string", "string", "language tag", "\"^^\"", "\".\"", "line end", "number", \
+    "number", "number", "\"true\"", "\"false\"", "\"a\"", "\"@prefix\"", "\"@base\"", "\"PREFIX\"", "\"BASE\"", "\"GRAPH\"", \
+    "prefix", "prefixed name", "\";\"", "\",\"", "\"[\"", "\"]\"", "\"(\"", "\")\"", "\"{\"", "\"}\"", "end of document" }
+
 #ifdef __cplusplus
 extern "C" {
 #endif
@@ -66,12 +76,17 @@ void rdfconv_convert(const rdfconv_request *request, const uint8_t *base, size_t
 void rdfconv_check(const rdfconv_request *request, const uint8_t *base, size_t base_len, const uint8_t *prefixes,
                    size_t prefixes_len, const uint8_t *input, size_t input_len, rdfconv_outcome *outcome);
 
+/* What rdfconv_check does, and what is known of an unexpected token, which is not NULL and overlaps nothing else. */
+void rdfconv_check_expecting(const rdfconv_request *request, const uint8_t *base, size_t base_len, const uint8_t *prefixes,
+                             size_t prefixes_len, const uint8_t *input, size_t input_len, rdfconv_outcome *outcome,
+                             rdfconv_unexpected *unexpected);
+
 #ifdef __cplusplus
 }
 #endif
 
 /* The library itself, as whoever finds its calls by name has them (dlsym, ctypes, another language), takes no NULL: there a slice of length
-   0 needs the address of some byte. Here the two names stand for these functions, which give it that. */
+   0 needs the address of some byte. Here the three names stand for these functions, which give it that. */
 static inline void rdfconv_convert_slices(const rdfconv_request *request, const uint8_t *base, size_t base_len, const uint8_t *prefixes,
                                           size_t prefixes_len, const uint8_t *word, size_t word_len, const uint8_t *input,
                                           size_t input_len, uint8_t *output, size_t output_len, rdfconv_outcome *outcome) {
@@ -87,7 +102,16 @@ static inline void rdfconv_check_slices(const rdfconv_request *request, const ui
                   input_len, outcome);
 }
 
+static inline void rdfconv_check_expecting_slices(const rdfconv_request *request, const uint8_t *base, size_t base_len,
+                                                  const uint8_t *prefixes, size_t prefixes_len, const uint8_t *input, size_t input_len,
+                                                  rdfconv_outcome *outcome, rdfconv_unexpected *unexpected) {
+    uint8_t none = 0;
+    rdfconv_check_expecting(request, base_len ? base : &none, base_len, prefixes_len ? prefixes : &none, prefixes_len,
+                            input_len ? input : &none, input_len, outcome, unexpected);
+}
+
 #define rdfconv_convert rdfconv_convert_slices
 #define rdfconv_check rdfconv_check_slices
+#define rdfconv_check_expecting rdfconv_check_expecting_slices
 
 #endif

@@ -18,6 +18,9 @@ FORMATS = {'nt': 0, 'nq': 1, 'ttl': 2, 'trig': 3}
 LIMITS = {'token': (1, 268435456), 'depth': (0, 1048576), 'bindings': (0, 16777216), 'iri': (1, 268435456)}
 REASONS = ['', 'bad UTF-8', 'no token', 'bad escape', 'token too long', 'document too long', 'out of memory', 'ended', 'unexpected token',
            'relative IRI', 'IRI too long', 'write failed', 'unbound prefix', 'no base', 'too deep', 'too many bindings', 'bad binding']
+KINDS = ['IRI', 'blank node label', 'string', 'string', 'language tag', '"^^"', '"."', 'line end', 'number', 'number',
+         'number', '"true"', '"false"', '"a"', '"@prefix"', '"@base"', '"PREFIX"', '"BASE"', '"GRAPH"', 'prefix', 'prefixed name',
+         '";"', '","', '"["', '"]"', '"("', '")"', '"{"', '"}"', 'end of document']
 
 
 class Request(ctypes.Structure):
@@ -29,6 +32,10 @@ class Outcome(ctypes.Structure):
                 ('status', 'reason', 'offset', 'line', 'quads', 'tokens', 'bytes', 'needed', 'written')]
 
 
+class Unexpected(ctypes.Structure):
+    _fields_ = [(name, ctypes.c_uint64) for name in ('found', 'expected')]
+
+
 class Buffer(ctypes.Structure):
     """Python's Py_buffer: where the bytes of an object stand."""
     _fields_ = [('address', ctypes.c_void_p), ('object', ctypes.c_void_p), ('length', ctypes.c_ssize_t), ('itemsize', ctypes.c_ssize_t),
@@ -37,14 +44,15 @@ class Buffer(ctypes.Structure):
 
 
 class Refused(Exception):
-    """A document that is refused: the reason, the byte from 0, its line from 1, and the lines of the quads before that place."""
+    """A document that is refused: the reason, the byte from 0, its line from 1, and the lines of the quads before that place; of an
+    unexpected token its kind, and the kinds of which one could have stood there (else None and none)."""
 
-    def __init__(self, reason, offset, line, lines):
+    def __init__(self, reason, offset, line, lines, found=None, expected=()):
         super().__init__(f'{reason} at byte {offset}, line {line}')
-        self.reason, self.offset, self.line, self.lines = reason, offset, line, lines
+        self.reason, self.offset, self.line, self.lines, self.found, self.expected = reason, offset, line, lines, found, expected
 
     def __reduce__(self):
-        return Refused, (self.reason, self.offset, self.line, self.lines)
+        return Refused, (self.reason, self.offset, self.line, self.lines, self.found, self.expected)
 
 
 class BadPrefixes(Exception):
@@ -68,7 +76,8 @@ def load(path):
     slices = [ctypes.c_void_p, ctypes.c_size_t]
     library.rdfconv_convert.argtypes = [ctypes.POINTER(Request), *slices * 5, ctypes.POINTER(Outcome)]
     library.rdfconv_check.argtypes = [ctypes.POINTER(Request), *slices * 3, ctypes.POINTER(Outcome)]
-    library.rdfconv_convert.restype = library.rdfconv_check.restype = None
+    library.rdfconv_check_expecting.argtypes = [*library.rdfconv_check.argtypes, ctypes.POINTER(Unexpected)]
+    library.rdfconv_convert.restype = library.rdfconv_check.restype = library.rdfconv_check_expecting.restype = None
     return library
 
 
@@ -156,9 +165,15 @@ def word_of(value):
     return word
 
 
-def end(outcome, base, lines):
+def kinds_of(bits):
+    """The names of the kinds in a set, each once, in their order."""
+    return tuple(dict.fromkeys(name for bit, name in enumerate(KINDS) if bits >> bit & 1))
+
+
+def end(outcome, base, lines, unexpected):
     if outcome.status == 1:
-        raise Refused(REASONS[outcome.reason], outcome.offset, outcome.line, lines)
+        found = kinds_of(unexpected.found)
+        raise Refused(REASONS[outcome.reason], outcome.offset, outcome.line, lines, found[0] if found else None, kinds_of(unexpected.expected))
     if outcome.status == 2:  # all else that has no job was looked at before
         raise ValueError(f'base is {base!r:.99}, which is no IRI')
     if outcome.status == 4:
@@ -179,15 +194,17 @@ def convert(document, format='trig', base='', prefixes='', word='', *, token=1 <
             if outcome.needed <= room:
                 break
             room = outcome.needed
-    lines = ctypes.string_at(output, outcome.written)
-    end(outcome, base, lines)
+        lines, unexpected = ctypes.string_at(output, outcome.written), Unexpected()
+        if outcome.status == 1:
+            library.rdfconv_check_expecting(asked, *slices[:4], *slices[6:], Outcome(), unexpected)
+    end(outcome, base, lines, unexpected)
     return lines
 
 
 def check(document, format='trig', base='', prefixes='', *, token=1 << 24, depth=1 << 10, bindings=1 << 16, iri=1 << 20, ascii=False):
     """How many quads, tokens and bytes an accepted document has."""
-    asked, outcome = request_of(format, token, depth, bindings, iri, ascii), Outcome()
+    asked, outcome, unexpected = request_of(format, token, depth, bindings, iri, ascii), Outcome(), Unexpected()
     with slices_of(base_of(base, iri), prefixes_of(prefixes), bytes_of('document', document)) as slices:
-        library.rdfconv_check(asked, *slices, outcome)
-    end(outcome, base, b'')
+        library.rdfconv_check_expecting(asked, *slices, outcome, unexpected)
+    end(outcome, base, b'', unexpected)
     return outcome.quads, outcome.tokens, outcome.bytes

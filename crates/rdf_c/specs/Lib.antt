@@ -1,3 +1,4 @@
 -- what has to be believed
 pub mod Numbers
 pub mod Calls
+pub mod Kinds

@@ -1,6 +1,7 @@
 //! The converter for C: a document in memory is read, and the lines of its quads are written to memory.
 #![tactic(auto)]
 
+mod kinds;
 mod memory;
 mod outcome;
 mod request;
@@ -8,11 +9,15 @@ mod runs;
 
 ghost use Rattle.std.specs.Prelude.{◌≡◌, length};
 ghost use Rattle.rdf_c.specs.Calls.{HasChecked, HasConverted};
+ghost use Rattle.rdf_c.specs.Kinds.{HasExpected, HasToldFor};
+ghost use Rattle.rdf_stream.specs.Expected.{NoDetails};
 
+pub use crate::kinds::Unexpected;
 pub use crate::outcome::Outcome;
 pub use crate::request::Request;
 use crate::request::{JobFault, job_of};
 use crate::runs::{check_bytes, convert_bytes};
+use rdf_stream::Details;
 use std::alloc::Global;
 
 /// Reads the document, and writes the lines of its quads to the front of the output, as many bytes as there is room for; the
@@ -55,10 +60,47 @@ pub extern "C" fn rdfconv_check(
 )
     ensures outcome { HasChecked request.now base.now prefixes.now input.now outcome.new }
 {
-    *outcome = match job_of(alloc, request, base, prefixes, &[]) {
-        Ok(job) => check_bytes(alloc, job, input),
+    let mut details = Details::none();
+    *outcome = check_for(alloc, request, base, prefixes, input, &mut details);
+}
+
+/// What `rdfconv_check` does; and of a document that is refused for an unexpected token the token's kind, and the kinds of tokens that
+/// could have stood in its place. Else both sets are empty.
+#[unsafe(no_mangle)]
+pub extern "C" fn rdfconv_check_expecting(
+    alloc: Global,
+    request: &Request,
+    base: &[u8],
+    prefixes: &[u8],
+    input: &[u8],
+    outcome: &mut Outcome,
+    unexpected: &mut Unexpected,
+)
+    ensures outcome { HasChecked request.now base.now prefixes.now input.now outcome.new }
+    ensures unexpected { HasExpected request.now base.now prefixes.now input.now outcome.new unexpected.new }
+{
+    let mut details = Details::none();
+    *outcome = check_for(alloc, request, base, prefixes, input, &mut details);
+    *unexpected = Unexpected::of(details);
+}
+
+// Checks a document, and tells what is known of an unexpected token.
+fn check_for(
+    alloc: Global,
+    request: &Request,
+    base: &[u8],
+    prefixes: &[u8],
+    input: &[u8],
+    details: &mut Details,
+) -> Outcome
+    requires none { NoDetails details.old }
+    ensures outcome { HasChecked request.now base.now prefixes.now input.now result }
+    ensures told { HasToldFor request.now base.now prefixes.now input.now result details.new }
+{
+    match job_of(alloc, request, base, prefixes, &[]) {
+        Ok(job) => check_bytes(alloc, job, input, details),
         Err(JobFault::NoJob) => Outcome::of_status(2),
         Err(JobFault::Prefixes(fault)) => Outcome::of_prefixes(fault),
         Err(JobFault::Memory) => Outcome::of_status(4),
-    };
+    }
 }

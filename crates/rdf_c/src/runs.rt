@@ -1,15 +1,17 @@
 // Runs over memory.
 
-ghost use Rattle.std.specs.Prelude.{◌≡◌, ◌++◌, [], Some, false, length, take, drop, min, IfOk, IfErr};
+ghost use Rattle.std.specs.Prelude.{◌≡◌, ◌++◌, [], Some, false, length, take, drop, min, OnOk, IfOk, IfErr};
 ghost use Rattle.rdf_stream.specs.Converts.{Accepts};
 ghost use Rattle.rdf_stream.specs.Checks.{IsAccepted};
 ghost use Rattle.rdf_stream.specs.Languages.{conversion_of, language_of};
 ghost use Rattle.rdf_c.specs.Numbers.{accepted_with, refused_with};
+ghost use Rattle.rdf_c.specs.Kinds.{HasTold, TellsFor};
+ghost use Rattle.rdf_stream.specs.Expected.{NoDetails};
 ghost use Rattle.rdf_c.specs.Calls.{Checks, Converts, CheckStopped, Stopped};
 
 use crate::memory::{Bytes, Lines};
 use crate::outcome::{Outcome, number_of};
-use rdf_stream::{Fault, Job, StreamFault, Summary, check, convert};
+use rdf_stream::{Details, Fault, Job, StreamFault, Summary, check_expecting, convert};
 use std::alloc::Global;
 
 /// Converts the bytes.
@@ -94,21 +96,32 @@ fn copy_front(lines: &[u8], output: &mut [u8]) -> usize
     count
 }
 
-/// Checks the bytes.
-pub(crate) fn check_bytes(alloc: Global, job: Job, input: &[u8]) -> Outcome
+/// Checks the bytes, and tells what is known of an unexpected token.
+pub(crate) fn check_bytes(alloc: Global, job: Job, input: &[u8], details: &mut Details) -> Outcome
     ensures outcome { Checks job input.now result }
+    ensures told { HasTold job input.now result details.new }
 {
-    match check_all(alloc, job, input) {
+    match check_all(alloc, job, input, details) {
         Ok(summary) => accepted(summary, 0, 0),
         Err(StreamFault::Refused(fault)) => refused(fault, 0, 0),
-        Err(_) => Outcome::of_status(4),
+        Err(_) => {
+            *details = Details::none();
+            Outcome::of_status(4)
+        }
     }
 }
 
-fn check_all(alloc: Global, job: Job, input: &[u8]) -> Result<Summary, StreamFault>
+fn check_all(
+    alloc: Global,
+    job: Job,
+    input: &[u8],
+    details: &mut Details,
+) -> Result<Summary, StreamFault>
     ensures accepted { IfOk result (λ summary. IsAccepted (language_of job) input.now summary) }
     ensures stops { IfErr result (λ fault. CheckStopped fault job input.now) }
+    ensures none { OnOk result (NoDetails details.new) }
+    ensures told { IfErr result (λ fault. TellsFor fault job input.now details.new) }
 {
     let mut source = Bytes::new(input);
-    check(alloc, job, &mut source)
+    check_expecting(alloc, job, &mut source, details)
 }
