@@ -11,8 +11,8 @@ use Rattle.rdf_tokens.specs.Grammars.{IsTooLong}
 use Rattle.rdf_tokens.specs.Scans.{most_bytes}
 use Rattle.rdf_stream.specs.declared.fault.StreamFault.{StreamFault}
 use Rattle.rdf_stream.specs.declared.fault.StreamFault.TheVariants as stream
-use Rattle.rdf_stream.specs.Devices.{HasGiven, Reading, at_end}
-use Rattle.rdf_stream.specs.Pieces.{HaltsOn, ReadStops, ReadsAll, ReadsEnd, StaysOn, TakenBefore, TakesMore}
+use Rattle.rdf_stream.specs.Devices.{HasGiven, Reading}
+use Rattle.rdf_stream.specs.Pieces.{HaltsOn, ReadStops, ReadsAll, ReadsEnd, StaysOn, TakenBefore, TakesMore, at_end}
 
 -- of too many bytes those that a document may have are the same with more
 pub same_front : (bytes more : List ℕ) (at : Place) → IsTooLong bytes at → take most_bytes (bytes ++ more) ≡ take most_bytes bytes

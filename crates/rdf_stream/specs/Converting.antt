@@ -18,7 +18,7 @@ use Rattle.rdf_stream.specs.declared.fault.StreamFault.TheVariants as fault
 use Rattle.rdf_stream.specs.declared.line_out.LineOut.{LineOut}
 use Rattle.rdf_stream.specs.declared.devices.Source as source
 use Rattle.rdf_stream.specs.declared.devices.Drain as drain
-use Rattle.rdf_stream.specs.Devices.{at_end}
+use Rattle.rdf_stream.specs.Pieces.{at_end}
 use Rattle.rdf_stream.specs.Converts.{Accepts, AcceptsAll, IsPrompt, RefusesDocument, StopsFor, WritesFront, WritesSome}
 use Rattle.rdf_stream.specs.Told.{told}
 use Rattle.rdf_stream.specs.Faults.{fault_by}

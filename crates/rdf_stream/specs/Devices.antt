@@ -1,5 +1,5 @@
 -- Readers and writers as a caller sees them: by the bytes that they have left or hold, where these are known.
-use Rattle.std.specs.Prelude.{◌≡◌, ◌<◌, ℕ, Bool, true, false, List, [], ◌++◌, length, Option, Some, MatchResult}
+use Rattle.std.specs.Prelude.{◌≡◌, ◌<◌, ℕ, Bool, true, false, List, ◌++◌, length, Option, MatchResult}
 use Rattle.std.specs.Io.KnownBytes.{Appends, Consumes, IsAtEnd}
 use Rattle.std.specs.declared.result.Result.{Result}
 
@@ -13,10 +13,6 @@ pub record Reading : Type 0 where
 -- a source as a reader
 abbrev pub reading : {S : Type 0} → (S → Option (List ℕ)) → (S → ℕ) → (S → Bool) → (S → Bool) → S → Reading
 reading remaining last ended failed s = record { remaining = remaining s; last = last s; has_ended = ended s; has_failed = failed s }
-
--- a source of which all bytes were given, and whose end was reported or not
-abbrev pub at_end : Bool → Reading
-at_end ended = record { remaining = Some []; last = 0; has_ended = ended; has_failed = false }
 
 -- An answer of no bytes where there was room reports the end, and no other answer does.
 abbrev pub ReportsEnd : {E : Type 0} → Result ℕ E → List ℕ → Bool → Type 0

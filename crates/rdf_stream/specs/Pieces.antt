@@ -1,9 +1,13 @@
 -- What reading a source by pieces does to what takes them. A run has taken some bytes from a first state on.
-use Rattle.std.specs.Prelude.{◌≡◌, ◌⊎◌, ◌≤◌, ℕ, Bool, true, List, ◌++◌, length, Option}
+use Rattle.std.specs.Prelude.{◌≡◌, ◌⊎◌, ◌≤◌, ℕ, Bool, true, false, List, [], ◌++◌, length, Option, Some}
 use Rattle.std.specs.Io.KnownBytes.{Consumes, IsAtEnd}
 use Rattle.rdf_stream.specs.declared.fault.StreamFault.{StreamFault}
 use Rattle.rdf_stream.specs.declared.fault.StreamFault.TheVariants.{Read}
 use Rattle.rdf_stream.specs.Devices.{HasBroken, HasGiven, Reading}
+
+-- a source of which all bytes were given, and whose end was reported or not
+abbrev pub at_end : Bool → Reading
+at_end ended = record { remaining = Some []; last = 0; has_ended = ended; has_failed = false }
 
 -- some bytes were taken
 abbrev pub HasBegun : {R : Type 0} → (R → List ℕ → R → Type 0) → R → Type 0

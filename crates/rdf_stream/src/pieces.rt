@@ -4,8 +4,7 @@ ghost use Rattle.std.specs.Prelude.{◌≡◌, ◌+◌, ◌<◌, ◌≤◌, ◌+
 ghost use Rattle.rdf_tokens.specs.Scans.{most_bytes};
 ghost use Rattle.rdf_driver.specs.declared.summary.Summary.{Summary};
 ghost use Rattle.rdf_stream.specs.declared.fault.StreamFault.{StreamFault};
-ghost use Rattle.rdf_stream.specs.Devices.{at_end};
-ghost use Rattle.rdf_stream.specs.Pieces.{HaltsOn, HasBegun, ReadsAll, ReadStops, ReadsEnd, StaysOn, TakenBefore, TakesMore};
+ghost use Rattle.rdf_stream.specs.Pieces.{HaltsOn, HasBegun, ReadsAll, ReadStops, ReadsEnd, StaysOn, TakenBefore, TakesMore, at_end};
 ghost use Rattle.rdf_stream.specs.Told.{told};
 
 use crate::devices::{Failed, Source};
