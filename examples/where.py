@@ -3,6 +3,7 @@
 
     examples/where.py FILE 'rdfconv: no token at byte 26, line 1'
     rdfconv check FILE 2>&1 | examples/where.py FILE
+    grep '^# ' BADLINES | examples/where.py FILE            # of a run with --skip BADLINES
 
 Without a message on the command line, messages are read from standard input, and each line is answered when it comes. A message with
 no place, such as `accepted, ..` or `rdfconv: bad base`, is passed on as it is. Of a long line, what stands near the byte is shown.
@@ -24,7 +25,7 @@ import unicodedata
 import zlib
 
 OPENERS = {'.gz': gzip.open, '.bz2': bz2.open, '.xz': lzma.open}
-PLACE = re.compile(r'(?:[^<"]*\brdfconv: )?([\w -]+) at byte (\d+), line (\d+)$')
+PLACE = re.compile(r'(?:# |[^<"]*\brdfconv: )?([\w -]+) at byte (\d+), line (\d+)$')
 ACCEPTED = re.compile(r'(?:[^<"]*[\t ])?accepted, \d+ quads?, \d+ bytes?$')
 REACH = 240
 MOST_COLUMNS = 60
