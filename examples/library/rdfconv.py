@@ -75,9 +75,8 @@ def load(path):
         raise ImportError(f'{error}. To make it anew, run {os.path.dirname(path)}/build.sh', name=__name__, path=path) from error
     slices = [ctypes.c_void_p, ctypes.c_size_t]
     library.rdfconv_convert.argtypes = [ctypes.POINTER(Request), *slices * 5, ctypes.POINTER(Outcome)]
-    library.rdfconv_check.argtypes = [ctypes.POINTER(Request), *slices * 3, ctypes.POINTER(Outcome)]
-    library.rdfconv_check_expecting.argtypes = [*library.rdfconv_check.argtypes, ctypes.POINTER(Unexpected)]
-    library.rdfconv_convert.restype = library.rdfconv_check.restype = library.rdfconv_check_expecting.restype = None
+    library.rdfconv_check_expecting.argtypes = [ctypes.POINTER(Request), *slices * 3, ctypes.POINTER(Outcome), ctypes.POINTER(Unexpected)]
+    library.rdfconv_convert.restype = library.rdfconv_check_expecting.restype = None
     return library
 
 
@@ -195,7 +194,7 @@ def convert(document, format='trig', base='', prefixes='', word='', *, token=1 <
                 break
             room = outcome.needed
         lines, unexpected = ctypes.string_at(output, outcome.written), Unexpected()
-        if outcome.status == 1:
+        if outcome.status == 1 and REASONS[outcome.reason] == 'unexpected token':
             library.rdfconv_check_expecting(asked, *slices[:4], *slices[6:], Outcome(), unexpected)
     end(outcome, base, lines, unexpected)
     return lines

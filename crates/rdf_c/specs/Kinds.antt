@@ -1,5 +1,5 @@
 -- What a call tells of an unexpected token.
-use Rattle.std.specs.Prelude.{◌≡◌, ◌≢◌, ℕ, true, false, List, [], Option, None, Some}
+use Rattle.std.specs.Prelude.{◌≡◌, ◌≢◌, ℕ, true, false, List, [], MatchOption}
 use Rattle.rdf_terms.specs.declared.kind.Kind.{Kind}
 use Rattle.rdf_terms.specs.declared.reason.Reason.{Reason}
 use Rattle.rdf_terms.specs.declared.reason.Reason.TheVariants.{Unexpected as UnexpectedToken}
@@ -18,10 +18,14 @@ use Rattle.rdf_c.specs.declared.kinds.Unexpected.{Unexpected}
 use Rattle.rdf_c.specs.declared.outcome.Outcome.{Outcome}
 use Rattle.rdf_c.specs.declared.request.Request.{Request}
 
--- the bits of a kind alone, or of none
-abbrev pub IsMaskOf : ℕ → Option Kind → Type 0
-IsMaskOf bits None = (k : Kind) → has bits k ≡ false
-IsMaskOf bits (Some kind) = (has bits kind ≡ true) × ((k : Kind) → k ≢ kind → has bits k ≡ false)
+-- the bits of a kind alone
+pub record IsAlone (bits : ℕ) (kind : Kind) : Type 0 where
+  pub there : has bits kind ≡ true
+  pub others : (k : Kind) → k ≢ kind → has bits k ≡ false
+
+-- what is known, as bits: none are set where no kind was found
+abbrev pub HasBits : Unexpected → Details → Type 0
+HasBits u details = MatchOption details.found ((u.found ≡ 0) × (u.expected ≡ 0)) (λ kind. IsAlone u.found kind × (u.expected ≡ details.expected))
 
 -- of a refusal of the job's document: what is known of an unexpected token
 abbrev pub TellsOf : Reason → JobRead → List ℕ → Place → Details → Type 0
@@ -42,8 +46,7 @@ pub record HasToldFor (request : Request) (base_text prefixes input : List ℕ) 
 pub record HasExpected (request : Request) (base_text prefixes input : List ℕ) (o : Outcome) (u : Unexpected) : Type 0 where
   pub details : Details
   pub told : HasToldFor request base_text prefixes input o details
-  pub expected : u.expected ≡ details.expected
-  pub found : IsMaskOf u.found details.found
+  pub bits : HasBits u details
 
 -- ---- within a call
 
