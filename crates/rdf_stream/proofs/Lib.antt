@@ -21,3 +21,4 @@ mod WithoutCrsLemmas
 pub mod LineCuts
 pub mod SieveLemmas
 pub mod SkipLemmas
+mod WatchLemmas

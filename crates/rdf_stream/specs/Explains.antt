@@ -1,12 +1,24 @@
--- The line that explains a refusal, in the form that editors read.
-use Rattle.std.specs.Prelude.{◌||◌, ◌&&◌, ◌==◌, not, map, option_map, ℕ, Bool, List, [], ◌∷◌, ◌++◌, codes, cond, decimal, length, Option, Some, None}
+-- The lines that explain a refusal, the first in the form that editors read.
+use Rattle.std.specs.Prelude.{◌||◌, ◌&&◌, ◌==◌, not, map, option_map, ℕ, Bool, List, [], ◌∷◌, ◌++◌, codes, cond, decimal, length, nat_le, take, Option, Some, None}
 use Rattle.std.specs.Borrow.{Bor}
+use Rattle.std.specs.List.{list_all}
+use Rattle.rdf_iri.specs.Limits.{Sizes}
+use Rattle.rdf_terms.specs.declared.reason.Reason.{Reason}
+use Rattle.rdf_terms.specs.declared.reason.Reason.TheVariants.{NoToken, TokenTooLong, IriTooLong, TooDeep, TooManyBindings, Unbound, NoBase, RelativeIri}
 use Rattle.rdf_terms.specs.declared.kind.Kind.{Kind}
 use Rattle.rdf_terms.specs.declared.kind.Kind.TheVariants.{IriRef, LabelNode, ShortString, LongString, LangTag, Carets, Dot, LineEnd, Integer, Decimal, Double, True, False, A, AtPrefix, AtBase, Prefix, Base, Graph, PnameNs, PnameLn, Semicolon, Comma, OpenBracket, CloseBracket, OpenParen, CloseParen, OpenBrace, CloseBrace, End}
 use Rattle.rdf_tokens.specs.declared.token.Fault.{Fault}
 use Rattle.rdf_driver.specs.Kinds.{has}
 use Rattle.rdf_stream.specs.declared.expected.Details.{Details}
+use Rattle.rdf_stream.specs.declared.causes.Cause.{Cause}
+use Rattle.rdf_stream.specs.declared.sight.Sight.{Sight}
+use Rattle.rdf_stream.specs.declared.sight.Sight.TheVariants.{Token, Stop}
+use Rattle.rdf_stream.specs.declared.watch.Nearby.{Nearby}
+use Rattle.rdf_stream.specs.declared.watch.Nearby.TheVariants.{Told}
+use Rattle.rdf_stream.specs.Causes.{advice_text, cause_of}
+use Rattle.rdf_stream.specs.Excerpts.{excerpt_text}
 use Rattle.rdf_stream.specs.Messages.{reason_text}
+use Rattle.rdf_stream.specs.Places.{NearRead}
 
 -- a word, where it is said
 abbrev pub said : Bool → List ℕ → Option (List ℕ)
@@ -111,7 +123,72 @@ abbrev pub found_text : Option Kind → List ℕ
 found_text None = []
 found_text (Some kind) = codes ": " ++ word_of kind
 
--- the line, with its LF: the name of the document, the line of the place, why it is refused, what stands there, and what could have stood there
-abbrev pub explain_text : List ℕ → Fault → Details → List ℕ
-explain_text name f details =
-    name ++ codes ":" ++ decimal f.line ++ codes ": " ++ reason_text f.reason ++ found_text details.found ++ expected_text details.expected ++ codes "\n"
+-- what stands in front of a line about the place: the name of the document, the line, and the column where it is told
+abbrev pub front_text : List ℕ → ℕ → Nearby NearRead → List ℕ
+front_text name line (Told near) = name ++ codes ":" ++ decimal line ++ codes ":" ++ decimal near.column ++ codes ": "
+front_text name line near = name ++ codes ":" ++ decimal line ++ codes ": "
+
+-- after how many bytes a token stops that begins there
+abbrev pub stop_text : ℕ → List ℕ
+stop_text n = codes ": it stops after " ++ decimal n ++ codes " bytes"
+
+-- a character of ASCII that is shown as it stands
+abbrev pub is_graphic : ℕ → Bool
+is_graphic b = nat_le 33 b && nat_le b 126
+
+-- the first n bytes, where they are there and are shown as they stand
+abbrev pub name_of : List ℕ → ℕ → Option (List ℕ)
+name_of after n = cond (nat_le n (length after) && list_all is_graphic (take n after)) (Some (take n after)) None
+
+-- a name in quotes; nothing where there is none
+abbrev pub quoted_text : Option (List ℕ) → List ℕ
+quoted_text None = []
+quoted_text (Some name) = codes ": \"" ++ name ++ codes "\""
+
+-- where a token stops, or the name or the reference that stands there
+abbrev pub sight_by : Reason → Sight → List ℕ → List ℕ
+sight_by NoToken (Stop n) after = stop_text n
+sight_by Unbound (Token kind n) after = quoted_text (name_of after n)
+sight_by NoBase (Token kind n) after = quoted_text (name_of after n)
+sight_by RelativeIri (Token kind n) after = quoted_text (name_of after n)
+sight_by reason sight after = []
+
+-- the same where it is told
+abbrev pub sight_text : Reason → Nearby NearRead → List ℕ
+sight_text reason (Told near) = sight_by reason near.sight near.after
+sight_text reason near = []
+
+-- the limit that is passed where this is the reason
+abbrev pub limit_of : Reason → Sizes → Option ℕ
+limit_of TokenTooLong limits = Some limits.token
+limit_of IriTooLong limits = Some limits.iri
+limit_of TooDeep limits = Some limits.depth
+limit_of TooManyBindings limits = Some limits.bindings
+limit_of reason limits = None
+
+abbrev pub limit_text : Option ℕ → List ℕ
+limit_text None = []
+limit_text (Some limit) = codes "; the limit is " ++ decimal limit
+
+-- what to do about a likely cause
+abbrev pub note_text : Cause → List ℕ
+note_text cause = codes "note: " ++ advice_text cause ++ codes "\n"
+
+-- a line of its own for the cause, where there is one
+abbrev pub cause_text : List ℕ → Option Cause → List ℕ
+cause_text front None = []
+cause_text front (Some cause) = front ++ note_text cause
+
+-- the line near the place with a caret under the place, and the likely cause
+abbrev pub shown_text : List ℕ → Fault → Nearby NearRead → List ℕ
+shown_text name f (Told near) =
+    excerpt_text near.before near.after
+    ++ cause_text (front_text name f.line (Told near)) (cause_of f.reason f.offset near.before near.after)
+shown_text name f near = []
+
+-- The lines, each with its LF: the name of the document and the place, why it is refused, what stands there, what could have stood there, and the limit
+-- that is passed; the line near the place; and its likely cause.
+abbrev pub explain_text : List ℕ → Fault → Details → Nearby NearRead → Sizes → List ℕ
+explain_text name f details near limits =
+    front_text name f.line near ++ reason_text f.reason ++ found_text details.found ++ expected_text details.expected
+    ++ sight_text f.reason near ++ limit_text (limit_of f.reason limits) ++ codes "\n" ++ shown_text name f near

@@ -12,6 +12,7 @@ pub mod Skips
 pub mod Faults
 pub mod Checks
 pub mod Expected
+pub mod Places
 pub mod Explains
 pub mod Shows
 pub mod Loads
@@ -19,6 +20,8 @@ pub mod Loads
 pub mod GraphTexts
 pub mod Outputs
 pub mod LineOut
+pub mod Kept
+pub mod Watches
 pub mod Pieces
 pub mod Parts
 pub mod Passes

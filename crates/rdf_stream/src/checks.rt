@@ -5,6 +5,7 @@ ghost use Rattle.rdf_stream.specs.Checks.{BeginsToRead, CheckAccepts, CheckEnds,
 ghost use Rattle.rdf_stream.specs.Expected.{ExpectsFor, NoDetails, RunExpects, Stands, trees_of};
 ghost use Rattle.rdf_stream.specs.Faults.{IsRefusal};
 ghost use Rattle.rdf_stream.specs.Languages.{language_of};
+ghost use Rattle.rdf_stream.specs.Places.{HandsOut, TellsNear};
 ghost use Rattle.rdf_stream.specs.Told.{told};
 
 use crate::devices::Source;
@@ -15,7 +16,8 @@ use crate::job::Job;
 use crate::parts::{Parts, take_parts};
 use crate::passes::Passes;
 use crate::pieces::{Run, piece_buffer, read_pieces};
-use rdf_driver::{Reader, Summary};
+use crate::watch::{Near, Nearby, Watching, Words};
+use rdf_driver::{Grammar, Reader, Summary};
 use rdf_lines::{LineEnding, line_reader};
 use rdf_terms::{PutFault, QuadRef, QuadSink};
 use rdf_trig::tree_reader;
@@ -35,7 +37,8 @@ pub fn check<A: Allocator + Copy, S: Source>(
     ensures refused { IfErr result IsRefusal }
 {
     let mut details = Details::none();
-    check_expecting(alloc, job, source, &mut details)
+    let mut near = Nearby::Unasked;
+    check_expecting(alloc, job, source, &mut details, &mut near)
 }
 
 /// What `check` does, and what is known of a token that was unexpected: its kind, and the kinds of tokens that could
@@ -43,11 +46,15 @@ pub fn check<A: Allocator + Copy, S: Source>(
 /// then a token of the kind, whatever it spells; limits, and what names and references stand for, are left aside. Where
 /// the document is accepted and where the fault is another one the set is empty, and no kind was found. What the details
 /// were before is dropped.
+///
+/// Of each refusal its place in its line is told too, where `near` asks for it (`Nearby`). Then as many bytes as the reader holds are kept beside it,
+/// one piece and 244; where there is no memory for them nothing is told.
 pub fn check_expecting<A: Allocator + Copy, S: Source>(
     alloc: A,
     job: Job<A>,
     source: &mut S,
     details: &mut Details,
+    near: &mut Nearby<Near<A>>,
 ) -> Result<Summary, StreamFault>
     requires more { S.has_ended source.old ≡ false }
     requires source { S.has_failed source.old ≡ false }
@@ -57,18 +64,34 @@ pub fn check_expecting<A: Allocator + Copy, S: Source>(
     ensures refused { IfErr result IsRefusal }
     ensures none { OnOk result (NoDetails details.new) }
     ensures expected { IfErr result (λ fault. ExpectsFor fault (language_of job) (trees_of job) (S.remaining source.old) (told S.Source source.new) details.new) }
+    ensures near { HandsOut near.old (TellsNear (language_of job).dialect (language_of job).limit result (S.remaining source.old) (told S.Source source.new)) near.new }
 {
     let mut job = job;
+    let limits = job.limits();
+    let limit = limits.token();
     match job.form().kind() {
         Kind::Line(form) => {
-            let limits = job.limits();
             drop(job);
-            check_with(alloc, line_reader(alloc, form, limits), source, details)
+            check_with(
+                alloc,
+                line_reader(alloc, form, limits),
+                limit,
+                source,
+                details,
+                near,
+            )
         }
         Kind::Tree(form) => {
             let options = job.options(form);
             drop(job);
-            check_with(alloc, tree_reader(alloc, options), source, details)
+            check_with(
+                alloc,
+                tree_reader(alloc, options),
+                limit,
+                source,
+                details,
+                near,
+            )
         }
     }
 }
@@ -76,10 +99,13 @@ pub fn check_expecting<A: Allocator + Copy, S: Source>(
 fn check_with<A: Allocator + Copy, G: Passes<A>, S: Source>(
     alloc: A,
     reader: Reader<G, A>,
+    limit: u64,
     source: &mut S,
     details: &mut Details,
+    near: &mut Nearby<Near<A>>,
 ) -> Result<Summary, StreamFault>
     requires begun { (x : G.Setting) × BeginsToRead G.words x reader }
+    requires limit { limit ≡ reader.scanner.limit }
     requires more { S.has_ended source.old ≡ false }
     requires source { S.has_failed source.old ≡ false }
     ensures accepted { IfOk result (CheckAccepts G.words S.Source reader source.old) }
@@ -88,12 +114,22 @@ fn check_with<A: Allocator + Copy, G: Passes<A>, S: Source>(
     ensures refused { IfErr result IsRefusal }
     ensures expected { RunExpects G.words G.trees (λ x. BeginsToRead G.words x reader) reader.scanner.limit result
         (S.remaining source.old) (told S.Source source.new) details.new }
+    ensures near { HandsOut near.old (TellsNear G.words.dialect reader.scanner.limit result (S.remaining source.old) (told S.Source source.new)) near.new }
 {
     *details = Details::none();
+    let asked = near.ask_again();
     let mut piece = piece_buffer(alloc)?;
     let mut reader = reader;
-    let result = read_pieces(source, piece.as_mut_slice(), &mut reader, &mut NoQuads);
+    let mut watching = Watching::new(alloc, Words::new(reader.grammar().dialect(), limit), asked);
+    let result = read_pieces(
+        source,
+        piece.as_mut_slice(),
+        &mut reader,
+        &mut NoQuads,
+        &mut watching,
+    );
     *details = details_beside(&reader, &result);
+    watching.hand_out(near);
     result
 }
 
@@ -111,6 +147,10 @@ impl<A: Allocator + Copy, G: Passes<A>> Run<NoQuads> for Reader<G, A> {
 
     fn take(&mut self, piece: &[u8], sink: &mut NoQuads) -> Result<(), StreamFault> {
         take_parts(self, piece, sink)
+    }
+
+    fn open(&self) -> u64 {
+        self.held()
     }
 
     fn end(&mut self, sink: &mut NoQuads) -> Result<Summary, StreamFault> {

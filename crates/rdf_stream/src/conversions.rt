@@ -8,6 +8,7 @@ ghost use Rattle.rdf_stream.specs.Faults.{IsRefusal, IsSentOn};
 ghost use Rattle.rdf_stream.specs.Languages.{conversion_of, language_of};
 ghost use Rattle.rdf_stream.specs.LineOut.{OnlyGrows};
 ghost use Rattle.rdf_stream.specs.Outputs.{output_of};
+ghost use Rattle.rdf_stream.specs.Places.{HandsOut, TellsNear};
 ghost use Rattle.rdf_stream.specs.Told.{AsTold, told};
 
 use crate::devices::{Drain, Failed, Source};
@@ -20,7 +21,8 @@ use crate::output::OutputView;
 use crate::parts::{Parts, take_parts};
 use crate::passes::Passes;
 use crate::pieces::{Run, piece_buffer, read_bytes, read_pieces};
-use rdf_driver::{QuadGrammar, Reader, Summary};
+use crate::watch::{Near, Nearby, Watching, Words};
+use rdf_driver::{Grammar, QuadGrammar, Reader, Summary};
 use rdf_lines::{LineBuffer, LineEnding, Style, line_reader};
 use rdf_trig::tree_reader;
 use std::alloc::Allocator;
@@ -49,16 +51,18 @@ pub fn convert<A: Allocator + Copy, S: Source, D: Drain>(
         (D.contents drain.old) (D.contents drain.new) }
 {
     let mut details = Details::none();
-    convert_expecting(alloc, job, source, drain, &mut details)
+    let mut near = Nearby::Unasked;
+    convert_expecting(alloc, job, source, drain, &mut details, &mut near)
 }
 
-/// What `convert` does, and what is known of a token that was unexpected, as `check_expecting` says.
+/// What `convert` does, and what is known of a token that was unexpected, and of the place of a refusal, as `check_expecting` says.
 pub fn convert_expecting<A: Allocator + Copy, S: Source, D: Drain>(
     alloc: A,
     job: Job<A>,
     source: &mut S,
     drain: &mut D,
     details: &mut Details,
+    near: &mut Nearby<Near<A>>,
 ) -> Result<Summary, StreamFault>
     requires more { S.has_ended source.old ≡ false }
     requires source { S.has_failed source.old ≡ false }
@@ -73,18 +77,22 @@ pub fn convert_expecting<A: Allocator + Copy, S: Source, D: Drain>(
         (D.contents drain.old) (D.contents drain.new) }
     ensures none { OnOk result (NoDetails details.new) }
     ensures expected { IfErr result (λ fault. ExpectsFor fault (language_of job) (trees_of job) (S.remaining source.old) (told S.Source source.new) details.new) }
+    ensures near { HandsOut near.old (TellsNear (language_of job).dialect (language_of job).limit result (S.remaining source.old) (told S.Source source.new)) near.new }
 {
     let mut job = job;
+    let limit = job.limits().token();
     match job.form().kind() {
         Kind::Line(form) => {
             let reader = line_reader(alloc, form, job.limits());
             let result = convert_with(
                 alloc,
                 reader,
+                limit,
                 job.output(Style::Kept),
                 source,
                 drain,
                 details,
+                near,
             );
             drop(job);
             result
@@ -94,10 +102,12 @@ pub fn convert_expecting<A: Allocator + Copy, S: Source, D: Drain>(
             let result = convert_with(
                 alloc,
                 reader,
+                limit,
                 job.output(Style::Tagged),
                 source,
                 drain,
                 details,
+                near,
             );
             drop(job);
             result
@@ -109,12 +119,15 @@ pub fn convert_expecting<A: Allocator + Copy, S: Source, D: Drain>(
 fn convert_with<A: Allocator + Copy, G: Passes<A>, S: Source, D: Drain>(
     alloc: A,
     reader: Reader<G, A>,
+    limit: u64,
     output: OutputView<'_>,
     source: &mut S,
     drain: &mut D,
     details: &mut Details,
+    near: &mut Nearby<Near<A>>,
 ) -> Result<Summary, StreamFault>
     requires starts { (x : G.Setting) × Starts G.words x reader output.lines.style }
+    requires limit { limit ≡ reader.scanner.limit }
     requires styled { output.lines.style ≡ G.style }
     requires more { S.has_ended source.old ≡ false }
     requires source { S.has_failed source.old ≡ false }
@@ -128,14 +141,24 @@ fn convert_with<A: Allocator + Copy, G: Passes<A>, S: Source, D: Drain>(
     ensures prompt { KeepsPrompt G.words S.Source D.Drain reader (output_of output.entry) source.old source.new drain.old drain.new }
     ensures expected { RunExpects G.words G.trees (λ x. Starts G.words x reader output.entry.lines.style) reader.scanner.limit result
         (S.remaining source.old) (told S.Source source.new) details.new }
+    ensures near { HandsOut near.old (TellsNear G.words.dialect reader.scanner.limit result (S.remaining source.old) (told S.Source source.new)) near.new }
 {
     *details = Details::none();
+    let asked = near.ask_again();
     let mut piece = piece_buffer(alloc)?;
     let mut reader = reader;
     let mut buffer = LineBuffer::new(alloc);
     let mut lines = LineOut::new(output, &mut buffer, drain);
-    let result = read_pieces(source, piece.as_mut_slice(), &mut reader, &mut lines);
+    let mut watching = Watching::new(alloc, Words::new(reader.grammar().dialect(), limit), asked);
+    let result = read_pieces(
+        source,
+        piece.as_mut_slice(),
+        &mut reader,
+        &mut lines,
+        &mut watching,
+    );
     *details = details_beside(&reader, &result);
+    watching.hand_out(near);
     result
 }
 
@@ -182,6 +205,10 @@ impl<'a, A: Allocator + Copy, G: QuadGrammar + Passes<A>, D: Drain> Run<LineOut<
             },
             Err(fault) => Err(fault),
         }
+    }
+
+    fn open(&self) -> u64 {
+        self.held()
     }
 
     // Reads the end, hands all lines over, and sends them on.

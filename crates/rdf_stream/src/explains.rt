@@ -1,36 +1,184 @@
-// The line that explains a refusal, in the form that editors read.
+// The lines that explain a refusal, the first in the form that editors read.
 
 ghost use Rattle.std.specs.Prelude.{◌≡◌, ◌||◌, ◌&&◌, ◌++◌, IfOk, OnOk, length, not, option_map};
 ghost use Rattle.rdf_driver.specs.Kinds.{has};
-ghost use Rattle.rdf_stream.specs.Explains.{between, expected_text, explain_text, found_text, listed, only_said, said, texts_of, word_of, words_for};
+ghost use Rattle.rdf_stream.specs.Explains.{between, expected_text, explain_text, found_text, front_text, limit_of, limit_text, listed, name_of, note_text, only_said, quoted_text, said, shown_text, sight_text, stop_text, texts_of, word_of, words_for};
 
+use crate::causes::{Cause, advice, cause_of};
+use crate::excerpt::put_excerpt;
 use crate::expected::Details;
 use crate::messages::{put_number, words};
+use crate::sight::Sight;
+use crate::watch::{Near, Nearby};
 use rdf_driver::Kinds;
-use rdf_terms::Kind;
+use rdf_iri::Limits;
+use rdf_terms::{Kind, Reason};
 use rdf_tokens::Fault;
 use std::alloc::{AllocError, Allocator};
 
-/// The line that explains the refusal of the document of this name, with its LF: where the place is, why it is refused,
-/// the kind of the token that stands there, where it was found, and the kinds of tokens that could have stood there, where
-/// there are any.
+/// The lines that explain the refusal of the document of this name, each with its LF. The first has the form that editors read: the
+/// name, the line and the column of the place, where that is told; why the document is refused; the kind of the token that stands
+/// there, where it was found, and the kinds of tokens that could have stood there, where there are any; where a token stops, or what
+/// the name or the reference is; and the limit that is passed. Where the place is told, its line follows with a caret, and what mostly
+/// causes such a refusal, where the bytes there tell it.
 pub fn explain<A: Allocator + Copy>(
     alloc: A,
     name: &str,
     fault: &Fault,
     details: &Details,
+    near: &Nearby<Near<A>>,
+    limits: Limits,
 ) -> Result<Vec<u8, A>, AllocError>
-    ensures { IfOk result (λ line. line.items ≡ explain_text name.now fault.now details.now) }
+    ensures { IfOk result (λ line. line.items ≡ explain_text name.now fault.now details.now near.now limits) }
 {
-    let mut line = Vec::from_slice(alloc, name.as_bytes())?;
-    line.extend_from_slice(b":")?;
-    put_number(fault.line, &mut line)?;
-    line.extend_from_slice(b": ")?;
+    let mut line = Vec::new(alloc);
+    put_place(name, fault.line, near, &mut line)?;
     line.extend_from_slice(words(fault.reason).as_bytes())?;
     put_found(details.found, &mut line)?;
     put_expected(details.expected, &mut line)?;
+    put_sight(fault.reason, near, &mut line)?;
+    put_limit(limit_of(fault.reason, limits), &mut line)?;
     line.extend_from_slice(b"\n")?;
+    put_shown(name, fault, near, &mut line)?;
     Ok(line)
+}
+
+// The name, the line, and the column where it is told.
+fn put_place<A: Allocator + Copy>(
+    name: &str,
+    number: u64,
+    near: &Nearby<Near<A>>,
+    line: &mut Vec<u8, A>,
+) -> Result<(), AllocError>
+    ensures { OnOk result (line.new.items ≡ line.old.items ++ front_text name.now number near.now) }
+{
+    line.extend_from_slice(name.as_bytes())?;
+    line.extend_from_slice(b":")?;
+    put_number(number, line)?;
+    line.extend_from_slice(b":")?;
+    if let Nearby::Told(near) = near {
+        put_number(near.column, line)?;
+        line.extend_from_slice(b":")?;
+    }
+    line.extend_from_slice(b" ")
+}
+
+// Where a token stops, or the name or the reference that stands there.
+fn put_sight<A: Allocator + Copy>(
+    reason: Reason,
+    near: &Nearby<Near<A>>,
+    line: &mut Vec<u8, A>,
+) -> Result<(), AllocError>
+    ensures { OnOk result (line.new.items ≡ line.old.items ++ sight_text reason near.now) }
+{
+    let Nearby::Told(near) = near else { return Ok(()) };
+    match (reason, near.sight) {
+        (Reason::NoToken, Sight::Stop(len)) => put_stop(len, line),
+        (Reason::Unbound | Reason::NoBase | Reason::RelativeIri, Sight::Token(_, len)) => {
+            put_quoted(name_of(near.after.as_slice(), len), line)
+        }
+        _ => Ok(()),
+    }
+}
+
+// After how many bytes a token stops.
+fn put_stop<A: Allocator + Copy>(len: u64, line: &mut Vec<u8, A>) -> Result<(), AllocError>
+    ensures { OnOk result (line.new.items ≡ line.old.items ++ stop_text len) }
+{
+    line.extend_from_slice(b": it stops after ")?;
+    put_number(len, line)?;
+    line.extend_from_slice(b" bytes")
+}
+
+// The first bytes, so many, where they are all there and are shown as they stand.
+fn name_of(after: &[u8], len: u64) -> Option<&[u8]>
+    ensures { option_map (λ s. s.now) result ≡ name_of after.now len }
+{
+    if len <= after.len() as u64 {
+        let name = &after[..len as usize];
+        if name.iter().all(|b| b.is_ascii_graphic()) {
+            return Some(name);
+        }
+    }
+    None
+}
+
+fn put_quoted<A: Allocator + Copy>(
+    name: Option<&[u8]>,
+    line: &mut Vec<u8, A>,
+) -> Result<(), AllocError>
+    ensures { OnOk result (line.new.items ≡ line.old.items ++ quoted_text (option_map (λ s. s.now) name.entry)) }
+{
+    match name {
+        Some(name) => {
+            line.extend_from_slice(b": \"")?;
+            line.extend_from_slice(name)?;
+            line.extend_from_slice(b"\"")
+        }
+        None => Ok(()),
+    }
+}
+
+// The limit that is passed where this is the reason.
+fn limit_of(reason: Reason, limits: Limits) -> Option<u64>
+    ensures { result ≡ limit_of reason limits }
+{
+    match reason {
+        Reason::TokenTooLong => Some(limits.token()),
+        Reason::IriTooLong => Some(limits.iri()),
+        Reason::TooDeep => Some(limits.depth()),
+        Reason::TooManyBindings => Some(limits.bindings()),
+        _ => None,
+    }
+}
+
+fn put_limit<A: Allocator + Copy>(
+    limit: Option<u64>,
+    line: &mut Vec<u8, A>,
+) -> Result<(), AllocError>
+    ensures { OnOk result (line.new.items ≡ line.old.items ++ limit_text limit) }
+{
+    match limit {
+        Some(limit) => {
+            line.extend_from_slice(b"; the limit is ")?;
+            put_number(limit, line)
+        }
+        None => Ok(()),
+    }
+}
+
+// The line near the place, with a caret, and the likely cause.
+fn put_shown<A: Allocator + Copy>(
+    name: &str,
+    fault: &Fault,
+    near: &Nearby<Near<A>>,
+    line: &mut Vec<u8, A>,
+) -> Result<(), AllocError>
+    ensures { OnOk result (line.new.items ≡ line.old.items ++ shown_text name.now fault.now near.now) }
+{
+    let Nearby::Told(told) = near else { return Ok(()) };
+    let before = told.before.as_slice();
+    let after = told.after.as_slice();
+    put_excerpt(before, after, line)?;
+    match cause_of(fault.reason, fault.offset, before, after) {
+        Some(cause) => put_note(name, fault.line, near, cause, line),
+        None => Ok(()),
+    }
+}
+
+fn put_note<A: Allocator + Copy>(
+    name: &str,
+    number: u64,
+    near: &Nearby<Near<A>>,
+    cause: Cause,
+    line: &mut Vec<u8, A>,
+) -> Result<(), AllocError>
+    ensures { OnOk result (line.new.items ≡ line.old.items ++ front_text name.now number near.now ++ note_text cause) }
+{
+    put_place(name, number, near, line)?;
+    line.extend_from_slice(b"note: ")?;
+    line.extend_from_slice(advice(cause).as_bytes())?;
+    line.extend_from_slice(b"\n")
 }
 
 // The kind that was found there, where there is one.

@@ -24,6 +24,7 @@ mod skips;
 mod token_grammar;
 mod token_line;
 mod views;
+mod watch;
 mod without_crs;
 
 pub use checks::{check, check_expecting};
@@ -41,5 +42,6 @@ pub use rdf_driver::{Fault, Kinds, Summary};
 pub use rdf_iri::{BindingFault, BindingReason, Bindings, Limits};
 pub use rdf_lines::{Escapes, NodePrefix};
 pub use rdf_terms::{Iri, TermFault};
-pub use shows::show;
+pub use shows::{show, show_near};
 pub use skips::{SkipSummary, convert_skipping};
+pub use watch::{Near, Nearby};

@@ -6,13 +6,13 @@ ghost use Rattle.rdf_lines.specs.declared.form.Style.TheVariants.{Kept, Tagged};
 ghost use Rattle.rdf_stream.specs.Passes.{PassesText};
 
 use memchr::memchr;
-use rdf_driver::{Foresees, QuadGrammar, Reader};
+use rdf_driver::{Foresees, Holds, QuadGrammar, Reader};
 use rdf_lines::{LineEnding, LineGrammar, pass_lines};
 use rdf_trig::TreeGrammar;
 use std::alloc::Allocator;
 
 /// A grammar of which text may be passed that stands as what is written for it.
-pub(crate) trait Passes<A: Allocator + Copy>: QuadGrammar + Foresees + Drop {
+pub(crate) trait Passes<A: Allocator + Copy>: QuadGrammar + Foresees + Holds + Drop {
     /// How the lines are written that such text has.
     ghost style: { Style };
 

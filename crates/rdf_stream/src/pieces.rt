@@ -1,14 +1,17 @@
 // Reading a source to its end, piece by piece.
 
-ghost use Rattle.std.specs.Prelude.{◌≡◌, ◌+◌, ◌<◌, ◌≤◌, ◌++◌, ℕ, List, [], Bool, true, false, length, Some, OnOk, IfOk, IfErr};
+ghost use Rattle.std.specs.Prelude.{◌≡◌, ◌+◌, ◌<◌, ◌≤◌, ◌++◌, ℕ, List, [], Bool, true, false, length, Some, None, OnOk, IfOk, IfErr, IfSome};
 ghost use Rattle.rdf_tokens.specs.Scans.{most_bytes};
 ghost use Rattle.rdf_driver.specs.declared.summary.Summary.{Summary};
 ghost use Rattle.rdf_stream.specs.declared.fault.StreamFault.{StreamFault};
 ghost use Rattle.rdf_stream.specs.Pieces.{HaltsOn, HasBegun, ReadsAll, ReadStops, ReadsEnd, StaysOn, TakenBefore, TakesMore, at_end};
+ghost use Rattle.rdf_stream.specs.Places.{TellsNear};
 ghost use Rattle.rdf_stream.specs.Told.{told};
+ghost use Rattle.rdf_stream.specs.Watches.{WatchesAll};
 
 use crate::devices::{Failed, Source};
 use crate::fault::StreamFault;
+use crate::watch::Watching;
 use rdf_driver::Summary;
 use std::alloc::{AllocError, Allocator};
 
@@ -37,6 +40,9 @@ pub(crate) trait Run<L> {
         ensures stays { StaysOn stays (self.old, out.old) (self.new, out.new) }
         ensures halts { IfErr result (λ f. HaltsOn taken halts f (self.old, out.old) (λ bytes. bytes ++ piece.now) false (self.new, out.new)) };
 
+    /// Of the bytes that were taken a refusal may still stand in so many of the last, or in fewer.
+    fn open(&self) -> u64;
+
     /// Takes the end.
     fn end(&mut self, out: &mut L) -> Result<Summary, StreamFault>
         requires begun { HasBegun taken (self.old, out.old) }
@@ -45,19 +51,24 @@ pub(crate) trait Run<L> {
         ensures halts { IfErr result (λ f. HaltsOn taken halts f (self.old, out.old) (λ bytes. bytes) true (self.new, out.new)) };
 }
 
-/// Reads the source to its end.
-pub(crate) fn read_pieces<S: Source, L, R: Run<L>>(
+/// Reads the source to its end, and tells of the place of a refusal where that is asked for.
+pub(crate) fn read_pieces<A: Allocator + Copy, S: Source, L, R: Run<L>>(
     source: &mut S,
     piece: &mut [u8],
     run: &mut R,
     out: &mut L,
+    watching: &mut Watching<A>,
 ) -> Result<Summary, StreamFault>
     requires more { S.has_ended source.old ≡ false }
     requires source { S.has_failed source.old ≡ false }
     requires room { 0 < length piece.old }
     requires begun { R.taken (run.old, out.old) [] (run.old, out.old) }
     requires stays { R.stays (run.old, out.old) (run.old, out.old) }
+    requires kept { WatchesAll watching.old [] }
+    requires untold { watching.old.near ≡ None }
     ensures stays { R.stays (run.old, out.old) (run.new, out.new) }
+    ensures near { IfSome watching.new.near (TellsNear watching.old.words.dialect watching.old.words.limit result (S.remaining source.old) (told S.Source source.new)) }
+    ensures unasked { watching.old.watch ≡ None → watching.new.near ≡ None }
     ensures read { IfOk result (λ summary.
         ReadsAll R.ends (S.remaining source.old) (told S.Source source.new) summary (run.old, out.old) (run.new, out.new)) }
     ensures stops { IfErr result (λ f.
@@ -71,11 +82,20 @@ pub(crate) fn read_pieces<S: Source, L, R: Run<L>>(
             Err(Failed) => return Err(StreamFault::Read),
         };
         if count == 0 {
-            return run.end(out);
+            return match run.end(out) {
+                Ok(summary) => Ok(summary),
+                Err(fault) => {
+                    watching.stop(&[], true, &fault);
+                    Err(fault)
+                }
+            };
         }
         match run.take(&piece[..count], out) {
-            Ok(()) => {}
-            Err(fault) => return Err(fault),
+            Ok(()) => watching.go_on(&piece[..count], run.open()),
+            Err(fault) => {
+                watching.stop(&piece[..count], false, &fault);
+                return Err(fault);
+            }
         }
     }
 }

@@ -5,7 +5,8 @@ ghost use Rattle.rdf_stream.specs.Faults.{IsRefusal, IsSentOn};
 ghost use Rattle.rdf_stream.specs.LineOut.{SameOut};
 ghost use Rattle.rdf_stream.specs.Showing.{IsShowing, ShowEnds, ShowHalts};
 ghost use Rattle.rdf_stream.specs.Shows.{ShowStops, ShowsAll, dialect_of};
-ghost use Rattle.rdf_stream.specs.Told.{AsTold};
+ghost use Rattle.rdf_stream.specs.Places.{HandsOut, TellsNear};
+ghost use Rattle.rdf_stream.specs.Told.{AsTold, told};
 
 use crate::devices::{Drain, Failed, Source};
 use crate::fault::StreamFault;
@@ -14,6 +15,7 @@ use crate::job::Job;
 use crate::line_out::{LineOut, stop};
 use crate::pieces::{Run, piece_buffer, read_pieces};
 use crate::token_grammar::{InLines, InTurtle, Spoken, TokenGrammar};
+use crate::watch::{Near, Nearby, Watching, Words};
 use rdf_driver::{Reader, Summary};
 use rdf_lines::{LineBuffer, Style};
 use rdf_terms::Dialect;
@@ -39,14 +41,37 @@ pub fn show<A: Allocator + Copy, S: Source, D: Drain>(
     ensures refused { IfErr result IsRefusal }
     ensures sent { IfErr result (λ fault. IsSentOn fault (D.is_flushed drain.new)) }
 {
+    let mut near = Nearby::Unasked;
+    show_near(alloc, job, source, drain, &mut near)
+}
+
+/// What `show` does, and what is known of the place of a refusal, as `check_expecting` says.
+pub fn show_near<A: Allocator + Copy, S: Source, D: Drain>(
+    alloc: A,
+    job: Job<A>,
+    source: &mut S,
+    drain: &mut D,
+    near: &mut Nearby<Near<A>>,
+) -> Result<Summary, StreamFault>
+    requires more { S.has_ended source.old ≡ false }
+    requires source { S.has_failed source.old ≡ false }
+    requires drain { D.has_failed drain.old ≡ false }
+    ensures accepted { IfOk result (ShowsAll job (S.remaining source.old) (D.contents drain.old) (D.contents drain.new)) }
+    ensures ended { OnOk result (S.has_ended source.new ≡ true) }
+    ensures flushed { OnOk result (D.is_flushed drain.new ≡ true) }
+    ensures stops { IfErr result (λ fault. AsTold (ShowStops fault job) S.Source D.Drain source.old source.new drain.old drain.new) }
+    ensures refused { IfErr result IsRefusal }
+    ensures sent { IfErr result (λ fault. IsSentOn fault (D.is_flushed drain.new)) }
+    ensures near { HandsOut near.old (TellsNear (dialect_of job.form) job.limits.token result (S.remaining source.old) (told S.Source source.new)) near.new }
+{
     match dialect(job.form()) {
         Dialect::Lines => {
-            let result = show_in(alloc, InLines, &job, source, drain);
+            let result = show_in(alloc, InLines, &job, source, drain, near);
             drop(job);
             result
         }
         Dialect::Turtle => {
-            let result = show_in(alloc, InTurtle, &job, source, drain);
+            let result = show_in(alloc, InTurtle, &job, source, drain, near);
             drop(job);
             result
         }
@@ -59,6 +84,7 @@ fn show_in<T: Spoken + Drop, A: Allocator + Copy, S: Source, D: Drain>(
     job: &Job<A>,
     source: &mut S,
     drain: &mut D,
+    near: &mut Nearby<Near<A>>,
 ) -> Result<Summary, StreamFault>
     requires dialect { T.spoken ≡ dialect_of job.now.form }
     requires more { S.has_ended source.old ≡ false }
@@ -70,13 +96,25 @@ fn show_in<T: Spoken + Drop, A: Allocator + Copy, S: Source, D: Drain>(
     ensures stops { IfErr result (λ fault. AsTold (ShowStops fault job.now) S.Source D.Drain source.old source.new drain.old drain.new) }
     ensures refused { IfErr result IsRefusal }
     ensures sent { IfErr result (λ fault. IsSentOn fault (D.is_flushed drain.new)) }
+    ensures near { HandsOut near.old (TellsNear (dialect_of job.now.form) job.now.limits.token result (S.remaining source.old) (told S.Source source.new)) near.new }
 {
+    let asked = near.ask_again();
     let mut piece = piece_buffer(alloc)?;
     let mut buffer = LineBuffer::new(alloc);
     let mut lines = LineOut::new(job.output(Style::Kept), &mut buffer, drain);
     let limit = job.limits().token();
+    let words = Words::new(spoken.dialect(), limit);
     let mut reader = Reader::new(alloc, TokenGrammar::new(spoken, limit), limit);
-    read_pieces(source, piece.as_mut_slice(), &mut reader, &mut lines)
+    let mut watching = Watching::new(alloc, words, asked);
+    let result = read_pieces(
+        source,
+        piece.as_mut_slice(),
+        &mut reader,
+        &mut lines,
+        &mut watching,
+    );
+    watching.hand_out(near);
+    result
 }
 
 impl<'a, T: Spoken + Drop, D: Drain, A: Allocator + Copy> Run<LineOut<'a, D, A>>
@@ -101,6 +139,10 @@ impl<'a, T: Spoken + Drop, D: Drain, A: Allocator + Copy> Run<LineOut<'a, D, A>>
             },
             Err(fault) => Err(stop(fault, lines)),
         }
+    }
+
+    fn open(&self) -> u64 {
+        self.held()
     }
 
     // Reads the end, hands all lines over, and sends them on.

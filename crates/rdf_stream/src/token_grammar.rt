@@ -9,7 +9,7 @@ ghost use Rattle.rdf_stream.specs.TokenWords.{token_words};
 
 use crate::devices::Drain;
 use crate::line_out::LineOut;
-use rdf_driver::{Accepts, Grammar, Known};
+use rdf_driver::{Accepts, Grammar, Holds, Known};
 use rdf_terms::{Dialect, Kind, PutFault, Reason};
 use rdf_tokens::Token;
 use std::alloc::Allocator;
@@ -101,6 +101,14 @@ impl<T: Spoken> Grammar for TokenGrammar<T> {
 
     fn dialect(&self) -> Dialect {
         self.spoken.dialect()
+    }
+}
+
+impl<T: Spoken> Holds for TokenGrammar<T> {
+    ghost bytes = { λ g. 0 };
+
+    fn held(&self) -> u64 {
+        0
     }
 }
 

@@ -8,7 +8,7 @@ use rdf_driver::Kinds;
 use rdf_iri::Limits;
 use rdf_lines::LineForm;
 use rdf_stream::{
-    Details, Form as Format, In, Job, Out, StreamFault, check_expecting, convert_expecting, explain,
+    Details, Form as Format, In, Job, Nearby, Out, StreamFault, check_expecting, convert_expecting, explain,
 };
 use rdf_terms::{Kind, Reason};
 use rdf_trig::DocForm;
@@ -280,11 +280,19 @@ fn handed_out(alloc: Global, format: Format, bytes: &[u8]) -> Option<(Details, D
     let mut checked = some_details();
     let mut converted = some_details();
     let job = Job::new(format, None, Limits::default())?;
-    let _ = check_expecting(alloc, job, &mut In::new(bytes), &mut checked);
+    let mut unasked = Nearby::Unasked;
+    let _ = check_expecting(alloc, job, &mut In::new(bytes), &mut checked, &mut unasked);
     let job = Job::new(format, None, Limits::default())?;
     let mut lines = Vec::new(alloc);
     let mut drain = Out::new(&mut lines);
-    let _ = convert_expecting(alloc, job, &mut In::new(bytes), &mut drain, &mut converted);
+    let _ = convert_expecting(
+        alloc,
+        job,
+        &mut In::new(bytes),
+        &mut drain,
+        &mut converted,
+        &mut unasked,
+    );
     drop(drain);
     Some((checked, converted))
 }
@@ -378,11 +386,13 @@ static EXPLAINED: [Explained; 5] = [
 /// Whether a refusal of the document named `a` is explained by this line.
 fn is_explained(alloc: Global, format: Format, bytes: &[u8], line: &str) -> bool {
     let mut details = Details::none();
-    let Some(job) = Job::new(format, None, Limits::default()) else {
+    let mut near = Nearby::Unasked;
+    let limits = Limits::default();
+    let Some(job) = Job::new(format, None, limits) else {
         return false;
     };
-    match check_expecting(alloc, job, &mut In::new(bytes), &mut details) {
-        Err(StreamFault::Refused(fault)) => match explain(alloc, "a", &fault, &details) {
+    match check_expecting(alloc, job, &mut In::new(bytes), &mut details, &mut near) {
+        Err(StreamFault::Refused(fault)) => match explain(alloc, "a", &fault, &details, &near, limits) {
             Ok(text) => text.as_slice() == line.as_bytes(),
             Err(_) => false,
         },

@@ -2,7 +2,7 @@
 //! proved twice.
 //!
 //! Most modules test one crate: `terms`, `iri`, `tokens`, `lines` and `writer` (both of rdf_lines), `trig`, `stream`
-//! and `command`. `expected` tests which kinds of tokens all readers name after an unexpected one. Three test all
+//! and `command`. `expected` tests which kinds of tokens all readers name after an unexpected one, `near` what is told of the place. Three test all
 //! readers where memory is refused or a sink fails: `memory`, `growths` and `puts`. `reading` and `sinks` have no
 //! tests: they read a document in pieces, and keep the quads that come.
 #![tactic(auto)]
@@ -19,6 +19,8 @@ mod iri;
 mod lines;
 #[cfg(test)]
 mod memory;
+#[cfg(test)]
+mod near;
 #[cfg(test)]
 mod puts;
 #[cfg(test)]

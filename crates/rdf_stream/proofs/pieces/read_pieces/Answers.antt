@@ -5,16 +5,16 @@ use Rattle.rdf_stream.proofs.PiecesLemmas.{before_piece, end_read, end_stops, no
 use Rattle.rdf_stream.proofs.pieces.read_pieces.Goals as goal
 
 pub loop-count-init : goal.loop-count-init
-loop-count-init g c = record { bytes = _; consumed = Consumes-nil _; is_taken = c.requires.begun; same = c.requires.stays; more = c.requires.more; live = c.requires.source; has_room = c.requires.room }
+loop-count-init g c = (record { bytes = _; consumed = Consumes-nil _; is_taken = c.requires.begun; same = c.requires.stays; more = c.requires.more; live = c.requires.source; has_room = c.requires.room }, record { bytes = []; consumed = Consumes-nil _; kept = c.requires.kept; untold = c.requires.untold }, refl, λ e. e)
 
 pub returns-then-count-eq0-clause-read : goal.returns-then-count-eq0-clause-read
 returns-then-count-eq0-clause-read g c =
-    end_read g.R.Run.taken g.R.Run.halts g.R.Run.ends g.R.Run.stays _ _ _ _ _ _ c.loop-count.invariant c.in-Ok.ensures.failed _
+    end_read g.R.Run.taken g.R.Run.halts g.R.Run.ends g.R.Run.stays _ _ _ _ _ _ c.loop-count.invariant.0 c.in-Ok.ensures.failed _
     (no_more _ _ _ _ c.in-Ok.ensures.bytes c.if-count-eq0.true (search rules)) (c.in-Ok.ensures.bytes.1 c.if-count-eq0.true (search rules)) (c.in-Ok.ensures.ended.0 c.if-count-eq0.true (search rules)) _ c.end.ensures.ends
 
 pub returns-then-count-eq0-clause-stops : goal.returns-then-count-eq0-clause-stops
 returns-then-count-eq0-clause-stops g c =
-    end_stops g.R.Run.taken g.R.Run.halts g.R.Run.ends g.R.Run.stays _ _ _ _ _ _ c.loop-count.invariant c.in-Ok.ensures.failed _
+    end_stops g.R.Run.taken g.R.Run.halts g.R.Run.ends g.R.Run.stays _ _ _ _ _ _ c.loop-count.invariant.0 c.in-Ok.ensures.failed _
     (no_more _ _ _ _ c.in-Ok.ensures.bytes c.if-count-eq0.true (search rules)) (c.in-Ok.ensures.bytes.1 c.if-count-eq0.true (search rules)) (c.in-Ok.ensures.ended.0 c.if-count-eq0.true (search rules)) _ c.end.ensures.halts
 
 pub loop-count-smaller : goal.loop-count-smaller
@@ -23,27 +23,27 @@ loop-count-smaller g c =
 
 pub loop-count-preserved : goal.loop-count-preserved
 loop-count-preserved g c =
-    let i = c.loop-count.invariant in
+    let i = c.loop-count.invariant.0 in
     on_piece g.R.Run.taken g.R.Run.halts g.R.Run.ends g.R.Run.stays _ _ _ _ _ _ i c.in-Ok.ensures.failed _ _ c.in-Ok.ensures.bytes.0 (c.in-Ok.ensures.ended.1 (λ e. absurd (c.if-count-eq0.false e))) _ (search rules) c.in-Ok-take.ensures.takes (c.in-Ok-take.ensures.stays _ i.same)
 
 pub returns-in-Err-take-clause-stops : goal.returns-in-Err-take-clause-stops
 returns-in-Err-take-clause-stops g c =
-    piece_stops g.R.Run.taken g.R.Run.halts g.R.Run.ends g.R.Run.stays _ _ _ _ _ _ c.loop-count.invariant c.in-Ok.ensures.failed _ _ c.in-Ok.ensures.bytes.0 (c.in-Ok.ensures.ended.1 (λ e. absurd (c.if-count-eq0.false e))) _ c.in-Err-take.ensures.halts
+    piece_stops g.R.Run.taken g.R.Run.halts g.R.Run.ends g.R.Run.stays _ _ _ _ _ _ c.loop-count.invariant.0 c.in-Ok.ensures.failed _ _ c.in-Ok.ensures.bytes.0 (c.in-Ok.ensures.ended.1 (λ e. absurd (c.if-count-eq0.false e))) _ c.in-Err-take.ensures.halts
 
 pub returns-in-Err-clause-stops : goal.returns-in-Err-clause-stops
 returns-in-Err-clause-stops g c =
-    read_stops g.R.Run.taken g.R.Run.halts g.R.Run.ends g.R.Run.stays _ _ _ _ _ _ c.loop-count.invariant c.in-Err.ensures.bytes c.in-Err.ensures.failed c.in-Err.ensures.ended
+    read_stops g.R.Run.taken g.R.Run.halts g.R.Run.ends g.R.Run.stays _ _ _ _ _ _ c.loop-count.invariant.0 c.in-Err.ensures.bytes c.in-Err.ensures.failed c.in-Err.ensures.ended
 
 pub returns-in-Err-clause-before : goal.returns-in-Err-clause-before
 returns-in-Err-clause-before g c =
-    before_piece g.R.Run.taken g.R.Run.halts g.R.Run.ends g.R.Run.stays _ _ _ _ _ _ c.loop-count.invariant _ [] (Consumes-kept _ _ _ [] (Consumes-nil _) c.in-Err.ensures.bytes) (omega arith) (λ first s. s)
+    before_piece g.R.Run.taken g.R.Run.halts g.R.Run.ends g.R.Run.stays _ _ _ _ _ _ c.loop-count.invariant.0 _ [] (Consumes-kept _ _ _ [] (Consumes-nil _) c.in-Err.ensures.bytes) (omega arith) (λ first s. s)
 
 pub returns-then-count-eq0-clause-before : goal.returns-then-count-eq0-clause-before
 returns-then-count-eq0-clause-before g c =
-    before_piece g.R.Run.taken g.R.Run.halts g.R.Run.ends g.R.Run.stays _ _ _ _ _ _ c.loop-count.invariant _ [] (no_more _ _ _ _ c.in-Ok.ensures.bytes c.if-count-eq0.true (search rules)) (omega arith)
+    before_piece g.R.Run.taken g.R.Run.halts g.R.Run.ends g.R.Run.stays _ _ _ _ _ _ c.loop-count.invariant.0 _ [] (no_more _ _ _ _ c.in-Ok.ensures.bytes c.if-count-eq0.true (search rules)) (omega arith)
     c.end.ensures.stays
 
 pub returns-in-Err-take-clause-before : goal.returns-in-Err-take-clause-before
 returns-in-Err-take-clause-before g c =
     let few : length (take c.in-Ok.count c.fill.new.buf) ≤ g.S.Source.last c.fill.new.self = omega (arith, length-take c.in-Ok.count c.fill.new.buf, c.in-Ok.ensures.last) in
-    before_piece g.R.Run.taken g.R.Run.halts g.R.Run.ends g.R.Run.stays _ _ _ _ _ _ c.loop-count.invariant _ _ c.in-Ok.ensures.bytes.0 few c.in-Err-take.ensures.stays
+    before_piece g.R.Run.taken g.R.Run.halts g.R.Run.ends g.R.Run.stays _ _ _ _ _ _ c.loop-count.invariant.0 _ _ c.in-Ok.ensures.bytes.0 few c.in-Err-take.ensures.stays

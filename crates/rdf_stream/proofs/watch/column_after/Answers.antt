@@ -1,0 +1,11 @@
+-- What stands in front of the last line feed does not count.
+use Rattle.std.proofs.Common.{◌∙◌, ◌+◌, sym, ap}
+use Rattle.std.proofs.lemmas.List.{take_rest}
+use Rattle.rdf_stream.specs.Places.{column_after}
+use Rattle.rdf_stream.proofs.WatchLemmas.{column_feed}
+use Rattle.rdf_stream.proofs.watch.column_after.Goals as goal
+
+pub returns-in-Some : goal.returns-in-Some
+returns-in-Some c =
+    let w = c.args.bytes.now in
+    c.counted.ensures ∙ (ap (column_after 1) (take_rest w (c.in-Some.feed + 1)) ∙ sym (column_feed c.args.column w c.in-Some.feed c.in-Some.ensures.0.high c.in-Some.ensures.1))
