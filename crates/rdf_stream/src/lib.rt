@@ -4,6 +4,7 @@
 mod checks;
 mod conversions;
 mod devices;
+mod excerpt;
 mod expected;
 mod explains;
 mod fault;
