@@ -1,6 +1,7 @@
 //! From a source of bytes to a drain of bytes: a document is read, and its quads are written as lines of N-Quads.
 #![tactic(auto)]
 
+mod causes;
 mod checks;
 mod conversions;
 mod devices;
@@ -21,12 +22,14 @@ mod pieces;
 mod put;
 mod shows;
 mod sieve;
+mod signs;
 mod skips;
 mod token_grammar;
 mod token_line;
 mod views;
 mod without_crs;
 
+pub use causes::{Cause, advice, cause_of};
 pub use checks::{check, check_expecting};
 pub use conversions::{convert, convert_expecting};
 pub use devices::{Drain, Failed, In, Out, Source};
