@@ -12,6 +12,9 @@ pub mod ConvertsLemmas
 pub mod DocumentLemmas
 pub mod ExpectedLemmas
 pub mod ExplainsLemmas
+pub mod ExcerptsLemmas
+pub mod SignsLemmas
+pub mod CausesLemmas
 pub mod ChecksLemmas
 pub mod TokenWordsLemmas
 pub mod TokenOutLemmas

@@ -14,6 +14,9 @@ pub mod Checks
 pub mod Expected
 pub mod Places
 pub mod Explains
+pub mod Excerpts
+pub mod Signs
+pub mod Causes
 pub mod Shows
 pub mod Loads
 -- what need not be: functions that compute, machines and states, what the code's side speaks of, and the laws

@@ -1,9 +1,11 @@
 //! From a source of bytes to a drain of bytes: a document is read, and its quads are written as lines of N-Quads.
 #![tactic(auto)]
 
+mod causes;
 mod checks;
 mod conversions;
 mod devices;
+mod excerpt;
 mod expected;
 mod explains;
 mod fault;
@@ -20,6 +22,7 @@ mod pieces;
 mod put;
 mod shows;
 mod sieve;
+mod signs;
 mod skips;
 mod token_grammar;
 mod token_line;
@@ -27,6 +30,7 @@ mod views;
 mod watch;
 mod without_crs;
 
+pub use causes::{Cause, advice, cause_of};
 pub use checks::{check, check_expecting};
 pub use conversions::{convert, convert_expecting};
 pub use devices::{Drain, Failed, In, Out, Source};
