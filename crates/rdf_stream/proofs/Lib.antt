@@ -12,6 +12,7 @@ pub mod ConvertsLemmas
 pub mod DocumentLemmas
 pub mod ExpectedLemmas
 pub mod ExplainsLemmas
+pub mod SightLemmas
 pub mod ChecksLemmas
 pub mod TokenWordsLemmas
 pub mod TokenOutLemmas

@@ -13,6 +13,7 @@ pub mod Faults
 pub mod Checks
 pub mod Expected
 pub mod Explains
+pub mod Sights
 pub mod Shows
 pub mod Loads
 -- what need not be: functions that compute, machines and states, what the code's side speaks of, and the laws
