@@ -15,6 +15,7 @@ pub mod ExplainsLemmas
 pub mod ExcerptsLemmas
 pub mod SignsLemmas
 pub mod CausesLemmas
+pub mod SightLemmas
 pub mod ChecksLemmas
 pub mod TokenWordsLemmas
 pub mod TokenOutLemmas

@@ -17,6 +17,7 @@ pub mod Explains
 pub mod Excerpts
 pub mod Signs
 pub mod Causes
+pub mod Sights
 pub mod Shows
 pub mod Loads
 -- what need not be: functions that compute, machines and states, what the code's side speaks of, and the laws

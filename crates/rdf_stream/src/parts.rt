@@ -171,7 +171,7 @@ fn text_from(text: &str, at: usize) -> &str
 }
 
 // The longest front of the bytes that is UTF-8.
-fn utf8_front(bytes: &[u8]) -> &str
+pub(crate) fn utf8_front(bytes: &[u8]) -> &str
     ensures { result.now ≡ take (utf8_valid_len bytes.now) bytes.now }
 {
     match from_utf8(bytes) {

@@ -5,6 +5,7 @@ ghost use Rattle.rdf_stream.specs.Places.{HandsOut, IsNear, is_asked, column_aft
 ghost use Rattle.rdf_stream.specs.Kept.{Watches};
 ghost use Rattle.rdf_stream.specs.Watches.{IsNearFault, WatchesAll};
 
+use crate::excerpt::REACH;
 use crate::fault::StreamFault;
 use crate::sight::{Sight, sight_of};
 use memchr::memrchr;
@@ -14,9 +15,6 @@ use std::marker::Model;
 
 /// The number of bytes that a document has at most.
 const MOST_BYTES: u64 = (1 << 63) - 1;
-
-/// How many bytes of a line are told of at most, in front of a place and from it on.
-const REACH: usize = 244;
 
 /// The place of a refusal in its line, and the bytes near it.
 #[derive(Drop)]

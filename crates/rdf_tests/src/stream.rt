@@ -6,6 +6,7 @@ mod memory;
 mod refused;
 mod rows;
 mod runs;
+mod sights;
 mod skips;
 mod streams;
 

@@ -1,0 +1,115 @@
+-- What stands at a place, where the bytes from there on are read by themselves.
+use Prim.Native.Char.{code}
+use Rattle.std.specs.Prelude.{◌≡◌, ◌≢◌, ℕ, ◌<◌, ◌≤◌, Bool, false, List, [], ◌∷◌, ◌++◌, length, take, encode_utf8_all}
+use Rattle.std.specs.Str.{IsUtf8}
+use Rattle.rdf_terms.specs.declared.kind.Dialect.{Dialect}
+use Rattle.rdf_terms.specs.declared.kind.Kind.{Kind}
+use Rattle.rdf_terms.specs.declared.kind.Kind.TheVariants.{End}
+use Rattle.rdf_terms.specs.declared.reason.Reason.{Reason}
+use Rattle.rdf_terms.specs.declared.reason.Reason.TheVariants.{NoToken}
+use Rattle.rdf_tokens.specs.Tokens.{Outcome, Token as Read, Reading}
+use Rattle.rdf_tokens.specs.Tokens.Outcome.{undecided, no_token}
+use Rattle.rdf_tokens.specs.Good.{tokens_of}
+use Rattle.rdf_tokens.specs.Unread.{Unread}
+use Rattle.rdf_tokens.specs.Scans.{HasScanned, IsWaiting, SameScan}
+use Rattle.rdf_stream.specs.declared.sight.Sight.{Sight}
+use Rattle.rdf_stream.specs.declared.sight.Sight.TheVariants.{Token, Stop, Unknown}
+use Rattle.rdf_stream.specs.declared.sight.Seen.{Seen}
+use Rattle.rdf_stream.specs.declared.sight.Seen.TheVariants.{Open, First, Nothing, Other}
+
+-- The tokens of the bytes from a place on, by themselves. With a space before them a U+FEFF at the place is no byte order mark.
+abbrev pub reading_from : Dialect → ℕ → List ℕ → Bool → Reading
+reading_from d limit rest is_end = tokens_of d limit (code " " ∷ rest) is_end
+
+-- a token of this kind comes first, of n bytes, and it is not the end
+pub record BeginsWith (r : Reading) (k : Kind) (n : ℕ) : Type 0 where
+  pub first : Read
+  pub others : List Read
+  pub tokens : r.tokens ≡ first ∷ others
+  pub kind : first.kind ≡ k
+  pub text : k ≢ End
+  pub bytes : n ≡ length (encode_utf8_all first.text)
+
+-- there is no token, and this is the outcome
+pub record HasNone (r : Reading) (o : Outcome) : Type 0 where
+  pub tokens : r.tokens ≡ []
+  pub outcome : r.outcome ≡ o
+
+-- the first n bytes, before more come, leave open whether a token begins with them
+pub record LeavesOpen (d : Dialect) (limit : ℕ) (rest : List ℕ) (n : ℕ) : Type 0 where
+  pub within : n ≤ length rest
+  pub none : HasNone (reading_from d limit (take n rest) false) undecided
+
+-- they do, and they are whole characters
+pub record IsOpen (d : Dialect) (limit : ℕ) (rest : List ℕ) (n : ℕ) : Type 0 where
+  pub front : LeavesOpen d limit rest n
+  pub characters : IsUtf8 (take n rest)
+
+-- they do, and no more of the bytes do
+pub record IsLongestOpen (d : Dialect) (limit : ℕ) (rest : List ℕ) (n : ℕ) : Type 0 where
+  pub opens : IsOpen d limit rest n
+  pub longest : (m : ℕ) → IsOpen d limit rest m → m ≤ n
+
+-- the first token is the end, or none is there for another reason than that none begins so
+abbrev pub IsUnknown : List Read → Outcome → Type 0
+IsUnknown [] o = o ≢ no_token
+IsUnknown (t ∷ ts) o = t.kind ≡ End
+
+-- What stands at a place, where these bytes come from there on, and then more or no more: the first token; or none, since a token could begin with so
+-- many bytes and with no more; or neither.
+abbrev pub IsSight : Dialect → ℕ → List ℕ → Bool → Sight → Type 0
+IsSight d limit rest is_end (Token k n) = BeginsWith (reading_from d limit rest is_end) k n
+IsSight d limit rest is_end (Stop n) = HasNone (reading_from d limit rest is_end) no_token × IsLongestOpen d limit rest n
+IsSight d limit rest is_end Unknown = IsUnknown (reading_from d limit rest is_end).tokens (reading_from d limit rest is_end).outcome
+
+-- ---- within a run
+
+-- it is decided, and it is neither a token nor that there is none
+abbrev pub IsOther : List Read → Outcome → Type 0
+IsOther [] o = (o ≢ no_token) × (o ≢ undecided)
+IsOther (t ∷ ts) o = t.kind ≡ End
+
+-- what a reading begins with
+abbrev pub IsSeen : Reading → Seen → Type 0
+IsSeen r Open = HasNone r undecided
+IsSeen r (First k n) = BeginsWith r k n
+IsSeen r Nothing = HasNone r no_token
+IsSeen r Other = IsOther r.tokens r.outcome
+
+-- what is seen of a token
+abbrev pub IsSeenOf : Read → Seen → Type 0
+IsSeenOf t (First k n) = (t.kind ≡ k) × (k ≢ End) × (n ≡ length (encode_utf8_all t.text))
+IsSeenOf t Other = t.kind ≡ End
+IsSeenOf t s = ⊥
+
+-- what is seen where a scanner stops for a reason
+abbrev pub seen_for : Reason → Seen
+seen_for NoToken = Nothing
+seen_for reason = Other
+
+-- A scanner that had given no token was asked for one.
+pub record Sees (old : Unread) (s : Seen) (new : Unread) : Type 0 where
+  pub same : SameScan old new
+  pub is : (bytes : List ℕ) → HasScanned old bytes [] → IsSeen (tokens_of old.dialect old.limit bytes old.ended) s
+  pub waits : s ≡ Open → IsWaiting new
+  pub read : s ≡ Open → (bytes : List ℕ) → HasScanned old bytes [] → HasScanned new bytes []
+
+-- One that waits was told whether more bytes come.
+abbrev pub SeesEnd : Unread → Bool → Seen → Type 0
+SeesEnd old is_end s = (bytes : List ℕ) → HasScanned old bytes [] → HasNone (tokens_of old.dialect old.limit bytes false) undecided →
+    IsSeen (tokens_of old.dialect old.limit bytes is_end) s
+
+-- First it took n bytes of a piece, at least one of a piece that is not empty.
+pub record SeesPart (old : Unread) (piece : List ℕ) (n : ℕ) (s : Seen) (new : Unread) : Type 0 where
+  pub same : SameScan old new
+  pub within : n ≤ length piece
+  pub forward : 0 < length piece → 0 < n
+  pub is : (bytes : List ℕ) → HasScanned old bytes [] → IsSeen (tokens_of old.dialect old.limit (bytes ++ take n piece) false) s
+  pub waits : s ≡ Open → IsWaiting new
+  pub read : s ≡ Open → (bytes : List ℕ) → HasScanned old bytes [] → HasScanned new (bytes ++ take n piece) []
+
+-- A scanner has taken a space and the first n of these bytes, and they leave the first token open.
+pub record HasTaken (v : Unread) (bytes : List ℕ) (n : ℕ) : Type 0 where
+  pub front : LeavesOpen v.dialect v.limit bytes n
+  pub waiting : IsWaiting v
+  pub scanned : HasScanned v (code " " ∷ take n bytes) []

@@ -1,0 +1,109 @@
+// What stands at places of documents, where the bytes from there on are read by themselves.
+
+use rdf_stream::{Sight, sight_of};
+use rdf_tokens::{Dialect, Kind};
+
+// The bytes from a place on, and what stands there where they are the last.
+static ROWS: [(Dialect, &str, Sight); 27] = [
+    (Dialect::Turtle, "<http://a/o b> .", Sight::Stop(11)),
+    (Dialect::Lines, "<http://a/o b> .", Sight::Stop(11)),
+    (Dialect::Turtle, "\"abc", Sight::Stop(4)),
+    (Dialect::Lines, "\"abc", Sight::Stop(4)),
+    (Dialect::Lines, "\"abc\n<a:b> .", Sight::Stop(4)),
+    (Dialect::Turtle, "@en_US", Sight::Token(Kind::LangTag, 3)),
+    (Dialect::Turtle, "]", Sight::Token(Kind::CloseBracket, 1)),
+    (Dialect::Lines, "]", Sight::Stop(0)),
+    (Dialect::Turtle, "\u{1f}", Sight::Stop(0)),
+    (Dialect::Lines, "\u{1f}<a:b>", Sight::Stop(0)),
+    (Dialect::Turtle, "uthor \"x\"", Sight::Stop(5)),
+    (Dialect::Turtle, "\u{feff}<a:b>", Sight::Stop(3)),
+    (Dialect::Lines, "\u{feff}", Sight::Stop(0)),
+    (
+        Dialect::Turtle,
+        "a:\u{e9}t\u{e9} ",
+        Sight::Token(Kind::PnameLn, 7),
+    ),
+    (Dialect::Turtle, "\u{e9}t\u{e9} .", Sight::Stop(5)),
+    (Dialect::Turtle, "\u{e9}t\u{e9}\u{d7} .", Sight::Stop(5)),
+    (Dialect::Turtle, "\u{e9}t\u{e9}", Sight::Stop(5)),
+    (Dialect::Turtle, "<\u{1f600}\u{1f600} >", Sight::Stop(9)),
+    (Dialect::Turtle, "'''a''", Sight::Stop(6)),
+    (Dialect::Turtle, "", Sight::Unknown),
+    (Dialect::Turtle, " # a comment", Sight::Unknown),
+    (
+        Dialect::Turtle,
+        " # a comment\n;",
+        Sight::Token(Kind::Semicolon, 1),
+    ),
+    (Dialect::Lines, "\r\n\n.", Sight::Token(Kind::LineEnd, 1)),
+    (Dialect::Turtle, "\"\\uD800\"", Sight::Unknown),
+    (Dialect::Turtle, "\"a\\z\"", Sight::Stop(3)),
+    (Dialect::Turtle, "^a", Sight::Stop(1)),
+    (Dialect::Turtle, "_:a.b. ", Sight::Token(Kind::LabelNode, 5)),
+];
+
+#[test]
+fn what_stands_at_a_place_is_told(rt: HostRuntime) {
+    for row in ROWS.as_slice() {
+        let sight = sight_of(rt.alloc(), row.0, 1000, row.1.as_bytes(), true);
+        assert_eq!(rt; sight, Ok(row.2), "{}", row.1);
+    }
+}
+
+// The first bytes of a row's, of which more may come, tell what all bytes tell, or that more decide.
+fn is_told_early(sight: Sight, whole: Sight) -> bool {
+    sight == whole || sight == Sight::Unknown
+}
+
+#[test]
+fn fewer_bytes_tell_the_same_or_nothing(rt: HostRuntime) {
+    for row in ROWS.as_slice() {
+        let bytes = row.1.as_bytes();
+        for len in 0..bytes.len() {
+            match sight_of(rt.alloc(), row.0, 1000, &bytes[..len], false) {
+                Ok(sight) => assert!(rt; is_told_early(sight, row.2), "{} {len}", row.1),
+                Err(_) => assert!(rt; false),
+            }
+        }
+    }
+}
+
+// A string of so many bytes between its quotes, and what comes after them.
+fn long_string(rt: HostRuntime, len: usize, after: &[u8]) -> Vec<u8> {
+    let mut bytes = Vec::from_slice(rt.alloc(), b"\"").unwrap();
+    for _ in 0..len / 2 {
+        bytes.extend_from_slice("\u{e9}".as_bytes()).unwrap();
+    }
+    bytes.extend_from_slice(after).unwrap();
+    bytes
+}
+
+#[test]
+fn a_long_string_is_read_in_parts(rt: HostRuntime) {
+    for len in [4090, 4092, 4094, 4096, 8190, 8192, 20_000] {
+        let open = long_string(rt, len, b"\n<a:b>");
+        let closed = long_string(rt, len, b"\" .");
+        let broken = long_string(rt, len, b"\xff\" .");
+        let count = len as u64 + 1;
+        let sight = sight_of(rt.alloc(), Dialect::Lines, 100_000, open.as_slice(), true);
+        assert_eq!(rt; sight, Ok(Sight::Stop(count)));
+        let sight = sight_of(rt.alloc(), Dialect::Turtle, 1000, open.as_slice(), true);
+        assert_eq!(rt; sight, Ok(Sight::Unknown));
+        let sight = sight_of(
+            rt.alloc(),
+            Dialect::Turtle,
+            100_000,
+            closed.as_slice(),
+            true,
+        );
+        assert_eq!(rt; sight, Ok(Sight::Token(Kind::ShortString, count + 1)));
+        let sight = sight_of(
+            rt.alloc(),
+            Dialect::Turtle,
+            100_000,
+            broken.as_slice(),
+            true,
+        );
+        assert_eq!(rt; sight, Ok(Sight::Unknown));
+    }
+}
