@@ -1,10 +1,10 @@
 // Where bytes come from and where they go, and std's readers and writers in these places.
 
-ghost use Rattle.std.specs.Prelude.{◌≡◌, ℕ, ◌<◌, ◌≤◌, List, length, true, false, is_err, is_ok, Option, Bool, IfOk, OnErr};
+ghost use Rattle.std.specs.Prelude.{◌≡◌, ℕ, ◌<◌, ◌≤◌, List, length, true, false, is_err, is_ok, is_some, Option, Bool, IfOk, OnErr};
 ghost use Rattle.std.specs.Io.KnownBytes.{Keeps, ReadConsumes, WriteAppends};
 ghost use Rattle.rdf_stream.specs.Devices.{Reading, ReportsEnd, Written};
 
-use std::io::{Read, Write};
+use std::io::{Error, ErrorKind, Read, Write};
 use std::marker::Model;
 
 /// The device failed.
@@ -75,19 +75,19 @@ pub trait Drain {
         ensures { result ≡ has_failed self.now };
 }
 
-/// A reader as a source. Each error of the reader, `Interrupted` too, is a failure.
+/// A reader as a source. Each error of the reader, `Interrupted` too, is a failure, and is kept.
 #[derive(Drop)]
 pub struct In<R: Read> {
     reader: R,
     last: usize,
     ended: bool,
-    failed: bool,
+    read_error: Option<Error>,
 }
 
 impl<R: Read> Model for In<R> {
     ghost Value = { Reading };
 
-    ghost view = { λ s. record { remaining = R.remaining s.reader; last = s.last; has_ended = s.ended; has_failed = s.failed } };
+    ghost view = { λ s. record { remaining = R.remaining s.reader; last = s.last; has_ended = s.ended; has_failed = is_some s.read_error } };
 }
 
 impl<R: Read> In<R> {
@@ -99,8 +99,15 @@ impl<R: Read> In<R> {
             reader,
             last: 0,
             ended: false,
-            failed: false,
+            read_error: None,
         }
+    }
+
+    /// The reader's error, once a call has failed.
+    pub fn error(&self) -> Option<Error>
+        ensures { is_some result ≡ self.now.has_failed }
+    {
+        self.read_error
     }
 }
 
@@ -124,9 +131,9 @@ impl<R: Read> Source for In<R> {
                 self.last = count;
                 Ok(count)
             }
-            Err(_) => {
+            Err(error) => {
                 self.last = 0;
-                self.failed = true;
+                self.read_error = Some(error);
                 Err(Failed)
             }
         }
@@ -137,23 +144,23 @@ impl<R: Read> Source for In<R> {
     }
 
     fn failed(&self) -> bool {
-        self.failed
+        self.read_error.is_some()
     }
 }
 
 /// A writer as a drain. Each error of the writer, `Interrupted` too, is a failure, and so is a write of 0 bytes
-/// where there are some.
+/// where there are some. The error is kept.
 #[derive(Drop)]
 pub struct Out<W: Write> {
     writer: W,
-    has_failed: bool,
+    write_error: Option<Error>,
     flushed: bool,
 }
 
 impl<W: Write> Model for Out<W> {
     ghost Value = { Written };
 
-    ghost view = { λ s. record { contents = W.contents s.writer; has_failed = s.has_failed; is_flushed = s.flushed } };
+    ghost view = { λ s. record { contents = W.contents s.writer; has_failed = is_some s.write_error; is_flushed = s.flushed } };
 }
 
 impl<W: Write> Out<W> {
@@ -163,16 +170,23 @@ impl<W: Write> Out<W> {
     {
         Out {
             writer,
-            has_failed: false,
+            write_error: None,
             flushed: false,
         }
     }
 
+    /// The writer's error, once a call has failed. Of a write of 0 bytes it says that none was taken.
+    pub fn error(&self) -> Option<Error>
+        ensures { is_some result ≡ self.now.has_failed }
+    {
+        self.write_error
+    }
+
     // The writer failed.
-    fn fail(&mut self) -> Failed
+    fn fail(&mut self, error: Error) -> Failed
         ensures { self.new ≡ record self.old { has_failed = true } }
     {
-        self.has_failed = true;
+        self.write_error = Some(error);
         Failed
     }
 }
@@ -187,9 +201,9 @@ impl<W: Write> Drain for Out<W> {
     fn put_some(&mut self, bytes: &[u8]) -> Result<usize, Failed> {
         self.flushed = false;
         match self.writer.write(bytes) {
-            Ok(count) if count == 0 && !bytes.is_empty() => Err(self.fail()),
+            Ok(count) if count == 0 && !bytes.is_empty() => Err(self.fail(no_byte_taken())),
             Ok(count) => Ok(count),
-            Err(_) => Err(self.fail()),
+            Err(error) => Err(self.fail(error)),
         }
     }
 
@@ -199,14 +213,18 @@ impl<W: Write> Drain for Out<W> {
                 self.flushed = true;
                 Ok(())
             }
-            Err(_) => {
+            Err(error) => {
                 self.flushed = false;
-                Err(self.fail())
+                Err(self.fail(error))
             }
         }
     }
 
     fn failed(&self) -> bool {
-        self.has_failed
+        self.write_error.is_some()
     }
+}
+
+fn no_byte_taken() -> Error {
+    Error::new(ErrorKind::WriteZero, "no byte was taken")
 }
