@@ -25,7 +25,7 @@ printf '<a:s> <a:p> "x" .\n<s> <a:p> "x" .\n' >bad.nt
 git add bad.nt
 printf '<a:s> <a:p> "x" .\n' >bad.nt
 if git commit -q -m 'bad' 2>"$room/said"; then exit 1; fi
-grep -qx 'bad.nt:2: relative IRI' "$room/said"
+grep -qx 'bad.nt:2:1: relative IRI: "<s>"' "$room/said"
 [ "$(git log --oneline | wc -l)" = 1 ]
 
 # As mended it is taken; a document that is removed is not looked at.
@@ -40,7 +40,7 @@ printf '<a:s> <a:p> <a:o> <a:t> .\n' >'open.ttl'
 git add .
 git commit -q --no-verify -m 'bad'
 if bash workflow.sh >"$room/said" 2>&1; then exit 1; fi
-grep -qx 'a b/bad one.ttl:2: unbound prefix' "$room/said"
-grep -qx '::error file=a b/bad one.ttl,line=2::unbound prefix' "$room/said"
-grep -qx '::error file=open.ttl,line=1::unexpected token: IRI; expected ".", ";" or ","' "$room/said"
+grep -qx 'a b/bad one.ttl:2:12: unbound prefix: "x:c"' "$room/said"
+grep -qx '::error file=a b/bad one.ttl,line=2,col=12::unbound prefix: "x:c"' "$room/said"
+grep -qx '::error file=open.ttl,line=1,col=19::unexpected token: IRI; expected ".", ";" or ","' "$room/said"
 echo 'hook and workflow: as they should'

@@ -197,7 +197,8 @@ def compare_kinds(counts, program):
     """Of an unexpected token its kind, and the kinds of which one could have stood there, beside the program's words."""
     for format, document in UNEXPECTED:
         words = [program, 'check', '--format', format, '--explain']
-        said = subprocess.run(words, input=document.encode(), capture_output=True).stderr.decode().splitlines()[-1]
+        said = subprocess.run(words, input=document.encode(), capture_output=True).stderr.decode().splitlines()[1]
+        said = re.sub(r'^(-:[0-9]+):[0-9]+:', r'\1:', said)
         for call in rdfconv.check, rdfconv.convert:
             try:
                 call(document, format)

@@ -49,10 +49,12 @@ typedef struct {
     "ended", "unexpected token", "relative IRI", "IRI too long", "write failed", "unbound prefix", "no base", "too deep", \
     "too many bindings", "bad binding" }
 
-/* what is known of an unexpected token (its reason is 8): sets of kinds, of which RDFCONV_KINDS has the names, that of the lowest bit first */
+/* what is known of an unexpected token (its reason is 8): sets of kinds, of which RDFCONV_KINDS has the names, that of the lowest bit first;
+   and of each refusal how much stands at its place */
 typedef struct {
     uint64_t found;           /* its kind alone, or 0 where no token was unexpected */
     uint64_t expected;        /* the kinds of which a token could have stood in its place, whatever it spells; limits, prefixes and bases aside */
+    uint64_t length;          /* the bytes of the token there; where there is none, of what could begin one; 0 where that is not known */
 } rdfconv_unexpected;
 
 #define RDFCONV_KINDS { "IRI", "blank node label", "string", "string", "language tag", "\"^^\"", "\".\"", "line end", "number", \
@@ -76,7 +78,8 @@ void rdfconv_convert(const rdfconv_request *request, const uint8_t *base, size_t
 void rdfconv_check(const rdfconv_request *request, const uint8_t *base, size_t base_len, const uint8_t *prefixes,
                    size_t prefixes_len, const uint8_t *input, size_t input_len, rdfconv_outcome *outcome);
 
-/* What rdfconv_check does, and what is known of an unexpected token, which is not NULL and overlaps nothing else. */
+/* What rdfconv_check does, and what is known of an unexpected token and of the place of a refusal, which is not NULL and overlaps nothing
+   else. */
 void rdfconv_check_expecting(const rdfconv_request *request, const uint8_t *base, size_t base_len, const uint8_t *prefixes,
                              size_t prefixes_len, const uint8_t *input, size_t input_len, rdfconv_outcome *outcome,
                              rdfconv_unexpected *unexpected);

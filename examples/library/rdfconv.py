@@ -33,7 +33,7 @@ class Outcome(ctypes.Structure):
 
 
 class Unexpected(ctypes.Structure):
-    _fields_ = [(name, ctypes.c_uint64) for name in ('found', 'expected')]
+    _fields_ = [(name, ctypes.c_uint64) for name in ('found', 'expected', 'length')]
 
 
 class Buffer(ctypes.Structure):
@@ -45,14 +45,16 @@ class Buffer(ctypes.Structure):
 
 class Refused(Exception):
     """A document that is refused: the reason, the byte from 0, its line from 1, and the lines of the quads before that place; of an
-    unexpected token its kind, and the kinds of which one could have stood there (else None and none)."""
+    unexpected token its kind, and the kinds of which one could have stood there (else None and none); and how many bytes the token
+    there has, or could begin one where there is none (0 where that is not known)."""
 
-    def __init__(self, reason, offset, line, lines, found=None, expected=()):
+    def __init__(self, reason, offset, line, lines, found=None, expected=(), length=0):
         super().__init__(f'{reason} at byte {offset}, line {line}')
-        self.reason, self.offset, self.line, self.lines, self.found, self.expected = reason, offset, line, lines, found, expected
+        self.reason, self.offset, self.line, self.lines = reason, offset, line, lines
+        self.found, self.expected, self.length = found, expected, length
 
     def __reduce__(self):
-        return Refused, (self.reason, self.offset, self.line, self.lines, self.found, self.expected)
+        return Refused, (self.reason, self.offset, self.line, self.lines, self.found, self.expected, self.length)
 
 
 class BadPrefixes(Exception):
@@ -172,7 +174,8 @@ def kinds_of(bits):
 def end(outcome, base, lines, unexpected):
     if outcome.status == 1:
         found = kinds_of(unexpected.found)
-        raise Refused(REASONS[outcome.reason], outcome.offset, outcome.line, lines, found[0] if found else None, kinds_of(unexpected.expected))
+        raise Refused(REASONS[outcome.reason], outcome.offset, outcome.line, lines, found[0] if found else None, kinds_of(unexpected.expected),
+                      unexpected.length)
     if outcome.status == 2:  # all else that has no job was looked at before
         raise ValueError(f'base is {base!r:.99}, which is no IRI')
     if outcome.status == 4:
@@ -194,7 +197,7 @@ def convert(document, format='trig', base='', prefixes='', word='', *, token=1 <
                 break
             room = outcome.needed
         lines, unexpected = ctypes.string_at(output, outcome.written), Unexpected()
-        if outcome.status == 1 and REASONS[outcome.reason] == 'unexpected token':
+        if outcome.status == 1:
             library.rdfconv_check_expecting(asked, *slices[:4], *slices[6:], Outcome(), unexpected)
     end(outcome, base, lines, unexpected)
     return lines

@@ -9,7 +9,8 @@ mod runs;
 
 ghost use Rattle.std.specs.Prelude.{◌≡◌, length};
 ghost use Rattle.rdf_c.specs.Calls.{HasChecked, HasConverted};
-ghost use Rattle.rdf_c.specs.Kinds.{HasExpected, HasToldFor};
+ghost use Rattle.rdf_c.specs.Kinds.{HasExpected, HasToldFor, IsPlacedFor};
+ghost use Rattle.rdf_stream.specs.Places.{HandsOut};
 ghost use Rattle.rdf_stream.specs.Expected.{NoDetails};
 
 pub use crate::kinds::Unexpected;
@@ -17,7 +18,7 @@ pub use crate::outcome::Outcome;
 pub use crate::request::Request;
 use crate::request::{JobFault, job_of};
 use crate::runs::{check_bytes, convert_bytes};
-use rdf_stream::Details;
+use rdf_stream::{Details, Near, Nearby};
 use std::alloc::Global;
 
 /// Reads the document, and writes the lines of its quads to the front of the output, as many bytes as there is room for; the
@@ -61,11 +62,21 @@ pub extern "C" fn rdfconv_check(
     ensures outcome { HasChecked request.now base.now prefixes.now input.now outcome.new }
 {
     let mut details = Details::none();
-    *outcome = check_for(alloc, request, base, prefixes, input, &mut details);
+    let mut near = Nearby::Unasked;
+    *outcome = check_for(
+        alloc,
+        request,
+        base,
+        prefixes,
+        input,
+        &mut details,
+        &mut near,
+    );
 }
 
 /// What `rdfconv_check` does; and of a document that is refused for an unexpected token the token's kind, and the kinds of tokens that
-/// could have stood in its place. Else both sets are empty.
+/// could have stood in its place. Else both sets are empty. Of each refusal the number of bytes that stand at its place: of the token there,
+/// or, where there is none, of what could begin one.
 #[unsafe(no_mangle)]
 pub extern "C" fn rdfconv_check_expecting(
     alloc: Global,
@@ -80,11 +91,20 @@ pub extern "C" fn rdfconv_check_expecting(
     ensures unexpected { HasExpected request.now base.now prefixes.now input.now outcome.new unexpected.new }
 {
     let mut details = Details::none();
-    *outcome = check_for(alloc, request, base, prefixes, input, &mut details);
-    *unexpected = Unexpected::of(details);
+    let mut near = Nearby::Asked;
+    *outcome = check_for(
+        alloc,
+        request,
+        base,
+        prefixes,
+        input,
+        &mut details,
+        &mut near,
+    );
+    *unexpected = Unexpected::of(details, &near);
 }
 
-// Checks a document, and tells what is known of an unexpected token.
+// Checks a document, and tells what is known of an unexpected token and of the place of a refusal.
 fn check_for(
     alloc: Global,
     request: &Request,
@@ -92,13 +112,16 @@ fn check_for(
     prefixes: &[u8],
     input: &[u8],
     details: &mut Details,
+    near: &mut Nearby<Near>,
 ) -> Outcome
     requires none { NoDetails details.old }
+    requires untold { HandsOut near.old (λ n. ⊥) near.old }
     ensures outcome { HasChecked request.now base.now prefixes.now input.now result }
     ensures told { HasToldFor request.now base.now prefixes.now input.now result details.new }
+    ensures near { HandsOut near.old (IsPlacedFor request.now base.now prefixes.now input.now result) near.new }
 {
     match job_of(alloc, request, base, prefixes, &[]) {
-        Ok(job) => check_bytes(alloc, job, input, details),
+        Ok(job) => check_bytes(alloc, job, input, details, near),
         Err(JobFault::NoJob) => Outcome::of_status(2),
         Err(JobFault::Prefixes(fault)) => Outcome::of_prefixes(fault),
         Err(JobFault::Memory) => Outcome::of_status(4),

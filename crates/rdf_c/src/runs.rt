@@ -5,13 +5,16 @@ ghost use Rattle.rdf_stream.specs.Converts.{Accepts};
 ghost use Rattle.rdf_stream.specs.Checks.{IsAccepted};
 ghost use Rattle.rdf_stream.specs.Languages.{conversion_of, language_of};
 ghost use Rattle.rdf_c.specs.Numbers.{accepted_with, refused_with};
-ghost use Rattle.rdf_c.specs.Kinds.{HasTold, TellsFor};
+ghost use Rattle.rdf_c.specs.Kinds.{HasTold, IsPlaced, PlacesFor, TellsFor};
+ghost use Rattle.rdf_stream.specs.Places.{HandsOut};
 ghost use Rattle.rdf_stream.specs.Expected.{NoDetails};
 ghost use Rattle.rdf_c.specs.Calls.{Checks, Converts, CheckStopped, Stopped};
 
 use crate::memory::{Bytes, Lines};
 use crate::outcome::{Outcome, number_of};
-use rdf_stream::{Details, Fault, Job, StreamFault, Summary, check_expecting, convert};
+use rdf_stream::{
+    Details, Fault, Job, Near, Nearby, StreamFault, Summary, check_expecting, convert,
+};
 use std::alloc::Global;
 
 /// Converts the bytes.
@@ -96,12 +99,19 @@ fn copy_front(lines: &[u8], output: &mut [u8]) -> usize
     count
 }
 
-/// Checks the bytes, and tells what is known of an unexpected token.
-pub(crate) fn check_bytes(alloc: Global, job: Job, input: &[u8], details: &mut Details) -> Outcome
+/// Checks the bytes, and tells what is known of an unexpected token and of the place of a refusal.
+pub(crate) fn check_bytes(
+    alloc: Global,
+    job: Job,
+    input: &[u8],
+    details: &mut Details,
+    near: &mut Nearby<Near>,
+) -> Outcome
     ensures outcome { Checks job input.now result }
     ensures told { HasTold job input.now result details.new }
+    ensures near { HandsOut near.old (IsPlaced job input.now result) near.new }
 {
-    match check_all(alloc, job, input, details) {
+    match check_all(alloc, job, input, details, near) {
         Ok(summary) => accepted(summary, 0, 0),
         Err(StreamFault::Refused(fault)) => refused(fault, 0, 0),
         Err(_) => {
@@ -116,12 +126,14 @@ fn check_all(
     job: Job,
     input: &[u8],
     details: &mut Details,
+    near: &mut Nearby<Near>,
 ) -> Result<Summary, StreamFault>
     ensures accepted { IfOk result (λ summary. IsAccepted (language_of job) input.now summary) }
     ensures stops { IfErr result (λ fault. CheckStopped fault job input.now) }
     ensures none { OnOk result (NoDetails details.new) }
     ensures told { IfErr result (λ fault. TellsFor fault job input.now details.new) }
+    ensures near { HandsOut near.old (PlacesFor job input.now result) near.new }
 {
     let mut source = Bytes::new(input);
-    check_expecting(alloc, job, &mut source, details)
+    check_expecting(alloc, job, &mut source, details, near)
 }

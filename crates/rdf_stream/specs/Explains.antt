@@ -1,5 +1,5 @@
 -- The lines that explain a refusal, the first in the form that editors read.
-use Rattle.std.specs.Prelude.{◌||◌, ◌&&◌, ◌==◌, not, map, option_map, ℕ, Bool, List, [], ◌∷◌, ◌++◌, codes, cond, decimal, length, nat_le, take, Option, Some, None}
+use Rattle.std.specs.Prelude.{◌||◌, ◌&&◌, ◌==◌, not, map, option_map, ℕ, Bool, List, [], ◌∷◌, ◌++◌, codes, cond, decimal, length, nat_le, nat_lt, take, Option, Some, None}
 use Rattle.std.specs.Borrow.{Bor}
 use Rattle.std.specs.List.{list_all}
 use Rattle.rdf_iri.specs.Limits.{Sizes}
@@ -11,6 +11,7 @@ use Rattle.rdf_tokens.specs.declared.token.Fault.{Fault}
 use Rattle.rdf_driver.specs.Kinds.{has}
 use Rattle.rdf_stream.specs.declared.expected.Details.{Details}
 use Rattle.rdf_stream.specs.declared.causes.Cause.{Cause}
+use Rattle.rdf_stream.specs.declared.explains.Evidence.{Evidence}
 use Rattle.rdf_stream.specs.declared.sight.Sight.{Sight}
 use Rattle.rdf_stream.specs.declared.sight.Sight.TheVariants.{Token, Stop}
 use Rattle.rdf_stream.specs.declared.watch.Nearby.{Nearby}
@@ -138,7 +139,7 @@ is_graphic b = nat_le 33 b && nat_le b 126
 
 -- the first n bytes, where they are there and are shown as they stand
 abbrev pub name_of : List ℕ → ℕ → Option (List ℕ)
-name_of after n = cond (nat_le n (length after) && list_all is_graphic (take n after)) (Some (take n after)) None
+name_of after n = cond (nat_lt (length after) n) None (cond (list_all is_graphic (take n after)) (Some (take n after)) None)
 
 -- a name in quotes; nothing where there is none
 abbrev pub quoted_text : Option (List ℕ) → List ℕ
@@ -186,9 +187,12 @@ shown_text name f (Told near) =
     ++ cause_text (front_text name f.line (Told near)) (cause_of f.reason f.offset near.before near.after)
 shown_text name f near = []
 
--- The lines, each with its LF: the name of the document and the place, why it is refused, what stands there, what could have stood there, and the limit
--- that is passed; the line near the place; and its likely cause.
-abbrev pub explain_text : List ℕ → Fault → Details → Nearby NearRead → Sizes → List ℕ
-explain_text name f details near limits =
-    front_text name f.line near ++ reason_text f.reason ++ found_text details.found ++ expected_text details.expected
-    ++ sight_text f.reason near ++ limit_text (limit_of f.reason limits) ++ codes "\n" ++ shown_text name f near
+-- what is said of it: why the document is refused, what stands there, what could have stood there, where a token stops, and the limit that is passed
+abbrev pub told_text : Reason → Evidence NearRead → List ℕ
+told_text reason e =
+    reason_text reason ++ found_text e.details.found ++ expected_text e.details.expected ++ sight_text reason e.near
+    ++ limit_text (limit_of reason e.limits)
+
+-- The lines, each with its LF: the name of the document and the place with what is said of the refusal; the line near the place; and the likely cause.
+abbrev pub explain_text : List ℕ → Fault → Evidence NearRead → List ℕ
+explain_text name f e = front_text name f.line e.near ++ told_text f.reason e ++ codes "\n" ++ shown_text name f e.near

@@ -80,10 +80,11 @@ pub fn convert_expecting<A: Allocator + Copy, S: Source, D: Drain>(
     ensures near { HandsOut near.old (TellsNear (language_of job).dialect (language_of job).limit result (S.remaining source.old) (told S.Source source.new)) near.new }
 {
     let mut job = job;
-    let limit = job.limits().token();
+    let limits = job.limits();
+    let limit = limits.token();
     match job.form().kind() {
         Kind::Line(form) => {
-            let reader = line_reader(alloc, form, job.limits());
+            let reader = line_reader(alloc, form, limits);
             let result = convert_with(
                 alloc,
                 reader,

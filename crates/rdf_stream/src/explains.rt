@@ -1,8 +1,9 @@
 // The lines that explain a refusal, the first in the form that editors read.
 
-ghost use Rattle.std.specs.Prelude.{◌≡◌, ◌||◌, ◌&&◌, ◌++◌, IfOk, OnOk, length, not, option_map};
+ghost use Rattle.std.specs.Prelude.{◌≡◌, ◌||◌, ◌&&◌, ◌++◌, IfOk, OnOk, Some, length, not, option_map};
 ghost use Rattle.rdf_driver.specs.Kinds.{has};
-ghost use Rattle.rdf_stream.specs.Explains.{between, expected_text, explain_text, found_text, front_text, limit_of, limit_text, listed, name_of, note_text, only_said, quoted_text, said, shown_text, sight_text, stop_text, texts_of, word_of, words_for};
+ghost use Rattle.std.specs.List.{list_all};
+ghost use Rattle.rdf_stream.specs.Explains.{between, expected_text, explain_text, found_text, front_text, is_graphic, limit_of, limit_text, listed, name_of, note_text, only_said, quoted_text, said, shown_text, sight_text, stop_text, texts_of, told_text, word_of, words_for};
 
 use crate::causes::{Cause, advice, cause_of};
 use crate::excerpt::put_excerpt;
@@ -16,6 +17,17 @@ use rdf_terms::{Kind, Reason};
 use rdf_tokens::Fault;
 use std::alloc::{AllocError, Allocator};
 
+/// What is known of a refusal.
+#[derive(Drop)]
+pub struct Evidence<N> {
+    /// What is known of a token that was unexpected.
+    pub details: Details,
+    /// What is told of the place.
+    pub near: Nearby<N>,
+    /// The limits that the document was read by.
+    pub limits: Limits,
+}
+
 /// The lines that explain the refusal of the document of this name, each with its LF. The first has the form that editors read: the
 /// name, the line and the column of the place, where that is told; why the document is refused; the kind of the token that stands
 /// there, where it was found, and the kinds of tokens that could have stood there, where there are any; where a token stops, or what
@@ -25,22 +37,32 @@ pub fn explain<A: Allocator + Copy>(
     alloc: A,
     name: &str,
     fault: &Fault,
-    details: &Details,
-    near: &Nearby<Near<A>>,
-    limits: Limits,
+    evidence: &Evidence<Near<A>>,
 ) -> Result<Vec<u8, A>, AllocError>
-    ensures { IfOk result (λ line. line.items ≡ explain_text name.now fault.now details.now near.now limits) }
+    ensures { IfOk result (λ line. line.items ≡ explain_text name.now fault.now evidence.now) }
 {
     let mut line = Vec::new(alloc);
-    put_place(name, fault.line, near, &mut line)?;
-    line.extend_from_slice(words(fault.reason).as_bytes())?;
-    put_found(details.found, &mut line)?;
-    put_expected(details.expected, &mut line)?;
-    put_sight(fault.reason, near, &mut line)?;
-    put_limit(limit_of(fault.reason, limits), &mut line)?;
+    put_place(name, fault.line, &evidence.near, &mut line)?;
+    put_words(fault.reason, evidence, &mut line)?;
     line.extend_from_slice(b"\n")?;
-    put_shown(name, fault, near, &mut line)?;
+    put_shown(name, fault, &evidence.near, &mut line)?;
     Ok(line)
+}
+
+// What is said of the refusal behind the place.
+fn put_words<A: Allocator + Copy>(
+    reason: Reason,
+    evidence: &Evidence<Near<A>>,
+    line: &mut Vec<u8, A>,
+) -> Result<(), AllocError>
+    ensures { OnOk result (line.new.items ≡ line.old.items ++ told_text reason evidence.now) }
+{
+    line.extend_from_slice(words(reason).as_bytes())?;
+    put_found(evidence.details.found, line)?;
+    put_expected(evidence.details.expected, line)?;
+    put_sight(reason, &evidence.near, line)?;
+    put_limit(limit_of(reason, evidence.limits), line)?;
+    Ok(())
 }
 
 // The name, the line, and the column where it is told.
@@ -94,13 +116,28 @@ fn put_stop<A: Allocator + Copy>(len: u64, line: &mut Vec<u8, A>) -> Result<(), 
 fn name_of(after: &[u8], len: u64) -> Option<&[u8]>
     ensures { option_map (λ s. s.now) result ≡ name_of after.now len }
 {
-    if len <= after.len() as u64 {
-        let name = &after[..len as usize];
-        if name.iter().all(|b| b.is_ascii_graphic()) {
-            return Some(name);
+    if (after.len() as u64) < len {
+        return None;
+    }
+    let name = &after[..len as usize];
+    if are_graphic(name) { Some(name) } else { None }
+}
+
+fn are_graphic(bytes: &[u8]) -> bool
+    ensures { result ≡ list_all is_graphic bytes.now }
+{
+    for byte in bytes {
+        if !is_graphic(*byte) {
+            return false;
         }
     }
-    None
+    true
+}
+
+fn is_graphic(byte: u8) -> bool
+    ensures { result ≡ is_graphic byte }
+{
+    33 <= byte && byte <= 126
 }
 
 fn put_quoted<A: Allocator + Copy>(
@@ -139,12 +176,19 @@ fn put_limit<A: Allocator + Copy>(
     ensures { OnOk result (line.new.items ≡ line.old.items ++ limit_text limit) }
 {
     match limit {
-        Some(limit) => {
-            line.extend_from_slice(b"; the limit is ")?;
-            put_number(limit, line)
-        }
+        Some(limit) => put_one_limit(limit, line),
         None => Ok(()),
     }
+}
+
+fn put_one_limit<A: Allocator + Copy>(
+    limit: u64,
+    line: &mut Vec<u8, A>,
+) -> Result<(), AllocError>
+    ensures { OnOk result (line.new.items ≡ line.old.items ++ limit_text (Some limit)) }
+{
+    line.extend_from_slice(b"; the limit is ")?;
+    put_number(limit, line)
 }
 
 // The line near the place, with a caret, and the likely cause.

@@ -36,7 +36,7 @@ pub use checks::{check, check_expecting};
 pub use conversions::{convert, convert_expecting};
 pub use devices::{Drain, Failed, In, Out, Source};
 pub use expected::Details;
-pub use explains::explain;
+pub use explains::{Evidence, explain};
 pub use fault::{LoadFault, StreamFault};
 pub use form::Form;
 pub use job::Job;

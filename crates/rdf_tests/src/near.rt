@@ -3,7 +3,7 @@
 use crate::stream::devices::parts_of;
 use rdf_iri::Limits;
 use rdf_stream::{
-    Details, Form, Job, Near, Nearby, Sight, StreamFault, check_expecting, explain,
+    Details, Evidence, Form, Job, Near, Nearby, Sight, StreamFault, check_expecting, explain,
 };
 use rdf_terms::Kind;
 use std::alloc::Global;
@@ -229,7 +229,12 @@ fn is_explained(alloc: Global, row: &Explained) -> bool {
     let mut source = parts_of(row.bytes, 0, u64::MAX);
     match check_expecting(alloc, job, &mut source, &mut details, &mut near) {
         Err(StreamFault::Refused(fault)) => {
-            match explain(alloc, "a", &fault, &details, &near, limits()) {
+            let evidence = Evidence {
+                details,
+                near,
+                limits: limits(),
+            };
+            match explain(alloc, "a", &fault, &evidence) {
                 Ok(text) => text.as_slice() == row.lines.as_bytes(),
                 Err(_) => false,
             }

@@ -6,6 +6,8 @@ use Rattle.rdf_lines.specs.Accepting.{line_words}
 use Rattle.rdf_trig.specs.Accepting.{tree_words}
 use Rattle.rdf_stream.specs.Checks.{BeginsToRead, CheckStops, IsAccepted}
 use Rattle.rdf_stream.specs.Devices.{reading}
+use Rattle.rdf_stream.specs.Places.{HandsOut, TellsNear}
+use Rattle.rdf_stream.specs.Told.{told}
 use Rattle.rdf_stream.proofs.ConvertsLemmas.{lines_job, trees_job}
 use Rattle.rdf_stream.proofs.ExpectedLemmas.{expects_err, expects_none, lines_expect, trees_expect}
 use Rattle.rdf_stream.proofs.PiecesLemmas.{if_err, if_ok}
@@ -58,3 +60,13 @@ returns-in-Tree-clause-none g c =
     expects_none _ _ _ _ _
     (trees_expect c.args.job c.in-Tree.form (search rules) c.options-options.result (search rules) c.tree_reader.result.scanner.limit (search rules) (λ x. BeginsToRead tree_words x c.tree_reader.result)
     (record { lawful = trees_lawful; read = c.tree_reader.ensures.read }) _ _ _ _ c.check_with-in-Tree.ensures.expected)
+
+pub returns-in-Line-clause-near : goal.returns-in-Line-clause-near
+returns-in-Line-clause-near g c =
+    lines_job (λ j. HandsOut c.args.near.now (TellsNear j.language.dialect j.language.limit c.check_with.result (g.S.Source.remaining c.args.source.now) (told g.S.Source c.check_with.new.source)) c.check_with.new.near) c.args.job c.in-Line.form (search rules)
+    c.limits-limits.result.iri (search rules) c.line_reader.result.scanner.limit (search rules) _ refl c.check_with.ensures.near
+
+pub returns-in-Tree-clause-near : goal.returns-in-Tree-clause-near
+returns-in-Tree-clause-near g c =
+    trees_job (λ j. HandsOut c.args.near.now (TellsNear j.language.dialect j.language.limit c.check_with-in-Tree.result (g.S.Source.remaining c.args.source.now) (told g.S.Source c.check_with-in-Tree.new.source)) c.check_with-in-Tree.new.near) c.args.job c.in-Tree.form (search rules)
+    c.options-options.result (search rules) c.tree_reader.result.scanner.limit (search rules) _ refl c.check_with-in-Tree.ensures.near

@@ -1,0 +1,8 @@
+-- Those that are left pass exactly where all do.
+use Rattle.std.proofs.Common.{◌≡◌, drop}
+use Rattle.std.specs.List.{list_all}
+use Rattle.rdf_stream.specs.Explains.{is_graphic}
+use Rattle.rdf_stream.proofs.explains.are_graphic.Given as goal
+
+abbrev pub invariant-loop-byte : goal.invariant-loop-byte
+invariant-loop-byte l = list_all is_graphic (drop l.byte-index l.bytes) ≡ list_all is_graphic l.bytes
