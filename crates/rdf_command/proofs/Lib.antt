@@ -8,3 +8,4 @@ pub mod RunLemmas
 pub mod OutputLemmas
 pub mod AsideLemmas
 pub mod SeveralLemmas
+pub mod ReasonLemmas

@@ -1,5 +1,6 @@
 -- How a run over a document ends, by the job that it was read with.
 use Rattle.std.proofs.Common.{◌≡◌, ℕ, true, List, ◌++◌, Option, Some, None, IfSome, refl, sym, subst, inl, ◌∙◌, arith}
+use Rattle.clap.specs.Words.{Text}
 use Rattle.rdf_driver.specs.declared.summary.Summary.{Summary}
 use Rattle.rdf_stream.specs.Checks.{IsAccepted}
 use Rattle.rdf_stream.specs.Devices.{AppendsFront, Reading, Written}
@@ -9,8 +10,9 @@ use Rattle.rdf_stream.specs.declared.expected.Details.{Details}
 use Rattle.rdf_stream.specs.declared.fault.StreamFault.{StreamFault}
 use Rattle.rdf_stream.specs.declared.fault.StreamFault.TheVariants.{Refused, Read, Write, Memory}
 use Rattle.rdf_command.specs.declared.task.Task.{Task}
+use Rattle.rdf_command.specs.Reasons.{Devices, ReportsStop, device}
 use Rattle.rdf_command.specs.Runs.{Does, HandsOver, RunEnds, SendsOn, StartsWith, StopsAction, TellsDetails, accepted_text, job_of}
-use Rattle.rdf_command.specs.Statuses.{ReportsExplained, status_of}
+use Rattle.rdf_command.specs.Statuses.{status_of}
 use Rattle.rdf_command.specs.Words.{name_of}
 
 pub some_status : (fault : StreamFault) → status_of fault ≡ 0 → ⊥
@@ -19,21 +21,21 @@ some_status Read e = omega (arith, e)
 some_status Write e = omega (arith, e)
 some_status Memory e = omega (arith, e)
 
-module _ (t : Task) (prefixes : Option (Option (List ℕ))) (left : Option Reading) (bindings : List (List ℕ × List ℕ)) (starts : StartsWith t.limits prefixes left bindings)
+module _ (devices : Devices) (name : Text) (t : Task) (prefixes : Option (Option (List ℕ))) (left : Option Reading) (bindings : List (List ℕ × List ℕ)) (starts : StartsWith t.limits prefixes left bindings)
     (job : JobRead) (is : job ≡ job_of t bindings) (known : Option (List ℕ)) (source : Reading) (out_old : Option (List ℕ)) (out : Written)
     (err_old : Option (List ℕ)) (err : Written) (prompt : HandsOver t.action job known source out_old out.contents) where
   -- by the task's job
   prompt_so : HandsOver t.action (job_of t bindings) known source out_old out.contents
   prompt_so = subst (λ j. HandsOver t.action j known source out_old out.contents) is prompt
 
-  pub run_done : IfSome known (λ bytes. Does t.action job bytes out_old out.contents) → out.is_flushed ≡ true → RunEnds t prefixes known (record { prefixes = left; document = source }) 0 out_old out err_old err
+  pub run_done : IfSome known (λ bytes. Does t.action job bytes out_old out.contents) → out.is_flushed ≡ true → RunEnds devices name t prefixes known (record { prefixes = left; document = source }) 0 out_old out err_old err
   run_done done flushed =
       inl (bindings, starts, ((λ e. (subst (λ j. IfSome known (λ bytes. Does t.action j bytes out_old out.contents)) is done, flushed)), (λ n. absurd (n refl)), prompt_so))
 
   pub run_stopped : (fault : StreamFault) (status : ℕ) → status ≡ status_of fault → StopsAction t.action fault job known source out_old out.contents out.has_failed
       → SendsOn t.action fault out.is_flushed → (details : Details) → TellsDetails t.action fault job known source details
-      → ReportsExplained t.explain (name_of t) fault details err_old err.contents err.has_failed
-      → RunEnds t prefixes known (record { prefixes = left; document = source }) status out_old out err_old err
+      → ReportsStop t.explain (device (name_of t) (devices.source source)) (device name (devices.output out)) fault details err_old err.contents err.has_failed
+      → RunEnds devices name t prefixes known (record { prefixes = left; document = source }) status out_old out err_old err
   run_stopped fault status same stops sent details expected reported =
       inl (
         bindings,

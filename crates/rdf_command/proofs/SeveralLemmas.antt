@@ -3,7 +3,7 @@ use Rattle.std.proofs.Common.{◌≡◌, ◌==◌, ◌||◌, ℕ, Bool, true, fa
 use Rattle.std.proofs.lemmas.Bool.{false≢true, true≢false}
 use Rattle.rdf_iri.specs.Limits.{Sizes}
 use Rattle.rdf_stream.specs.Devices.{Reading, Written}
-use Rattle.rdf_stream.specs.Loads.{BindsNot, HasGivenAll, ReadsNot}
+use Rattle.rdf_stream.specs.Loads.{BindsNot, HasGivenAll, LoadStops, ReadsNot}
 use Rattle.rdf_stream.specs.declared.fault.LoadFault.{LoadFault}
 use Rattle.rdf_stream.specs.declared.fault.LoadFault.TheVariants.{Bad, Memory, Read}
 use Rattle.rdf_stream.specs.declared.form.Form.{Form}
@@ -14,7 +14,7 @@ use Rattle.rdf_command.specs.Addresses.{Folders}
 use Rattle.rdf_command.specs.Programs.{EndsBy, OneEndsAt, SeveralEnd}
 use Rattle.rdf_command.specs.Reasons.{Shut}
 use Rattle.rdf_command.specs.Runs.{FilesRead}
-use Rattle.rdf_command.specs.Several.{Either, EndsAt, EndsEach, EndsLeft, GivesNoBindings, Shared, has_failed_output, status_after}
+use Rattle.rdf_command.specs.Several.{Either, EndsAt, EndsEach, EndsLeft, Shared, has_failed_output, status_after}
 
 module _ (has_document : Option (List ℕ) → Option (List ℕ) → Type 0) (shut : Shut) (shared : Shared) (whole : List (Form × List ℕ))
     (out_old err_old : Option (List ℕ)) where
@@ -69,17 +69,17 @@ both_live false b failed e f = (refl, sym e ∙ f)
 -- ---- the file of bindings
 
 -- the source of the file did not give all its bytes
-pub none_by_source : (fault : LoadFault) (sizes : Sizes) (known : Option (List ℕ)) (left : Reading) → ReadsNot fault known left → GivesNoBindings fault sizes (Some known)
+pub none_by_source : (fault : LoadFault) (sizes : Sizes) (known : Option (List ℕ)) (left : Reading) → ReadsNot fault known left → LoadStops fault sizes known left
 none_by_source (Bad f) sizes known left r = absurd r
-none_by_source Read sizes known left r = (left, r)
-none_by_source Memory sizes known left r = (left, r)
+none_by_source Read sizes known left r = r
+none_by_source Memory sizes known left r = r
 
 -- the bytes that it gave are no bindings
 pub none_by_bytes : (fault : LoadFault) (sizes : Sizes) (known : Option (List ℕ)) (left : Reading) (bytes : List ℕ) → HasGivenAll known left bytes → BindsNot fault sizes bytes
-    → GivesNoBindings fault sizes (Some known)
-none_by_bytes (Bad f) sizes known left bytes h r = (left, (bytes, h, r))
+    → LoadStops fault sizes known left
+none_by_bytes (Bad f) sizes known left bytes h r = (bytes, h, r)
 none_by_bytes Read sizes known left bytes h r = absurd r
-none_by_bytes Memory sizes known left bytes h r = (left, record { bytes = bytes; consumed = h.consumed; ended = λ e. h.at_end; live = h.live })
+none_by_bytes Memory sizes known left bytes h r = record { bytes = bytes; consumed = h.consumed; ended = λ e. h.at_end; live = h.live }
 
 -- ---- a task
 

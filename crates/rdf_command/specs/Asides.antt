@@ -1,5 +1,5 @@
 -- What becomes of a run that goes on after bad lines, which go into a file of their own: it is there whole or not at all.
-use Rattle.std.specs.Prelude.{◌≡◌, ◌⊎◌, ℕ, Bool, true, false, List, Option, Some, None, option_map}
+use Rattle.std.specs.Prelude.{◌≡◌, ◌⊎◌, ℕ, Bool, true, false, List, Option, Some, None, option_map, unwrap_or}
 use Rattle.std.specs.String.{string_bytes}
 use Rattle.clap.specs.Words.{Text}
 use Rattle.rdf_stream.specs.declared.expected.Details.{Details}
@@ -19,28 +19,34 @@ use Rattle.rdf_command.specs.declared.host.NoOutput.TheVariants.{NotOpen}
 use Rattle.rdf_command.specs.declared.task.Action.{Action}
 use Rattle.rdf_command.specs.declared.task.Action.TheVariants.{Check}
 use Rattle.rdf_command.specs.declared.task.Task.{Task}
-use Rattle.rdf_command.specs.Outputs.{EndsTo, IsEmpty, Outputs, output_of}
-use Rattle.rdf_command.specs.Runs.{FilesRead, StartsNot, StartsWith, job_of}
-use Rattle.rdf_command.specs.Statuses.{Reports, ReportsCounts, ReportsExplained, ReportsLoad, load_status, output_status, output_text, skip_status, status_of}
+use Rattle.rdf_command.specs.Outputs.{EndsTo, IsEmpty, Outputs, into, output_of}
+use Rattle.rdf_command.specs.Reasons.{Devices, ReportsBindings, ReportsFailed, ReportsNoOutput, ReportsStop, broken, device, standard_output}
+use Rattle.rdf_command.specs.Runs.{FilesRead, StartsNot, StartsWith, bindings_device, job_of}
+use Rattle.rdf_command.specs.Statuses.{ReportsCounts, load_status, output_status, skip_status, status_of}
 use Rattle.rdf_command.specs.Words.{name_of}
 
 -- the name of the file for bad lines, where the task has one
 abbrev pub skip_of : Task → Option Text
 skip_of t = option_map string_bytes t.skip
 
--- what such a run is told: what is done, whether a refusal is explained, the name of the document, and that of the file for bad lines
+-- what such a run is told: what is done, whether a refusal is explained, the name of the document, that of the output, and that of the file for bad lines
 pub record Told : Type 0 where
   pub action : Action
   pub explain : Bool
   pub document : Text
+  pub output : Text
   pub bad : Text
 
 abbrev pub told_by : Skipping → Told
-told_by how = record { action = how.action; explain = how.explain; document = how.document.now; bad = how.bad.now }
+told_by how = record { action = how.action; explain = how.explain; document = how.document.now; output = how.output.now; bad = how.bad.now }
+
+-- what the output is called by the name of the file that the lines of quads go to, or without one
+abbrev pub output_called : Option Text → Text
+output_called name = unwrap_or name standard_output
 
 -- what the run of a task is told, whose bad lines go into the file of this name
 abbrev pub told_of : Task → Text → Told
-told_of t bad = record { action = t.action; explain = t.explain; document = name_of t; bad = bad }
+told_of t bad = record { action = t.action; explain = t.explain; document = name_of t; output = output_called (output_of t); bad = bad }
 
 -- The document was read to its end, with these counts: the lines of the quads of its good lines were written and flushed, and the file for bad lines
 -- has the others.
@@ -52,8 +58,9 @@ pub record IsPutAside (says : Outputs) (how : Told) (job : JobRead) (known : Opt
   pub flushed : out.is_flushed ≡ true
   pub has : says.has how.bad bad
 
--- The run stopped for a fault, which its status and the text on the error output say, and the file for bad lines is what it was.
-pub record StopsAside (says : Outputs) (how : Told) (job : JobRead) (known : Option (List ℕ)) (left : Reading) (status : ℕ)
+-- The run stopped for a fault, which its status and the text on the error output say, and the file for bad lines is what it was. Where a write failed, the
+-- device is the output if that has failed, and else the file for bad lines.
+pub record StopsAside (says : Outputs) (devices : Devices) (how : Told) (job : JobRead) (known : Option (List ℕ)) (left : Reading) (status : ℕ)
     (out_old : Option (List ℕ)) (out : Written) (err_old : Option (List ℕ)) (err : Written) : Type 0 where
   pub fault : StreamFault
   pub first : Option (List ℕ)
@@ -64,13 +71,14 @@ pub record StopsAside (says : Outputs) (how : Told) (job : JobRead) (known : Opt
   pub is_left : says.is_left how.bad
   pub details : Details
   pub none : NoDetails details
-  pub reported : ReportsExplained how.explain how.document fault details err_old err.contents err.has_failed
+  pub reported : ReportsStop how.explain (device how.document (devices.source left))
+      (broken out.has_failed (device how.output (devices.output out)) (device how.bad (says.output bad))) fault details err_old err.contents err.has_failed
 
 -- A file could not get its name, which the status and the text on the error output say, and it is what it was.
-pub record NamesNot (says : Outputs) (name : Text) (status : ℕ) (err_old : Option (List ℕ)) (err : Written) : Type 0 where
+pub record NamesNot (says : Outputs) (asked : Bool) (name : Text) (status : ℕ) (err_old : Option (List ℕ)) (err : Written) : Type 0 where
   pub status_is : status ≡ 3
   pub is_left : says.is_left name
-  pub reported : Reports (report_text Write) err_old err.contents err.has_failed
+  pub reported : ReportsFailed asked (report_text Write) (device name (says.tells name)) err_old err.contents err.has_failed
 
 -- The document was read to its end, but the file for bad lines could not get its name.
 pub record LosesAside (says : Outputs) (how : Told) (job : JobRead) (known : Option (List ℕ)) (status : ℕ)
@@ -80,22 +88,24 @@ pub record LosesAside (says : Outputs) (how : Told) (job : JobRead) (known : Opt
   pub empty : IsEmpty first
   pub bad : Option (List ℕ)
   pub skips : SkipsAll (conversion_of job) known out_old out.contents first bad s
-  pub unnamed : NamesNot says how.bad status err_old err
+  pub unnamed : NamesNot says how.explain how.bad status err_old err
 
 -- No output was created for this name, which the status and the text on the error output say, and nothing was read.
-pub record CreatesNone (says : Outputs) (name : Text) (known : Option (List ℕ)) (left : Reading) (status : ℕ) (err_old : Option (List ℕ)) (err : Written) : Type 0 where
+pub record CreatesNone (says : Outputs) (asked : Bool) (name : Text) (known : Option (List ℕ)) (left : Reading) (status : ℕ)
+    (err_old : Option (List ℕ)) (err : Written) : Type 0 where
   pub why : NoOutput
   pub unwritable : why ≡ NotOpen → says.is_unwritable name
   pub unread : left.remaining ≡ known
   pub status_is : status ≡ output_status why
-  pub reported : Reports (output_text why) err_old err.contents err.has_failed
+  pub reported : ReportsNoOutput says.tells asked name why err_old err.contents err.has_failed
 
 -- Bad lines were not put aside, and the file for them is what it was, or could not be created.
-abbrev pub NotPutAside : Outputs → Told → JobRead → Option (List ℕ) → Reading → ℕ → Option (List ℕ) → Written → Option (List ℕ) → Written → Type 0
-NotPutAside says how job known left status out_old out err_old err =
-    StopsAside says how job known left status out_old out err_old err
+abbrev pub NotPutAside : Outputs → Devices → Told → JobRead → Option (List ℕ) → Reading → ℕ
+    → Option (List ℕ) → Written → Option (List ℕ) → Written → Type 0
+NotPutAside says devices how job known left status out_old out err_old err =
+    StopsAside says devices how job known left status out_old out err_old err
     ⊎ (LosesAside says how job known status out_old out err_old err
-    ⊎ ((out.contents ≡ out_old) × CreatesNone says how.bad known left status err_old err))
+    ⊎ ((out.contents ≡ out_old) × CreatesNone says how.explain how.bad known left status err_old err))
 
 -- The document was read to its end, which the status and the line with the counts say.
 pub record IsCounted (s : SkipSummary) (status : ℕ) (err_old : Option (List ℕ)) (err : Written) : Type 0 where
@@ -103,55 +113,68 @@ pub record IsCounted (s : SkipSummary) (status : ℕ) (err_old : Option (List �
   pub reported : ReportsCounts s err_old err.contents err.has_failed
 
 -- how such a run ends whose lines go to an output
-abbrev pub AsideOnto : Outputs → Told → JobRead → Option (List ℕ) → Reading → ℕ → Option (List ℕ) → Written → Option (List ℕ) → Written → Type 0
-AsideOnto says how job known left status out_old out err_old err =
+abbrev pub AsideOnto : Outputs → Devices → Told → JobRead → Option (List ℕ) → Reading → ℕ
+    → Option (List ℕ) → Written → Option (List ℕ) → Written → Type 0
+AsideOnto says devices how job known left status out_old out err_old err =
     ((s : SkipSummary) × IsPutAside says how job known out_old out s × IsCounted s status err_old err)
-    ⊎ NotPutAside says how job known left status out_old out err_old err
+    ⊎ NotPutAside says devices how job known left status out_old out err_old err
 
 -- what becomes of the file of this name, where the lines went to an output that was to be it
-abbrev pub AsideKept : Outputs → Told → Text → JobRead → Option (List ℕ) → Reading → ℕ → Option (List ℕ) → Written → Option (List ℕ) → Written → Type 0
-AsideKept says how name job known left status first output err_old err =
+abbrev pub AsideKept : Outputs → (Reading → Option Text → Type 0) → Told → Text → JobRead → Option (List ℕ) → Reading → ℕ
+    → Option (List ℕ) → Written → Option (List ℕ) → Written → Type 0
+AsideKept says source how name job known left status first output err_old err =
     ((s : SkipSummary) × IsPutAside says how job known first output s
-    × ((says.has name output.contents × IsCounted s status err_old err) ⊎ NamesNot says name status err_old err))
-    ⊎ (says.is_left name × NotPutAside says how job known left status first output err_old err)
+    × ((says.has name output.contents × IsCounted s status err_old err) ⊎ NamesNot says how.explain name status err_old err))
+    ⊎ (says.is_left name × NotPutAside says (into says source) how job known left status first output err_old err)
 
 -- how such a run ends whose lines go to the file of this name
-abbrev pub AsideInto : Text → Outputs → Told → JobRead → Option (List ℕ) → Reading → ℕ → Option (List ℕ) → Written → Type 0
-AsideInto name says how job known left status err_old err =
-    ((first : Option (List ℕ)) × IsEmpty first × (output : Written) × AsideKept says how name job known left status first output err_old err)
-    ⊎ CreatesNone says name known left status err_old err
+abbrev pub AsideInto : Text → Outputs → (Reading → Option Text → Type 0) → Told → JobRead → Option (List ℕ) → Reading → ℕ
+    → Option (List ℕ) → Written → Type 0
+AsideInto name says source how job known left status err_old err =
+    ((first : Option (List ℕ)) × IsEmpty first × (output : Written) × AsideKept says source how name job known left status first output err_old err)
+    ⊎ CreatesNone says how.explain name known left status err_old err
 
--- How such a check ends: the lines of quads go to an output of which nothing is known.
-abbrev pub AsideOnly : Outputs → Told → JobRead → Option (List ℕ) → Reading → ℕ → Option (List ℕ) → Written → Type 0
-AsideOnly says how job known left status err_old err =
-    (nothing : Written) × (nothing.contents ≡ None) × (nothing.has_failed ≡ false) × AsideOnto says how job known left status None nothing err_old err
+-- How such a check ends: the lines of quads go to an output of which nothing is known. It does not fail, so no reason of it is told.
+abbrev pub AsideOnly : Outputs → (Reading → Option Text → Type 0) → Told → JobRead → Option (List ℕ) → Reading → ℕ → Option (List ℕ) → Written → Type 0
+AsideOnly says source how job known left status err_old err =
+    (nothing : Written) × (nothing.contents ≡ None) × (nothing.has_failed ≡ false)
+    × AsideOnto says (into says source) how job known left status None nothing err_old err
 
 -- by the name of the file that the lines of quads go to: without one they went to the output, and else to that file, and nothing came to the output
-abbrev pub AsideOut : Option Text → Outputs → Told → JobRead → Option (List ℕ) → Reading → ℕ → Option (List ℕ) → Written → Option (List ℕ) → Written → Type 0
-AsideOut None says how job known left status out_old out err_old err = AsideOnto says how job known left status out_old out err_old err
-AsideOut (Some name) says how job known left status out_old out err_old err = (out.contents ≡ out_old) × AsideInto name says how job known left status err_old err
+abbrev pub AsideOut : Option Text → Outputs → Devices → Told → JobRead → Option (List ℕ) → Reading → ℕ
+    → Option (List ℕ) → Written → Option (List ℕ) → Written → Type 0
+AsideOut None says devices how job known left status out_old out err_old err =
+    AsideOnto says devices how job known left status out_old out err_old err
+AsideOut (Some name) says devices how job known left status out_old out err_old err =
+    (out.contents ≡ out_old) × AsideInto name says devices.source how job known left status err_old err
 
 -- by what is done, and the name of that file: a check writes no line
-abbrev pub AsideAt : Action → Option Text → Outputs → Told → JobRead → Option (List ℕ) → Reading → ℕ → Option (List ℕ) → Written → Option (List ℕ) → Written → Type 0
-AsideAt Check output says how job known left status out_old out err_old err = (out.contents ≡ out_old) × AsideOnly says how job known left status err_old err
-AsideAt action output says how job known left status out_old out err_old err = AsideOut output says how job known left status out_old out err_old err
+abbrev pub AsideAt : Action → Option Text → Outputs → Devices → Told → JobRead → Option (List ℕ) → Reading → ℕ
+    → Option (List ℕ) → Written → Option (List ℕ) → Written → Type 0
+AsideAt Check output says devices how job known left status out_old out err_old err =
+    (out.contents ≡ out_old) × AsideOnly says devices.source how job known left status err_old err
+AsideAt action output says devices how job known left status out_old out err_old err =
+    AsideOut output says devices how job known left status out_old out err_old err
 
 -- the same by what it is told
-abbrev pub AsideBy : Option Text → Outputs → Told → JobRead → Option (List ℕ) → Reading → ℕ → Option (List ℕ) → Written → Option (List ℕ) → Written → Type 0
-AsideBy output says how = AsideAt how.action output says how
+abbrev pub AsideBy : Option Text → Outputs → Devices → Told → JobRead → Option (List ℕ) → Reading → ℕ
+    → Option (List ℕ) → Written → Option (List ℕ) → Written → Type 0
+AsideBy output says devices how = AsideAt how.action output says devices how
 
 -- The document was read with the bindings to start with, and the run ended so; or the file of bindings was not loaded, which the status and the text on
 -- the error output say, and nothing was written.
-abbrev pub AsideEnds : Outputs → Text → Task → Option (Option (List ℕ)) → Option (List ℕ) → FilesRead → ℕ → Option (List ℕ) → Written → Option (List ℕ) → Written → Type 0
-AsideEnds says bad t prefixes known left status out_old out err_old err =
+abbrev pub AsideEnds : Outputs → Devices → Text → Task → Option (Option (List ℕ)) → Option (List ℕ) → FilesRead → ℕ
+    → Option (List ℕ) → Written → Option (List ℕ) → Written → Type 0
+AsideEnds says devices bad t prefixes known left status out_old out err_old err =
     ((bindings : List (List ℕ × List ℕ)) × StartsWith t.limits prefixes left.prefixes bindings
-    × AsideBy (output_of t) says (told_of t bad) (job_of t bindings) known left.document status out_old out err_old err)
+    × AsideBy (output_of t) says devices (told_of t bad) (job_of t bindings) known left.document status out_old out err_old err)
     ⊎ ((fault : LoadFault) × StartsNot fault t.limits prefixes left.prefixes × (status ≡ load_status fault) × (out.contents ≡ out_old)
-    × ReportsLoad fault err_old err.contents err.has_failed)
+    × ReportsBindings t.explain (bindings_device devices t left.prefixes) fault err_old err.contents err.has_failed)
 
 -- By the name of the file for bad lines: without one the task ended as it does where a bad line is refused, and else they were put aside.
-abbrev pub EndsBySkip : Option Text → Outputs → Task → Option (Option (List ℕ)) → Option (List ℕ) → Option FilesRead → ℕ
+abbrev pub EndsBySkip : Option Text → Outputs → Devices → Task → Option (Option (List ℕ)) → Option (List ℕ) → Option FilesRead → ℕ
     → Option (List ℕ) → Written → Option (List ℕ) → Written → Type 0
-EndsBySkip None says t prefixes known files status out_old out err_old err = EndsTo (output_of t) says t prefixes known files status out_old out err_old err
-EndsBySkip (Some bad) says t prefixes known files status out_old out err_old err =
-    (left : FilesRead) × (files ≡ Some left) × AsideEnds says bad t prefixes known left status out_old out err_old err
+EndsBySkip None says devices t prefixes known files status out_old out err_old err =
+    EndsTo (output_of t) says devices t prefixes known files status out_old out err_old err
+EndsBySkip (Some bad) says devices t prefixes known files status out_old out err_old err =
+    (left : FilesRead) × (files ≡ Some left) × AsideEnds says devices bad t prefixes known left status out_old out err_old err

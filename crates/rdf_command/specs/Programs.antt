@@ -4,7 +4,7 @@ use Rattle.std.specs.String.{string_bytes}
 use Rattle.clap.specs.Words.{Text}
 use Rattle.clap.specs.declared.builder.value_parser.ValueParser.{ValueParser}
 use Rattle.clap.specs.declared.error.kind.ErrorKind.TheVariants.{InvalidValue}
-use Rattle.rdf_stream.specs.Devices.{Written}
+use Rattle.rdf_stream.specs.Devices.{Reading, Written}
 use Rattle.rdf_stream.specs.declared.fault.LoadFault.{LoadFault}
 use Rattle.rdf_stream.specs.declared.form.Form.{Form}
 use Rattle.rdf_options.specs.Options.{rdfconv}
@@ -18,10 +18,10 @@ use Rattle.rdf_command.specs.declared.task.WordsFault.TheVariants.{Memory}
 use Rattle.rdf_command.specs.Addresses.{Folders, IsAddress, IsFolderFor, LacksAddress}
 use Rattle.rdf_command.specs.Asides.{EndsBySkip, skip_of}
 use Rattle.rdf_command.specs.Outputs.{Outputs}
-use Rattle.rdf_command.specs.Reasons.{ReportsShut, Shut, shut_of}
-use Rattle.rdf_command.specs.Runs.{FilesRead}
-use Rattle.rdf_command.specs.Several.{EndsEach, GivesBindings, GivesNoBindings}
-use Rattle.rdf_command.specs.Statuses.{GoesTo, RefusesWords, Reports, ReportsLoad, address_status, address_text, load_status}
+use Rattle.rdf_command.specs.Reasons.{Devices, ReportsBindings, ReportsShut, Shut}
+use Rattle.rdf_command.specs.Runs.{FilesRead, StartsNot, bindings_device}
+use Rattle.rdf_command.specs.Several.{EndsEach, GivesBindings}
+use Rattle.rdf_command.specs.Statuses.{GoesTo, RefusesWords, Reports, address_status, address_text, load_status}
 use Rattle.rdf_command.specs.Words.{GivesNone, GivesTask, IsUsageOf, TakesFormats, further_of, name_of}
 
 -- These words give the task, as the command line of the program defines it.
@@ -76,7 +76,7 @@ abbrev pub OneEnds : (Option Text → Option (List ℕ) → Type 0) → Shut →
     → Option (List ℕ) → Written → Option (List ℕ) → Written → Type 0
 OneEnds has_document shut says t files status out_old out err_old err =
     ((prefixes : Option (Option (List ℕ))) × (known : Option (List ℕ)) × HasPrefixes has_document (prefixes_of t) prefixes
-    × has_document (file_of t) known × EndsBySkip (skip_of t) says t prefixes known files status out_old out err_old err)
+    × has_document (file_of t) known × EndsBySkip (skip_of t) says shut.devices t prefixes known files status out_old out err_old err)
     ⊎ IsNotOpen shut t status out_old out err_old err
 
 -- The document has no address to be its base, which the status and the text on the error output say, and nothing was read.
@@ -115,15 +115,16 @@ pub record ChecksEach (folders : Folders) (has_document : Option Text → Option
       status out_old out err_old err
 
 -- The file of bindings gave none, which the status and the text on the error output say, and no document was read.
-pub record ChecksNone (has_document : Option Text → Option (List ℕ) → Type 0) (t : Task) (status : ℕ) (out_old : Option (List ℕ)) (out : Written)
+pub record ChecksNone (has_document : Option Text → Option (List ℕ) → Type 0) (shut : Shut) (t : Task) (status : ℕ) (out_old : Option (List ℕ)) (out : Written)
     (err_old : Option (List ℕ)) (err : Written) : Type 0 where
   pub prefixes : Option (Option (List ℕ))
   pub opened : HasPrefixes has_document (prefixes_of t) prefixes
   pub fault : LoadFault
-  pub none : GivesNoBindings fault t.limits prefixes
+  pub left : Option Reading
+  pub none : StartsNot fault t.limits prefixes left
   pub status_is : status ≡ load_status fault
   pub unwritten : out.contents ≡ out_old
-  pub reported : ReportsLoad fault err_old err.contents err.has_failed
+  pub reported : ReportsBindings t.explain (bindings_device shut.devices t left) fault err_old err.contents err.has_failed
 
 -- The file of bindings did not open, which the status and the text on the error output say, and no document was read.
 pub record OpensNoBindings (shut : Shut) (t : Task) (status : ℕ) (out_old : Option (List ℕ)) (out : Written)
@@ -150,7 +151,7 @@ abbrev pub SeveralEnd : Folders → (Option Text → Option (List ℕ) → Type 
     → Option (List ℕ) → Written → Option (List ℕ) → Written → Type 0
 SeveralEnd folders has_document shut t status out_old out err_old err =
     ChecksEach folders has_document shut t status out_old out err_old err
-    ⊎ (ChecksNone has_document t status out_old out err_old err
+    ⊎ (ChecksNone has_document shut t status out_old out err_old err
     ⊎ (OpensNoBindings shut t status out_old out err_old err ⊎ HasNoFolder folders t status out_old out err_old err))
 
 -- By the documents after the first: without any the task is run over its document, and else each is checked, and no file is given back.
@@ -174,15 +175,21 @@ ProgramEnds has_words has_bad_word folders has_document shut says files status o
     × RefusesWords fault status err_old err.contents err.has_failed × GoesTo fault out_old out.contents err_old err.contents)
 
 -- what a host tells of files that are to be written
-abbrev pub outputs_of : {H I O : Type 0} → host.Ghosts H I O → H → Outputs
-outputs_of host h = record { has = host.has_output h; is_left = host.is_left h; is_unwritable = host.is_unwritable h }
+abbrev pub outputs_of : {H I O : Type 0} → host.Ghosts H I O → H → (Written → Option Text → Type 0) → Outputs
+outputs_of host h output =
+    record { has = host.has_output h; is_left = host.is_left h; is_unwritable = host.is_unwritable h; tells = host.has_reason h; output = output }
+
+-- what a host tells of files that do not open, where a run has these devices
+abbrev pub shut_of : {H I O : Type 0} → host.Ghosts H I O → H → Devices → Shut
+shut_of says h devices = record { is = says.is_shut h; tells = says.has_reason h; devices = devices }
 
 -- what a host tells of the folder that names start from
 abbrev pub folders_of : {H I O : Type 0} → host.Ghosts H I O → H → Folders
 folders_of host h = record { is = host.has_folder h; is_untold = host.has_no_folder h }
 
--- The program ended so over what its host starts it with: the words, the documents, the files that do not open, and those that it writes.
-abbrev pub HostEnds : {H I O : Type 0} → host.Ghosts H I O → H → Option FilesRead → ℕ → Option (List ℕ) → Written → Option (List ℕ) → Written → Type 0
-HostEnds says h files status out_old out err_old err =
-    ProgramEnds (says.has_words h) (says.has_bad_word h) (folders_of says h) (says.has_document h) (shut_of says h) (outputs_of says h) files status
+-- The program ended so over what its host starts it with: the words, the documents, the files that do not open, and those that it writes. These devices, and
+-- these files that are written, tell the reasons of their failures.
+abbrev pub HostEnds : {H I O : Type 0} → host.Ghosts H I O → H → Devices → (Written → Option Text → Type 0) → Option FilesRead → ℕ → Option (List ℕ) → Written → Option (List ℕ) → Written → Type 0
+HostEnds says h devices output files status out_old out err_old err =
+    ProgramEnds (says.has_words h) (says.has_bad_word h) (folders_of says h) (says.has_document h) (shut_of says h devices) (outputs_of says h output) files status
     out_old out err_old err

@@ -1,5 +1,7 @@
 -- What a run of the program does.
 use Rattle.std.specs.Prelude.{◌≡◌, ◌≢◌, ◌⊎◌, ℕ, Bool, true, false, List, [], ◌++◌, codes, decimal, Option, Some, None, IfSome, option_map}
+use Rattle.std.specs.String.{string_bytes}
+use Rattle.clap.specs.Words.{Text}
 use Rattle.std.specs.Io.KnownBytes.{Appends}
 use Rattle.rdf_driver.specs.declared.summary.Summary.{Summary}
 use Rattle.rdf_stream.specs.declared.expected.Details.{Details}
@@ -24,8 +26,9 @@ use Rattle.rdf_command.specs.declared.task.Action.{Action}
 use Rattle.rdf_command.specs.declared.task.Action.TheVariants.{Check, Show, Convert}
 use Rattle.rdf_command.specs.declared.task.Task.{Task}
 use Rattle.rdf_command.specs.declared.runs.Files.{Files}
-use Rattle.rdf_command.specs.Statuses.{ReportsExplained, ReportsLoad, load_status, status_of}
-use Rattle.rdf_command.specs.Words.{name_of}
+use Rattle.rdf_command.specs.Reasons.{Device, Devices, OneTells, ReportsBindings, ReportsStop, device}
+use Rattle.rdf_command.specs.Statuses.{load_status, status_of}
+use Rattle.rdf_command.specs.Words.{name_by, name_of}
 
 -- the job that a task asks for, with these bindings
 abbrev pub job_of : Task → List (List ℕ × List ℕ) → JobRead
@@ -117,9 +120,9 @@ TellsDetails action fault job known left details = ExpectsFor fault (language_of
 abbrev pub IsDone : Task → List (List ℕ × List ℕ) → Option (List ℕ) → Option (List ℕ) → Written → Type 0
 IsDone t bindings known out_old out = IfSome known (λ bytes. Does t.action (job_of t bindings) bytes out_old out.contents) × (out.is_flushed ≡ true)
 
--- The run stopped for a fault, which its status and the text on the error output say, with what is known of an unexpected token where the task asks
--- for an explanation.
-pub record RunStops (t : Task) (bindings : List (List ℕ × List ℕ)) (status : ℕ) (known : Option (List ℕ)) (source : Reading)
+-- The run stopped for a fault, which its status and the text on the error output say, with what is known of an unexpected token, or the reason of the device
+-- that failed, where the task asks for an explanation. The output has this name.
+pub record RunStops (devices : Devices) (name : Text) (t : Task) (bindings : List (List ℕ × List ℕ)) (status : ℕ) (known : Option (List ℕ)) (source : Reading)
     (out_old : Option (List ℕ)) (out : Written) (err_old : Option (List ℕ)) (err : Written) : Type 0 where
   pub fault : StreamFault
   pub status_is : status ≡ status_of fault
@@ -127,13 +130,15 @@ pub record RunStops (t : Task) (bindings : List (List ℕ × List ℕ)) (status 
   pub sent : SendsOn t.action fault out.is_flushed
   pub details : Details
   pub expected : TellsDetails t.action fault (job_of t bindings) known source details
-  pub reported : ReportsExplained t.explain (name_of t) fault details err_old err.contents err.has_failed
+  pub reported : ReportsStop t.explain (device (name_of t) (devices.source source)) (device name (devices.output out)) fault details
+      err_old err.contents err.has_failed
 
 -- A run with these bindings, over a source of these bytes, left the source and the two outputs like this: it is done at 0, and else it stopped.
 -- In either case no line waited while more was asked for.
-abbrev pub DocumentEnds : Task → List (List ℕ × List ℕ) → ℕ → Option (List ℕ) → Reading → Option (List ℕ) → Written → Option (List ℕ) → Written → Type 0
-DocumentEnds t bindings status known source out_old out err_old err =
-    (status ≡ 0 → IsDone t bindings known out_old out) × (status ≢ 0 → RunStops t bindings status known source out_old out err_old err)
+abbrev pub DocumentEnds : Devices → Text → Task → List (List ℕ × List ℕ) → ℕ → Option (List ℕ) → Reading
+    → Option (List ℕ) → Written → Option (List ℕ) → Written → Type 0
+DocumentEnds devices name t bindings status known source out_old out err_old err =
+    (status ≡ 0 → IsDone t bindings known out_old out) × (status ≢ 0 → RunStops devices name t bindings status known source out_old out err_old err)
     × HandsOver t.action (job_of t bindings) known source out_old out.contents
 
 -- The bindings that a document starts with: none, or those of a file of these bytes, whose source tells this then.
@@ -152,18 +157,23 @@ StartsNot fault sizes None left = ⊥
 StartsNot fault sizes (Some known) None = ⊥
 StartsNot fault sizes (Some known) (Some left) = LoadStops fault sizes known left
 
+-- the file of bindings of a task, and the reason that its source gives, which tells this of itself
+abbrev pub bindings_device : Devices → Task → Option Reading → Device
+bindings_device devices t left = device (name_by (option_map string_bytes t.prefixes)) (OneTells devices.source left)
+
 -- The file of bindings was not loaded, which the status and the text on the error output say, and nothing was written.
-pub record PrefixesStop (t : Task) (prefixes : Option (Option (List ℕ))) (left : Option Reading) (status : ℕ) (out_old : Option (List ℕ)) (out : Written)
+pub record PrefixesStop (devices : Devices) (t : Task) (prefixes : Option (Option (List ℕ))) (left : Option Reading) (status : ℕ) (out_old : Option (List ℕ)) (out : Written)
     (err_old : Option (List ℕ)) (err : Written) : Type 0 where
   pub fault : LoadFault
   pub stops : StartsNot fault t.limits prefixes left
   pub status_is : status ≡ load_status fault
   pub unwritten : out.contents ≡ out_old
-  pub reported : ReportsLoad fault err_old err.contents err.has_failed
+  pub reported : ReportsBindings t.explain (bindings_device devices t left) fault err_old err.contents err.has_failed
 
 -- The document was read with the bindings to start with, and the run ended so; or there are none to start with. The files tell this then.
-abbrev pub RunEnds : Task → Option (Option (List ℕ)) → Option (List ℕ) → FilesRead → ℕ → Option (List ℕ) → Written → Option (List ℕ) → Written → Type 0
-RunEnds t prefixes known left status out_old out err_old err =
+abbrev pub RunEnds : Devices → Text → Task → Option (Option (List ℕ)) → Option (List ℕ) → FilesRead → ℕ
+    → Option (List ℕ) → Written → Option (List ℕ) → Written → Type 0
+RunEnds devices name t prefixes known left status out_old out err_old err =
     ((bindings : List (List ℕ × List ℕ)) × StartsWith t.limits prefixes left.prefixes bindings
-    × DocumentEnds t bindings status known left.document out_old out err_old err)
-    ⊎ PrefixesStop t prefixes left.prefixes status out_old out err_old err
+    × DocumentEnds devices name t bindings status known left.document out_old out err_old err)
+    ⊎ PrefixesStop devices t prefixes left.prefixes status out_old out err_old err

@@ -8,7 +8,7 @@ use Rattle.rdf_stream.specs.Devices.{Reading, Written}
 use Rattle.rdf_stream.specs.Expected.{ExpectsFor, trees_of}
 use Rattle.rdf_stream.specs.Jobs.{JobRead}
 use Rattle.rdf_stream.specs.Languages.{language_of}
-use Rattle.rdf_stream.specs.Loads.{BindsNot, HasGivenAll, LoadStops}
+use Rattle.rdf_stream.specs.Loads.{BindsNot, HasGivenAll}
 use Rattle.rdf_stream.specs.declared.fault.LoadFault.{LoadFault}
 use Rattle.rdf_stream.specs.declared.fault.LoadFault.TheVariants.{Memory}
 use Rattle.rdf_stream.specs.declared.fault.StreamFault.{StreamFault}
@@ -17,9 +17,9 @@ use Rattle.rdf_terms.specs.declared.fault.TermFault.{TermFault}
 use Rattle.rdf_terms.specs.declared.fault.TermFault.TheVariants.{BadTerm}
 use Rattle.rdf_command.specs.declared.several.Plan.{Plan}
 use Rattle.rdf_command.specs.Addresses.{HasNoAddress, IsAddress}
-use Rattle.rdf_command.specs.Reasons.{ReportsShutOf, Shut}
+use Rattle.rdf_command.specs.Reasons.{Devices, ReportsShutOf, ReportsStopOf, Shut, device, standard_output}
 use Rattle.rdf_command.specs.Runs.{IsCheckedAs, StopsCheckAs}
-use Rattle.rdf_command.specs.Statuses.{ReportsExplainedOf, ReportsLoad, ReportsNoAddressOf, address_status, load_status, status_of}
+use Rattle.rdf_command.specs.Statuses.{ReportsLoad, ReportsNoAddressOf, address_status, load_status, status_of}
 use Rattle.rdf_command.specs.Words.{file_by}
 
 -- the greater of two statuses
@@ -68,24 +68,25 @@ pub record AcceptsOne (job : JobRead) (name : List ℕ) (known : Option (List �
 
 -- The document was not accepted, for a fault that the status and the line about it say, with what is known of an unexpected token where an explanation
 -- is asked for.
-pub record StopsOne (asked : Bool) (job : JobRead) (name : List ℕ) (known : Option (List ℕ)) (left : Reading) (status : ℕ)
+pub record StopsOne (devices : Devices) (asked : Bool) (job : JobRead) (name : List ℕ) (known : Option (List ℕ)) (left : Reading) (status : ℕ)
     (out_old : Option (List ℕ)) (out : Written) (err_old : Option (List ℕ)) (err : Written) : Type 0 where
   pub fault : StreamFault
   pub status_is : status ≡ status_of fault
   pub stops : StopsCheckAs (Some name) fault job known left out_old out.contents out.has_failed
   pub details : Details
   pub expected : ExpectsFor fault (language_of job) (trees_of job) known left details
-  pub reported : ReportsExplainedOf asked name fault details err_old err.contents err.has_failed
+  pub reported : ReportsStopOf asked (device name (devices.source left)) (device standard_output (devices.output out)) fault details
+      err_old err.contents err.has_failed
 
 -- The document of this format and name was opened and read.
-pub record ReadsOne (has_document : Option (List ℕ) → Option (List ℕ) → Type 0) (shared : Shared) (d : Form × List ℕ) (status : ℕ)
+pub record ReadsOne (has_document : Option (List ℕ) → Option (List ℕ) → Type 0) (devices : Devices) (shared : Shared) (d : Form × List ℕ) (status : ℕ)
     (out_old : Option (List ℕ)) (out : Written) (err_old : Option (List ℕ)) (err : Written) : Type 0 where
   pub job : JobRead
   pub is_job : IsCheckJob shared d.0 job
   pub known : Option (List ℕ)
   pub opened : has_document (file_by (Some d.1)) known
   pub left : Reading
-  pub ends : AcceptsOne job d.1 known status out_old out err_old err ⊎ StopsOne shared.explain job d.1 known left status out_old out err_old err
+  pub ends : AcceptsOne job d.1 known status out_old out err_old err ⊎ StopsOne devices shared.explain job d.1 known left status out_old out err_old err
 
 -- The file of this name did not open.
 pub record OpensNone (asked : Bool) (shut : Shut) (d : Form × List ℕ) (status : ℕ) (out_old : Option (List ℕ)) (out : Written)
@@ -109,7 +110,7 @@ pub record BindsNone (shared : Shared) (status : ℕ) (out_old : Option (List �
 abbrev pub EndsOne : (Option (List ℕ) → Option (List ℕ) → Type 0) → Shut → Shared → Form × List ℕ → ℕ
     → Option (List ℕ) → Written → Option (List ℕ) → Written → Type 0
 EndsOne has_document shut shared d status out_old out err_old err =
-    ReadsOne has_document shared d status out_old out err_old err
+    ReadsOne has_document shut.devices shared d status out_old out err_old err
     ⊎ (OpensNone shared.explain shut d status out_old out err_old err ⊎ BindsNone shared status out_old out err_old err)
 
 -- The document has no address to be its base, which the status and its line on the error output say, and it was not opened.
@@ -167,8 +168,3 @@ GivesBindings sizes None None = ⊤
 GivesBindings sizes None (Some bytes) = ⊥
 GivesBindings sizes (Some known) None = ⊥
 GivesBindings sizes (Some known) (Some bytes) = ((left : Reading) × HasGivenAll known left bytes) × ((b : BindingMap) × IsReadFrom sizes bytes b)
-
--- The file of bindings gave none.
-abbrev pub GivesNoBindings : LoadFault → Sizes → Option (Option (List ℕ)) → Type 0
-GivesNoBindings fault sizes None = ⊥
-GivesNoBindings fault sizes (Some known) = (left : Reading) × LoadStops fault sizes known left

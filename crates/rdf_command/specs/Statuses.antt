@@ -99,11 +99,6 @@ abbrev pub output_status : NoOutput → ℕ
 output_status output.NotOpen = 3
 output_status output.Memory = 4
 
--- what is reported then
-abbrev pub output_text : NoOutput → List ℕ
-output_text output.NotOpen = codes "rdfconv: cannot open file\n"
-output_text output.Memory = report_text Memory
-
 -- the status where a document has no address to be its base
 abbrev pub address_status : TermFault → ℕ
 address_status term.BadTerm = 2

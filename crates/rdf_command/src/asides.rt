@@ -4,16 +4,17 @@ ghost use Rattle.std.specs.Prelude.{◌≡◌, false, IfErr, IfOk, None, OnOk, S
 ghost use Rattle.rdf_iri.specs.Scope.{BaseFits};
 ghost use Rattle.rdf_stream.specs.Skips.{HasLines};
 ghost use Rattle.rdf_stream.specs.Told.{told, written};
-ghost use Rattle.rdf_command.specs.Asides.{AsideBy, AsideEnds, AsideInto, AsideOnly, AsideOnto, AsideOut, EndsBySkip, IsPutAside, NotPutAside, told_by};
+ghost use Rattle.rdf_command.specs.Asides.{AsideBy, AsideEnds, AsideInto, AsideOnly, AsideOnto, AsideOut, EndsBySkip, IsPutAside, NotPutAside, output_called, told_by};
 ghost use Rattle.rdf_command.specs.Programs.{outputs_of};
+ghost use Rattle.rdf_command.specs.Reasons.{ReportsStop, broken, device, devices_of, drain_tells, source_tells};
 ghost use Rattle.rdf_command.specs.Runs.{AreFresh, AsWritten, files_told};
 
 use crate::commands::name_by;
 use crate::entry::Ended;
+use crate::explains::Explains;
 use crate::host::Host;
-use crate::reports::{
-    Stop, refuse_name, refuse_output, refuse_prefixes, status, tell_counts, tell_stop,
-};
+use crate::reasons::{refuse_bindings, refuse_name, refuse_output, tell_stopped};
+use crate::reports::{Stop, status, tell_counts};
 use crate::runs::{Files, job_of};
 use crate::task::{Action, Task};
 use rdf_stream::{Details, Drain, Failed, Job, SkipSummary, Source, convert_skipping};
@@ -30,6 +31,8 @@ pub struct Skipping<'a> {
     pub explain: bool,
     /// The word for the document: the name of its file, or `-` for standard input.
     pub document: &'a str,
+    /// The file that the lines of quads go to, or `standard output`.
+    pub output: &'a str,
     /// The file that bad lines are put into.
     pub bad: &'a str,
 }
@@ -62,8 +65,16 @@ impl Drain for Nothing {
     }
 }
 
+impl Explains for Nothing {
+    ghost tells = { λ _ why. why ≡ None };
+
+    fn reason(&self, _alloc: Global) -> Option<String> {
+        None
+    }
+}
+
 /// Runs a task over its files, and puts bad lines into the file of this name.
-pub fn run_skipping<H: Host, O: Drain, E: Drain>(
+pub fn run_skipping<H: Host, O: Drain + Explains, E: Drain>(
     alloc: Global,
     task: Task,
     bad: &str,
@@ -77,7 +88,8 @@ pub fn run_skipping<H: Host, O: Drain, E: Drain>(
     requires fresh { AreFresh H.Input.has_ended H.Input.has_failed files }
     requires out { O.has_failed out.old ≡ false }
     requires err { E.has_failed err.old ≡ false }
-    ensures { AsWritten (EndsBySkip (Some bad.now) (outputs_of H.Host host.now) task (option_map H.Input.remaining files.prefixes)
+    ensures { AsWritten (EndsBySkip (Some bad.now) (outputs_of H.Host host.now (drain_tells H.Output.Drain H.Output.Explains))
+        (devices_of H.Input.Source H.Input.Explains O.Drain O.Explains) task (option_map H.Input.remaining files.prefixes)
         (H.Input.remaining files.document) (option_map (files_told H.Input.Source) result.files) result.status)
         O.Drain E.Drain out.old out.new err.old err.new }
 {
@@ -89,7 +101,7 @@ pub fn run_skipping<H: Host, O: Drain, E: Drain>(
     }
 }
 
-fn skip_over<H: Host, I: Source, O: Drain, E: Drain>(
+fn skip_over<H: Host, I: Source + Explains, O: Drain + Explains, E: Drain>(
     alloc: Global,
     task: Task,
     bad: &str,
@@ -103,7 +115,7 @@ fn skip_over<H: Host, I: Source, O: Drain, E: Drain>(
     requires fresh { AreFresh I.has_ended I.has_failed files.old }
     requires out { O.has_failed out.old ≡ false }
     requires err { E.has_failed err.old ≡ false }
-    ensures { AsWritten (AsideEnds (outputs_of H.Host host.now) bad.now task (option_map I.remaining files.old.prefixes) (I.remaining files.old.document)
+    ensures { AsWritten (AsideEnds (outputs_of H.Host host.now (drain_tells H.Output.Drain H.Output.Explains)) (devices_of I.Source I.Explains O.Drain O.Explains) bad.now task (option_map I.remaining files.old.prefixes) (I.remaining files.old.document)
         (files_told I.Source files.new) result) O.Drain E.Drain out.old out.new err.old err.new }
 {
     let mut task = task;
@@ -111,9 +123,13 @@ fn skip_over<H: Host, I: Source, O: Drain, E: Drain>(
     let explain = task.explain;
     let file = task.file.take();
     let output = task.output.take();
+    let prefixes = task.prefixes.take();
     let job = match job_of(alloc, task, &mut files.prefixes) {
         Ok(job) => job,
-        Err(fault) => return refuse_prefixes(alloc, &fault, err),
+        Err(fault) => {
+            let file = (name_by(prefixes.as_deref()), &files.prefixes);
+            return refuse_bindings(alloc, explain, &fault, file, err);
+        }
     };
     let document = name_by(file.as_deref());
     let how = Skipping {
@@ -121,6 +137,7 @@ fn skip_over<H: Host, I: Source, O: Drain, E: Drain>(
         action,
         explain,
         document,
+        output: output_called(output.as_deref()),
         bad,
     };
     skip_to(
@@ -135,7 +152,7 @@ fn skip_over<H: Host, I: Source, O: Drain, E: Drain>(
 }
 
 // Goes on after bad lines in a check, which writes none, or in a conversion.
-fn skip_to<H: Host, S: Source, O: Drain, E: Drain>(
+fn skip_to<H: Host, S: Source + Explains, O: Drain + Explains, E: Drain>(
     how: &Skipping<'_>,
     output: Option<&str>,
     job: Job,
@@ -149,7 +166,8 @@ fn skip_to<H: Host, S: Source, O: Drain, E: Drain>(
     requires source { S.has_failed source.old ≡ false }
     requires out { O.has_failed out.old ≡ false }
     requires err { E.has_failed err.old ≡ false }
-    ensures { AsWritten (AsideBy (option_map (λ s. s.now) output.entry) (outputs_of H.Host host.now) (told_by how.now) job (S.remaining source.old) (told S.Source source.new) result)
+    ensures { AsWritten (AsideBy (option_map (λ s. s.now) output.entry) (outputs_of H.Host host.now (drain_tells H.Output.Drain H.Output.Explains))
+        (devices_of S.Source S.Explains O.Drain O.Explains) (told_by how.now) job (S.remaining source.old) (told S.Source source.new) result)
         O.Drain E.Drain out.old out.new err.old err.new }
 {
     match how.action {
@@ -159,7 +177,7 @@ fn skip_to<H: Host, S: Source, O: Drain, E: Drain>(
 }
 
 // Goes on after bad lines, where the lines of quads go to a file or to the output.
-fn skip_and_write<H: Host, S: Source, O: Drain, E: Drain>(
+fn skip_and_write<H: Host, S: Source + Explains, O: Drain + Explains, E: Drain>(
     how: &Skipping<'_>,
     output: Option<&str>,
     job: Job,
@@ -173,7 +191,8 @@ fn skip_and_write<H: Host, S: Source, O: Drain, E: Drain>(
     requires source { S.has_failed source.old ≡ false }
     requires out { O.has_failed out.old ≡ false }
     requires err { E.has_failed err.old ≡ false }
-    ensures { AsWritten (AsideOut (option_map (λ s. s.now) output.entry) (outputs_of H.Host host.now) (told_by how.now) job (S.remaining source.old) (told S.Source source.new) result)
+    ensures { AsWritten (AsideOut (option_map (λ s. s.now) output.entry) (outputs_of H.Host host.now (drain_tells H.Output.Drain H.Output.Explains))
+        (devices_of S.Source S.Explains O.Drain O.Explains) (told_by how.now) job (S.remaining source.old) (told S.Source source.new) result)
         O.Drain E.Drain out.old out.new err.old err.new }
 {
     match output {
@@ -183,7 +202,7 @@ fn skip_and_write<H: Host, S: Source, O: Drain, E: Drain>(
 }
 
 // Goes on after bad lines, and keeps no line of quads.
-fn skip_in_check<H: Host, S: Source, E: Drain>(
+fn skip_in_check<H: Host, S: Source + Explains, E: Drain>(
     how: &Skipping<'_>,
     job: Job,
     host: &H,
@@ -194,7 +213,7 @@ fn skip_in_check<H: Host, S: Source, E: Drain>(
     requires more { S.has_ended source.old ≡ false }
     requires source { S.has_failed source.old ≡ false }
     requires err { E.has_failed err.old ≡ false }
-    ensures { AsideOnly (outputs_of H.Host host.now) (told_by how.now) job (S.remaining source.old) (told S.Source source.new) result
+    ensures { AsideOnly (outputs_of H.Host host.now (drain_tells H.Output.Drain H.Output.Explains)) (source_tells S.Source S.Explains) (told_by how.now) job (S.remaining source.old) (told S.Source source.new) result
         (E.contents err.old) (written E.Drain err.new) }
 {
     let mut nothing = Nothing { is_flushed: true };
@@ -202,7 +221,7 @@ fn skip_in_check<H: Host, S: Source, E: Drain>(
 }
 
 // Goes on after bad lines, where the lines of quads go to the output.
-fn skip_onto<H: Host, S: Source, O: Drain, E: Drain>(
+fn skip_onto<H: Host, S: Source + Explains, O: Drain + Explains, E: Drain>(
     how: &Skipping<'_>,
     job: Job,
     host: &H,
@@ -215,7 +234,8 @@ fn skip_onto<H: Host, S: Source, O: Drain, E: Drain>(
     requires source { S.has_failed source.old ≡ false }
     requires out { O.has_failed out.old ≡ false }
     requires err { E.has_failed err.old ≡ false }
-    ensures { AsWritten (AsideOnto (outputs_of H.Host host.now) (told_by how.now) job (S.remaining source.old) (told S.Source source.new) result)
+    ensures { AsWritten (AsideOnto (outputs_of H.Host host.now (drain_tells H.Output.Drain H.Output.Explains))
+        (devices_of S.Source S.Explains O.Drain O.Explains) (told_by how.now) job (S.remaining source.old) (told S.Source source.new) result)
         O.Drain E.Drain out.old out.new err.old err.new }
 {
     match put_aside(how, job, host, source, out, err) {
@@ -225,7 +245,7 @@ fn skip_onto<H: Host, S: Source, O: Drain, E: Drain>(
 }
 
 // Goes on after bad lines, where the lines of quads go to the file of this name. It is kept once the bad lines are.
-fn skip_into<H: Host, S: Source, E: Drain>(
+fn skip_into<H: Host, S: Source + Explains, E: Drain>(
     how: &Skipping<'_>,
     name: &str,
     job: Job,
@@ -237,17 +257,17 @@ fn skip_into<H: Host, S: Source, E: Drain>(
     requires more { S.has_ended source.old ≡ false }
     requires source { S.has_failed source.old ≡ false }
     requires err { E.has_failed err.old ≡ false }
-    ensures { AsideInto name.now (outputs_of H.Host host.now) (told_by how.now) job (S.remaining source.old) (told S.Source source.new) result
+    ensures { AsideInto name.now (outputs_of H.Host host.now (drain_tells H.Output.Drain H.Output.Explains)) (source_tells S.Source S.Explains) (told_by how.now) job (S.remaining source.old) (told S.Source source.new) result
         (E.contents err.old) (written E.Drain err.new) }
 {
     let mut output = match host.create(how.alloc, name) {
         Ok(output) => output,
-        Err(why) => return refuse_output(why, err),
+        Err(why) => return refuse_output(how.alloc, host, name, how.explain, why, err),
     };
     match put_aside(how, job, host, source, &mut output, err) {
         Ok(summary) => match host.keep(output, name) {
             Ok(()) => tell_counts(how.alloc, summary, err),
-            Err(Failed) => refuse_name(err),
+            Err(Failed) => refuse_name(how.alloc, host, name, how.explain, err),
         },
         Err(status) => {
             host.discard(output, name);
@@ -257,7 +277,7 @@ fn skip_into<H: Host, S: Source, E: Drain>(
 }
 
 // Writes the lines of the good lines' quads, and puts the bad lines into their file; or tells why not, and answers the status.
-fn put_aside<H: Host, S: Source, D: Drain, E: Drain>(
+fn put_aside<H: Host, S: Source + Explains, D: Drain + Explains, E: Drain>(
     how: &Skipping<'_>,
     job: Job,
     host: &H,
@@ -270,28 +290,68 @@ fn put_aside<H: Host, S: Source, D: Drain, E: Drain>(
     requires source { S.has_failed source.old ≡ false }
     requires drain { D.has_failed drain.old ≡ false }
     requires err { E.has_failed err.old ≡ false }
-    ensures put { IfOk result (IsPutAside (outputs_of H.Host host.now) (told_by how.now) job (S.remaining source.old) (D.contents drain.old) (written D.Drain drain.new)) }
+    ensures put { IfOk result (IsPutAside (outputs_of H.Host host.now (drain_tells H.Output.Drain H.Output.Explains)) (told_by how.now) job (S.remaining source.old) (D.contents drain.old) (written D.Drain drain.new)) }
     ensures untold { OnOk result (err.new ≡ err.old) }
-    ensures none { IfErr result (λ status. AsWritten (NotPutAside (outputs_of H.Host host.now) (told_by how.now) job (S.remaining source.old)
+    ensures none { IfErr result (λ status. AsWritten (NotPutAside (outputs_of H.Host host.now (drain_tells H.Output.Drain H.Output.Explains)) (devices_of S.Source S.Explains D.Drain D.Explains) (told_by how.now) job (S.remaining source.old)
         (told S.Source source.new) status) D.Drain E.Drain drain.old drain.new err.old err.new) }
 {
     let mut bad = match host.create(how.alloc, how.bad) {
         Ok(bad) => bad,
-        Err(why) => return Err(refuse_output(why, err)),
+        Err(why) => return Err(refuse_output(how.alloc, host, how.bad, how.explain, why, err)),
     };
     match convert_skipping(how.alloc, job, source, drain, &mut bad) {
         Ok(summary) => match host.keep(bad, how.bad) {
             Ok(()) => Ok(summary),
-            Err(Failed) => Err(refuse_name(err)),
+            Err(Failed) => Err(refuse_name(how.alloc, host, how.bad, how.explain, err)),
         },
         Err(fault) => {
-            host.discard(bad, how.bad);
             let stop = Stop {
                 fault,
                 details: Details::none(),
             };
-            tell_stop(how.alloc, how.document, how.explain, &stop, err);
+            tell_stop_aside(how, &stop, source, drain, &bad, err);
+            host.discard(bad, how.bad);
             Err(status(&stop.fault))
         }
+    }
+}
+
+// Reports why such a run stopped. Where a write failed, the device is the output if that has failed, and else the file
+// for bad lines.
+fn tell_stop_aside<S: Explains, D: Drain + Explains, B: Explains, E: Drain>(
+    how: &Skipping<'_>,
+    stop: &Stop,
+    source: &S,
+    drain: &D,
+    bad: &B,
+    err: &mut E,
+)
+    requires { E.has_failed err.old ≡ false }
+    ensures { ReportsStop how.now.explain (device how.now.document.now (S.tells source.now))
+        (broken (D.has_failed drain.now) (device how.now.output.now (D.tells drain.now)) (device how.now.bad.now (B.tells bad.now)))
+        stop.now.fault stop.now.details (E.contents err.old) (E.contents err.new) (E.has_failed err.new) }
+{
+    let document = (how.document, source);
+    if drain.failed() {
+        tell_stopped(
+            how.alloc,
+            how.explain,
+            stop,
+            document,
+            (how.output, drain),
+            err,
+        );
+    } else {
+        tell_stopped(how.alloc, how.explain, stop, document, (how.bad, bad), err);
+    }
+}
+
+// What the output is called.
+fn output_called(file: Option<&str>) -> &str
+    ensures { result.now ≡ output_called (option_map (λ s. s.now) file.entry) }
+{
+    match file {
+        Some(name) => name,
+        None => "standard output",
     }
 }

@@ -6,13 +6,14 @@ ghost use Rattle.rdf_iri.specs.Scope.{BaseFits};
 ghost use Rattle.std.specs.Result.{IsErrOf};
 ghost use Rattle.rdf_iri.specs.Texts.{byte_len};
 ghost use Rattle.rdf_command.specs.Addresses.{IsAddress, LacksAddress};
-ghost use Rattle.rdf_command.specs.Programs.{HasPrefixes, HostEnds, IsGiven, IsNotGiven, OneEnds, OneEndsAt, TaskEnds, file_of, folders_of, outputs_of, prefixes_of};
-ghost use Rattle.rdf_command.specs.Reasons.{shut_of};
+ghost use Rattle.rdf_command.specs.Programs.{HasPrefixes, HostEnds, IsGiven, IsNotGiven, OneEnds, OneEndsAt, TaskEnds, file_of, folders_of, outputs_of, prefixes_of, shut_of};
+ghost use Rattle.rdf_command.specs.Reasons.{devices_of, drain_tells};
 ghost use Rattle.rdf_command.specs.Runs.{AreFresh, AsWritten, files_told};
 ghost use Rattle.rdf_command.specs.Words.{SkipFits};
 
 use crate::addresses::address_within;
 use crate::commands::{command_of, name_by, not_utf8};
+use crate::explains::Explains;
 use crate::host::{Host, NoFolder, NoWords, NotOpen};
 use crate::output::run_over;
 use crate::reasons::refuse_file;
@@ -33,7 +34,7 @@ pub struct Ended<I> {
 }
 
 /// Does what the words ask for, and answers the status, with the files that it read for one document.
-pub fn start<H: Host, O: Drain, E: Drain>(
+pub fn start<H: Host, O: Drain + Explains, E: Drain>(
     alloc: Global,
     host: &H,
     out: &mut O,
@@ -41,7 +42,8 @@ pub fn start<H: Host, O: Drain, E: Drain>(
 ) -> Ended<H::Input>
     requires out { O.has_failed out.old ≡ false }
     requires err { E.has_failed err.old ≡ false }
-    ensures { AsWritten (HostEnds H.Host host.now (option_map (files_told H.Input.Source) result.files) result.status)
+    ensures { AsWritten (HostEnds H.Host host.now (devices_of H.Input.Source H.Input.Explains O.Drain O.Explains)
+        (drain_tells H.Output.Drain H.Output.Explains) (option_map (files_told H.Input.Source) result.files) result.status)
         O.Drain E.Drain out.old out.new err.old err.new }
 {
     match task_of(alloc, host) {
@@ -75,7 +77,7 @@ fn texts_of(alloc: Global, words: &[String]) -> Result<Vec<&str>, AllocError>
     words.iter().map(|word| word.as_str()).collect(alloc)
 }
 
-fn run_task<H: Host, O: Drain, E: Drain>(
+fn run_task<H: Host, O: Drain + Explains, E: Drain>(
     alloc: Global,
     task: Task,
     host: &H,
@@ -86,7 +88,8 @@ fn run_task<H: Host, O: Drain, E: Drain>(
     requires skip { SkipFits task }
     requires out { O.has_failed out.old ≡ false }
     requires err { E.has_failed err.old ≡ false }
-    ensures { AsWritten (TaskEnds (folders_of H.Host host.now) (H.has_document host.now) (shut_of H.Host host.now) (outputs_of H.Host host.now) task (option_map (files_told H.Input.Source) result.files) result.status)
+    ensures { AsWritten (TaskEnds (folders_of H.Host host.now) (H.has_document host.now) (shut_of H.Host host.now (devices_of H.Input.Source H.Input.Explains O.Drain O.Explains))
+        (outputs_of H.Host host.now (drain_tells H.Output.Drain H.Output.Explains)) task (option_map (files_told H.Input.Source) result.files) result.status)
         O.Drain E.Drain out.old out.new err.old err.new }
 {
     if task.more.as_slice().is_empty() {
@@ -99,7 +102,7 @@ fn run_task<H: Host, O: Drain, E: Drain>(
 }
 
 // Runs a task over its document, the only one, whose address is its base where that is asked for.
-fn run_alone<H: Host, O: Drain, E: Drain>(
+fn run_alone<H: Host, O: Drain + Explains, E: Drain>(
     alloc: Global,
     task: Task,
     host: &H,
@@ -110,7 +113,8 @@ fn run_alone<H: Host, O: Drain, E: Drain>(
     requires skip { SkipFits task }
     requires out { O.has_failed out.old ≡ false }
     requires err { E.has_failed err.old ≡ false }
-    ensures { AsWritten (OneEndsAt task.addressed (folders_of H.Host host.now) (H.has_document host.now) (shut_of H.Host host.now) (outputs_of H.Host host.now)
+    ensures { AsWritten (OneEndsAt task.addressed (folders_of H.Host host.now) (H.has_document host.now) (shut_of H.Host host.now (devices_of H.Input.Source H.Input.Explains O.Drain O.Explains))
+        (outputs_of H.Host host.now (drain_tells H.Output.Drain H.Output.Explains))
         task (option_map (files_told H.Input.Source) result.files) result.status)
         O.Drain E.Drain out.old out.new err.old err.new }
 {
@@ -158,7 +162,7 @@ pub fn folder_of<H: Host>(alloc: Global, host: &H) -> Result<String, TermFault>
 }
 
 // Runs a task over its document, the only one.
-fn run_one<H: Host, O: Drain, E: Drain>(
+fn run_one<H: Host, O: Drain + Explains, E: Drain>(
     alloc: Global,
     task: Task,
     host: &H,
@@ -169,7 +173,8 @@ fn run_one<H: Host, O: Drain, E: Drain>(
     requires skip { SkipFits task }
     requires out { O.has_failed out.old ≡ false }
     requires err { E.has_failed err.old ≡ false }
-    ensures { AsWritten (OneEnds (H.has_document host.now) (shut_of H.Host host.now) (outputs_of H.Host host.now) task (option_map (files_told H.Input.Source) result.files) result.status)
+    ensures { AsWritten (OneEnds (H.has_document host.now) (shut_of H.Host host.now (devices_of H.Input.Source H.Input.Explains O.Drain O.Explains))
+        (outputs_of H.Host host.now (drain_tells H.Output.Drain H.Output.Explains)) task (option_map (files_told H.Input.Source) result.files) result.status)
         O.Drain E.Drain out.old out.new err.old err.new }
 {
     match open_files(host, &task) {

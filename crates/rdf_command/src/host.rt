@@ -1,16 +1,19 @@
 // What the program is started with, and the process that starts it.
 
-ghost use Rattle.std.specs.Prelude.{◌≡◌, false, true, IfErr, IfOk, List, map, None, OnErr, OnOk, Option, option_map, Some, string_bytes, ℕ, ⊤};
+ghost use Rattle.std.specs.Prelude.{◌≡◌, false, true, IfErr, IfOk, List, is_some, map, None, OnErr, OnOk, Option, option_map, Some, string_bytes, ℕ, ⊤};
 ghost use Rattle.clap.specs.Words.{Text};
 ghost use Rattle.rdf_command.specs.Outputs.{IsEmpty};
+ghost use Rattle.rdf_command.specs.Reasons.{OneTells};
 ghost use Rattle.rdf_command.specs.declared.host.NoFolder.{NoFolder};
 ghost use Rattle.rdf_command.specs.declared.host.NoOutput.{NoOutput};
 ghost use Rattle.rdf_command.specs.declared.host.NoWords.{NoWords};
 
+use crate::explains::Explains;
 use rdf_stream::{Drain, Failed, In, Out, Source};
 use std::alloc::{AllocError, Global};
+use std::cell::Cell;
 use std::fs::File;
-use std::io::{ErrorKind, Read, Stdin, Stdout, Write};
+use std::io::{Error, ErrorKind, Read, Stdin, Stdout, Write};
 use std::{env, fs, io};
 
 /// Why there are no words.
@@ -68,12 +71,48 @@ impl From<AllocError> for NoOutput {
     }
 }
 
+/// None tells nothing.
+impl<D: Explains> Explains for Option<D> {
+    ghost tells = { λ s why. OneTells D.tells s why };
+
+    fn reason(&self, alloc: Global) -> Option<String> {
+        match self {
+            Some(device) => device.reason(alloc),
+            None => None,
+        }
+    }
+}
+
+impl<R: Read> Explains for In<R> {
+    ghost tells = { λ s why. s.has_failed ≡ false → why ≡ None };
+
+    fn reason(&self, alloc: Global) -> Option<String> {
+        words_of(alloc, self.error())
+    }
+}
+
+impl<W: Write> Explains for Out<W> {
+    ghost tells = { λ s why. s.has_failed ≡ false → why ≡ None };
+
+    fn reason(&self, alloc: Global) -> Option<String> {
+        words_of(alloc, self.error())
+    }
+}
+
+// The words for an error.
+fn words_of(alloc: Global, error: Option<Error>) -> Option<String>
+    ensures { is_some error ≡ false → option_map string_bytes result ≡ None }
+{
+    let error = error?;
+    error.to_string(alloc).ok()
+}
+
 /// The words of a command line, the documents that they may name, and the files that they may ask for.
 pub trait Host {
     /// What a document is read from.
-    type Input: Source + Drop;
+    type Input: Source + Explains + Drop;
     /// A file that is being written, and has not got its name yet. It may be no `Drop` type, so that code over any host keeps or discards it.
-    type Output: Drain;
+    type Output: Drain + Explains;
 
     /// These are the words, the program's name first.
     ghost has_words: { Self → List Text → Type 0 };
@@ -83,7 +122,7 @@ pub trait Host {
     ghost has_document: { Self → Option Text → Option (List ℕ) → Type 0 };
     /// The file of this name does not open.
     ghost is_shut: { Self → Text → Type 0 };
-    /// Asked why the file of this name does not open, the host tells this, or nothing.
+    /// Asked why the file of this name did not open, or did not become an output, the host tells this, or nothing.
     ghost has_reason: { Self → Text → Option Text → Type 0 };
     /// This is the path of the folder that names of files start from.
     ghost has_folder: { Self → Text → Type 0 };
@@ -108,8 +147,8 @@ pub trait Host {
         ensures live { IfOk result (λ input. Self.Input.has_failed input ≡ false) }
         ensures shut { OnErr result ((path : Text) × (option_map (λ s. s.now) file.entry ≡ Some path) × is_shut self.now path) };
 
-    /// Why the file of this name does not open, as the system says it now; None where it says nothing, or where memory
-    /// is refused.
+    /// Why the file of this name did not open, why no output was created for it, or why an output did not become this
+    /// file: what the system said of the last call that failed so. None where it said nothing, or where memory is refused.
     fn reason(&self, alloc: Global, name: &str) -> Option<String>
         ensures { has_reason self.now name.now (option_map string_bytes result) };
 
@@ -140,6 +179,8 @@ pub trait Host {
 #[derive(Drop)]
 pub struct Process<'a> {
     rt: &'a HostRuntime,
+    // The error of the last call that failed, of those that open, create or keep a file.
+    error: Cell<Option<Error>>,
 }
 
 /// Standard input, or a file.
@@ -214,10 +255,21 @@ impl Drain for Destination {
     }
 }
 
+impl Explains for Destination {
+    ghost tells = { λ s why. s.out.has_failed ≡ false → why ≡ None };
+
+    fn reason(&self, alloc: Global) -> Option<String> {
+        self.out.reason(alloc)
+    }
+}
+
 impl<'a> Process<'a> {
     /// The process.
     pub fn new(rt: &'a HostRuntime) -> Process<'a> {
-        Process { rt }
+        Process {
+            rt,
+            error: Cell::new(None),
+        }
     }
 
     /// The process's standard output.
@@ -269,18 +321,17 @@ impl<'a> Host for Process<'a> {
             None => Opened::Input(self.rt.stdin()),
             Some(path) => match File::open(self.rt, path) {
                 Ok(file) => Opened::File(file),
-                Err(_) => return Err(NotOpen),
+                Err(error) => {
+                    self.error.set(Some(error));
+                    return Err(NotOpen);
+                }
             },
         };
         Ok(In::new(opened))
     }
 
-    // The file is tried again: what kept it from opening may have gone meanwhile, and then there is no reason to tell.
-    fn reason(&self, alloc: Global, name: &str) -> Option<String> {
-        match File::open(self.rt, name) {
-            Ok(_) => None,
-            Err(error) => error.to_string(alloc).ok(),
-        }
+    fn reason(&self, alloc: Global, _name: &str) -> Option<String> {
+        words_of(alloc, self.error.get())
     }
 
     fn folder(&self, _alloc: Global) -> Result<String, NoFolder> {
@@ -295,6 +346,7 @@ impl<'a> Host for Process<'a> {
     // A file that is there already beside it is not overwritten: it may be that of another run.
     fn create(&self, alloc: Global, name: &str) -> Result<Destination, NoOutput> {
         if !may_be_replaced(self.rt, name) {
+            self.error.set(Some(Error::other("not a regular file")));
             return Err(NoOutput::NotOpen);
         }
         let path = path_beside(alloc, name)?;
@@ -303,7 +355,10 @@ impl<'a> Host for Process<'a> {
                 part: Some(path),
                 out: Out::new(Device::File(file)),
             }),
-            Err(_) => Err(NoOutput::NotOpen),
+            Err(error) => {
+                self.error.set(Some(not_created(error)));
+                Err(NoOutput::NotOpen)
+            }
         }
     }
 
@@ -311,12 +366,14 @@ impl<'a> Host for Process<'a> {
         let Destination { part, out } = output;
         drop(out);
         let Some(path) = part else {
+            self.error.set(None);
             return Err(Failed);
         };
         match rename_whole(self.rt, path.as_str(), name) {
             Ok(()) => Ok(()),
-            Err(_) => {
+            Err(error) => {
                 remove(self.rt, path.as_str());
+                self.error.set(Some(error));
                 Err(Failed)
             }
         }
@@ -336,6 +393,15 @@ fn may_be_replaced(rt: &HostRuntime, name: &str) -> bool {
     match fs::symlink_metadata(rt, name) {
         Ok(found) => found.is_file(),
         Err(_) => true,
+    }
+}
+
+// Why a file was not created beside the one that it is to be, in the words of that one.
+fn not_created(error: Error) -> Error {
+    if matches!(error.kind(), ErrorKind::AlreadyExists) {
+        Error::other("its .part file is there already")
+    } else {
+        error
     }
 }
 

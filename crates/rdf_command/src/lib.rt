@@ -5,6 +5,7 @@ mod addresses;
 mod asides;
 mod commands;
 mod entry;
+mod explains;
 mod host;
 mod names;
 mod output;
@@ -16,6 +17,7 @@ mod task;
 
 pub use commands::command_of;
 pub use entry::{Ended, start};
+pub use explains::Explains;
 pub use host::{Destination, Device, Host, NoFolder, NoOutput, NoWords, NotOpen, Opened, Process};
 pub use reports::refuse_words;
 pub use runs::{Files, run};

@@ -8,21 +8,22 @@ ghost use Rattle.rdf_stream.specs.declared.fault.StreamFault.{StreamFault};
 ghost use Rattle.rdf_command.specs.Asides.{EndsBySkip, skip_of};
 ghost use Rattle.rdf_command.specs.Outputs.{EndsInto, EndsOnto, EndsTo, output_of};
 ghost use Rattle.rdf_command.specs.Programs.{outputs_of};
+ghost use Rattle.rdf_command.specs.Reasons.{ReportsFailed, device, devices_of, drain_tells, source_tells};
 ghost use Rattle.rdf_command.specs.Runs.{AreFresh, AsWritten, files_told};
-ghost use Rattle.rdf_command.specs.Statuses.{Reports};
 ghost use Rattle.rdf_command.specs.Words.{SkipFits};
 
 use crate::asides::run_skipping;
 use crate::entry::Ended;
+use crate::explains::Explains;
 use crate::host::Host;
-use crate::reports::{refuse_name, refuse_output};
-use crate::runs::{Files, run};
+use crate::reasons::{refuse_name, refuse_output};
+use crate::runs::{Files, run, run_to_output};
 use crate::task::Task;
 use rdf_stream::{Drain, Failed, Source};
 use std::alloc::Global;
 
 /// Runs a task over its files. Its bad lines go into a file where it has one for them, and are refused else.
-pub fn run_over<H: Host, O: Drain, E: Drain>(
+pub fn run_over<H: Host, O: Drain + Explains, E: Drain>(
     alloc: Global,
     task: Task,
     host: &H,
@@ -35,7 +36,8 @@ pub fn run_over<H: Host, O: Drain, E: Drain>(
     requires fresh { AreFresh H.Input.has_ended H.Input.has_failed files }
     requires out { O.has_failed out.old ≡ false }
     requires err { E.has_failed err.old ≡ false }
-    ensures { AsWritten (EndsBySkip (skip_of task) (outputs_of H.Host host.now) task (option_map H.Input.remaining files.prefixes)
+    ensures { AsWritten (EndsBySkip (skip_of task) (outputs_of H.Host host.now (drain_tells H.Output.Drain H.Output.Explains))
+        (devices_of H.Input.Source H.Input.Explains O.Drain O.Explains) task (option_map H.Input.remaining files.prefixes)
         (H.Input.remaining files.document) (option_map (files_told H.Input.Source) result.files) result.status)
         O.Drain E.Drain out.old out.new err.old err.new }
 {
@@ -47,7 +49,7 @@ pub fn run_over<H: Host, O: Drain, E: Drain>(
 }
 
 // Runs a task over its files. Its lines go to the file that it writes, or to the output where it writes none.
-fn run_to<H: Host, O: Drain, E: Drain>(
+fn run_to<H: Host, O: Drain + Explains, E: Drain>(
     alloc: Global,
     task: Task,
     host: &H,
@@ -59,7 +61,8 @@ fn run_to<H: Host, O: Drain, E: Drain>(
     requires fresh { AreFresh H.Input.has_ended H.Input.has_failed files }
     requires out { O.has_failed out.old ≡ false }
     requires err { E.has_failed err.old ≡ false }
-    ensures { AsWritten (EndsTo (output_of task) (outputs_of H.Host host.now) task (option_map H.Input.remaining files.prefixes)
+    ensures { AsWritten (EndsTo (output_of task) (outputs_of H.Host host.now (drain_tells H.Output.Drain H.Output.Explains))
+        (devices_of H.Input.Source H.Input.Explains O.Drain O.Explains) task (option_map H.Input.remaining files.prefixes)
         (H.Input.remaining files.document) (option_map (files_told H.Input.Source) result.files) result.status)
         O.Drain E.Drain out.old out.new err.old err.new }
 {
@@ -71,7 +74,7 @@ fn run_to<H: Host, O: Drain, E: Drain>(
 }
 
 // Runs a task whose lines go to the output.
-fn run_onto<I: Source + Drop, O: Drain, E: Drain>(
+fn run_onto<I: Source + Explains + Drop, O: Drain + Explains, E: Drain>(
     alloc: Global,
     task: Task,
     files: Files<I>,
@@ -82,7 +85,7 @@ fn run_onto<I: Source + Drop, O: Drain, E: Drain>(
     requires fresh { AreFresh I.has_ended I.has_failed files }
     requires out { O.has_failed out.old ≡ false }
     requires err { E.has_failed err.old ≡ false }
-    ensures { AsWritten (EndsOnto task (option_map I.remaining files.prefixes) (I.remaining files.document) (option_map (files_told I.Source) result.files) result.status)
+    ensures { AsWritten (EndsOnto (devices_of I.Source I.Explains O.Drain O.Explains) task (option_map I.remaining files.prefixes) (I.remaining files.document) (option_map (files_told I.Source) result.files) result.status)
         O.Drain E.Drain out.old out.new err.old err.new }
 {
     let mut files = files;
@@ -105,41 +108,52 @@ fn run_into<H: Host, E: Drain>(
     requires base { BaseFits task.base task.limits }
     requires fresh { AreFresh H.Input.has_ended H.Input.has_failed files }
     requires err { E.has_failed err.old ≡ false }
-    ensures { EndsInto (outputs_of H.Host host.now) name.now task (option_map H.Input.remaining files.prefixes) (H.Input.remaining files.document)
+    ensures { EndsInto (outputs_of H.Host host.now (drain_tells H.Output.Drain H.Output.Explains)) (source_tells H.Input.Source H.Input.Explains) name.now task (option_map H.Input.remaining files.prefixes) (H.Input.remaining files.document)
         (option_map (files_told H.Input.Source) result.files) result.status (E.contents err.old) (written E.Drain err.new) }
 {
+    let explain = task.explain;
     let mut output = match host.create(alloc, name) {
         Ok(output) => output,
         Err(why) => {
             return Ended {
-                status: refuse_output(why, err),
+                status: refuse_output(alloc, host, name, explain, why, err),
                 files: None,
             };
         }
     };
     let mut files = files;
-    let status = run(alloc, task, &mut files, &mut output, err);
+    let status = run_to_output(alloc, task, name, &mut files, &mut output, err);
     Ended {
-        status: finish(host, output, name, status, err),
+        status: finish(alloc, host, output, (name, explain), status, err),
         files: Some(files),
     }
 }
 
-// Keeps the output of a run that is done, discards that of one which stopped, and answers the status then.
-fn finish<H: Host, E: Drain>(host: &H, output: H::Output, name: &str, status: u8, err: &mut E) -> u8
+// Keeps the output of a run that is done as the file of this name, discards that of one which stopped, and answers the
+// status then. Beside the name stands whether an explanation is asked for.
+fn finish<H: Host, E: Drain>(
+    alloc: Global,
+    host: &H,
+    output: H::Output,
+    file: (&str, bool),
+    status: u8,
+    err: &mut E,
+) -> u8
     requires flushed { status ≡ 0 → H.Output.is_flushed output ≡ true }
     requires err { status ≡ 0 → E.has_failed err.old ≡ false }
     ensures stopped { status ≢ 0 → (result ≡ status) × (err.new ≡ err.old) }
-    ensures kept { result ≡ 0 → (status ≡ 0) × (err.new ≡ err.old) × H.has_output host.now name.now (H.Output.contents output) }
-    ensures left { result ≢ 0 → H.is_left host.now name.now }
-    ensures unnamed { status ≡ 0 → result ≢ 0 → (result ≡ 3) × Reports (report_text StreamFault.Write) (E.contents err.old) (E.contents err.new) (E.has_failed err.new) }
+    ensures kept { result ≡ 0 → (status ≡ 0) × (err.new ≡ err.old) × H.has_output host.now file.entry.0.now (H.Output.contents output) }
+    ensures left { result ≢ 0 → H.is_left host.now file.entry.0.now }
+    ensures unnamed { status ≡ 0 → result ≢ 0 → (result ≡ 3)
+        × ReportsFailed file.entry.1 (report_text StreamFault.Write) (device file.entry.0.now (H.has_reason host.now file.entry.0.now)) (E.contents err.old) (E.contents err.new) (E.has_failed err.new) }
 {
+    let (name, explain) = file;
     if status != 0 {
         host.discard(output, name);
         return status;
     }
     match host.keep(output, name) {
         Ok(()) => 0,
-        Err(Failed) => refuse_name(err),
+        Err(Failed) => refuse_name(alloc, host, name, explain, err),
     }
 }

@@ -4,9 +4,8 @@ ghost use Rattle.std.specs.Prelude.{◌≡◌, ◌⊎◌, ◌++◌, false, codes
 ghost use Rattle.rdf_stream.specs.Messages.{report_text};
 ghost use Rattle.rdf_stream.specs.declared.fault.StreamFault.{StreamFault};
 ghost use Rattle.rdf_command.specs.Statuses.{GoesTo, RefusesWords, Reports, ReportsExplained, ReportsExplainedOf, ReportsLoad, ReportsNoAddressOf, ReportsOf, address_status, address_text, explanation, load_status};
-ghost use Rattle.rdf_command.specs.Statuses.{ReportsCounts, counts_text, no_format_text, output_status, output_text, prefixes_text, skip_status, status_of};
+ghost use Rattle.rdf_command.specs.Statuses.{ReportsCounts, counts_text, no_format_text, prefixes_text, skip_status, status_of};
 
-use crate::host::NoOutput;
 use crate::task::WordsFault;
 use clap::Error;
 use itoa::Buffer;
@@ -142,9 +141,7 @@ pub fn refuse_prefixes<E: Drain>(alloc: Global, fault: &LoadFault, err: &mut E) 
 {
     match fault {
         LoadFault::Bad(fault) => {
-            if let Ok(line) = prefixes_line(alloc, fault.line) {
-                tell_bytes(line.as_slice(), err);
-            }
+            tell_prefixes(alloc, fault.line, err);
             2
         }
         LoadFault::Read => {
@@ -155,7 +152,18 @@ pub fn refuse_prefixes<E: Drain>(alloc: Global, fault: &LoadFault, err: &mut E) 
     }
 }
 
-fn prefixes_line(alloc: Global, line: u64) -> Result<Vec<u8>, AllocError>
+/// Reports a bad line of a file of bindings. Where memory for the text is refused, nothing is reported.
+pub fn tell_prefixes<E: Drain>(alloc: Global, line: u64, err: &mut E)
+    requires { E.has_failed err.old ≡ false }
+    ensures { Reports (prefixes_text line) (E.contents err.old) (E.contents err.new) (E.has_failed err.new) ⊎ (E.contents err.new ≡ E.contents err.old) }
+{
+    if let Ok(text) = prefixes_line(alloc, line) {
+        tell_bytes(text.as_slice(), err);
+    }
+}
+
+/// The line that reports a bad line of a file of bindings.
+pub fn prefixes_line(alloc: Global, line: u64) -> Result<Vec<u8>, AllocError>
     ensures { IfOk result (λ text. text.items ≡ prefixes_text line) }
 {
     let mut text = Vec::from_slice(alloc, b"rdfconv: bad prefixes at line ")?;
@@ -215,31 +223,6 @@ pub fn refuse_address_of<E: Drain>(alloc: Global, name: &str, fault: TermFault, 
         }
         TermFault::Memory => tell_memory(err),
     }
-}
-
-/// The text and the status of an output that was not created.
-pub fn refuse_output<E: Drain>(why: NoOutput, err: &mut E) -> u8
-    requires { E.has_failed err.old ≡ false }
-    ensures status { result ≡ output_status why }
-    ensures reported { Reports (output_text why) (E.contents err.old) (E.contents err.new) (E.has_failed err.new) }
-{
-    match why {
-        NoOutput::NotOpen => {
-            tell("rdfconv: cannot open file\n", err);
-            3
-        }
-        NoOutput::Memory => tell_memory(err),
-    }
-}
-
-/// The text and the status of an output that could not get its name.
-pub fn refuse_name<E: Drain>(err: &mut E) -> u8
-    requires { E.has_failed err.old ≡ false }
-    ensures status { result ≡ 3 }
-    ensures reported { Reports (report_text StreamFault.Write) (E.contents err.old) (E.contents err.new) (E.has_failed err.new) }
-{
-    tell(write_failed(), err);
-    3
 }
 
 /// The text and the status of words that are no task. Help goes to the output.

@@ -10,11 +10,14 @@ ghost use Rattle.rdf_stream.specs.Faults.{IsSentOn};
 ghost use Rattle.rdf_stream.specs.Jobs.{word_of};
 ghost use Rattle.rdf_stream.specs.Languages.{conversion_of, language_of};
 ghost use Rattle.rdf_stream.specs.Told.{AsTold, told};
+ghost use Rattle.rdf_command.specs.Reasons.{devices_of, standard_output};
 ghost use Rattle.rdf_command.specs.Runs.{AreFresh, AsWritten, Does, HandsOver, IsCheckedAs, IsJobOf, RunEnds, SendsOn, StartsNot, StopsAction, StopsCheckAs};
 ghost use Rattle.rdf_command.specs.Runs.{TellsDetails, accepted_text, files_told, front_of};
 
 use crate::commands::name_by;
-use crate::reports::{Stop, named_front, put_number, refuse_prefixes, status, tell_stop};
+use crate::explains::Explains;
+use crate::reasons::{refuse_bindings, tell_stopped};
+use crate::reports::{Stop, named_front, put_number, status};
 use crate::task::{Action, Task};
 use rdf_stream::{
     Details, Drain, Failed, Iri, Job, LoadFault, NodePrefix, Source, StreamFault, Summary,
@@ -33,7 +36,7 @@ pub struct Files<I> {
 
 /// Runs a task over its files, which it is lent, and answers the status. The file of bindings is read first. Its lines
 /// go to the output, and a bad line is refused, whatever files the task names for these: `start` has them written.
-pub fn run<I: Source, O: Drain, E: Drain>(
+pub fn run<I: Source + Explains, O: Drain + Explains, E: Drain>(
     alloc: Global,
     task: Task,
     files: &mut Files<I>,
@@ -44,7 +47,28 @@ pub fn run<I: Source, O: Drain, E: Drain>(
     requires fresh { AreFresh I.has_ended I.has_failed files.old }
     requires out { O.has_failed out.old ≡ false }
     requires err { E.has_failed err.old ≡ false }
-    ensures ends { AsWritten (RunEnds task (option_map I.remaining files.old.prefixes) (I.remaining files.old.document) (files_told I.Source files.new) result)
+    ensures ends { AsWritten (RunEnds (devices_of I.Source I.Explains O.Drain O.Explains) standard_output task (option_map I.remaining files.old.prefixes)
+        (I.remaining files.old.document) (files_told I.Source files.new) result)
+        O.Drain E.Drain out.old out.new err.old err.new }
+    ensures untold { result ≡ 0 → err.new ≡ err.old }
+{
+    run_to_output(alloc, task, "standard output", files, out, err)
+}
+
+/// The same with an output of this name, which is told where a write fails and an explanation is asked for.
+pub fn run_to_output<I: Source + Explains, O: Drain + Explains, E: Drain>(
+    alloc: Global,
+    task: Task,
+    name: &str,
+    files: &mut Files<I>,
+    out: &mut O,
+    err: &mut E,
+) -> u8
+    requires base { BaseFits task.base task.limits }
+    requires fresh { AreFresh I.has_ended I.has_failed files.old }
+    requires out { O.has_failed out.old ≡ false }
+    requires err { E.has_failed err.old ≡ false }
+    ensures ends { AsWritten (RunEnds (devices_of I.Source I.Explains O.Drain O.Explains) name.now task (option_map I.remaining files.old.prefixes) (I.remaining files.old.document) (files_told I.Source files.new) result)
         O.Drain E.Drain out.old out.new err.old err.new }
     ensures untold { result ≡ 0 → err.new ≡ err.old }
 {
@@ -52,14 +76,19 @@ pub fn run<I: Source, O: Drain, E: Drain>(
     let action = task.action;
     let explain = task.explain;
     let file = task.file.take();
+    let prefixes = task.prefixes.take();
     let job = match job_of(alloc, task, &mut files.prefixes) {
         Ok(job) => job,
-        Err(fault) => return refuse_prefixes(alloc, &fault, err),
+        Err(fault) => {
+            let file = (name_by(prefixes.as_deref()), &files.prefixes);
+            return refuse_bindings(alloc, explain, &fault, file, err);
+        }
     };
     match act(alloc, action, job, &mut files.document, out) {
         Ok(()) => 0,
         Err(stop) => {
-            tell_stop(alloc, name_by(file.as_deref()), explain, &stop, err);
+            let document = (name_by(file.as_deref()), &files.document);
+            tell_stopped(alloc, explain, &stop, document, (name, &*out), err);
             status(&stop.fault)
         }
     }

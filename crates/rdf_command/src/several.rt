@@ -3,20 +3,22 @@
 ghost use Rattle.std.specs.Prelude.{◌≡◌, ◌⊎◌, false, true, IfErr, IfOk, IfSome, List, None, OnErr, Option, Some, map, option_map, string_bytes, ℕ};
 ghost use Rattle.rdf_iri.specs.Scope.{BaseFits};
 ghost use Rattle.rdf_stream.specs.Devices.{Reading};
+ghost use Rattle.rdf_stream.specs.Loads.{LoadStops};
 ghost use Rattle.rdf_stream.specs.Told.{told, written};
 ghost use Rattle.std.specs.Result.{IsErrOf};
 ghost use Rattle.rdf_command.specs.Addresses.{IsFolderFor};
-ghost use Rattle.rdf_command.specs.Programs.{SeveralEnd, documents_of, folders_of};
-ghost use Rattle.rdf_command.specs.Reasons.{shut_of};
-ghost use Rattle.rdf_command.specs.Runs.{AsWritten};
-ghost use Rattle.rdf_command.specs.Several.{AcceptsOne, BindsNotFrom, EndsAt, EndsEach, EndsOne, GivesBindings, GivesNoBindings, IsCheckJob, StopsOne, has_failed_output, shared_of, status_after, worse};
+ghost use Rattle.rdf_command.specs.Programs.{SeveralEnd, documents_of, folders_of, shut_of};
+ghost use Rattle.rdf_command.specs.Reasons.{devices_of};
+ghost use Rattle.rdf_command.specs.Runs.{AsWritten, StartsNot};
+ghost use Rattle.rdf_command.specs.Several.{AcceptsOne, BindsNotFrom, EndsAt, EndsEach, EndsOne, GivesBindings, IsCheckJob, StopsOne, has_failed_output, shared_of, status_after, worse};
 
 use crate::addresses::address_within;
 use crate::commands::{name_by, named};
 use crate::entry::{folder_of, open_prefixes};
+use crate::explains::Explains;
 use crate::host::{Host, NotOpen};
-use crate::reasons::{refuse_file, refuse_file_of};
-use crate::reports::{refuse_address, refuse_address_of, refuse_prefixes, status, tell_stop_of};
+use crate::reasons::{refuse_bindings, refuse_file, refuse_file_of, tell_stopped_of};
+use crate::reports::{refuse_address, refuse_address_of, refuse_prefixes, status};
 use crate::runs::check_to;
 use crate::task::Task;
 use rdf_stream::{
@@ -66,7 +68,7 @@ struct Turn {
 }
 
 /// Checks all documents of a task, and answers the status.
-pub fn check_each<H: Host, O: Drain, E: Drain>(
+pub fn check_each<H: Host, O: Drain + Explains, E: Drain>(
     alloc: Global,
     task: &Task,
     host: &H,
@@ -76,21 +78,25 @@ pub fn check_each<H: Host, O: Drain, E: Drain>(
     requires base { BaseFits task.now.base task.now.limits }
     requires out { O.has_failed out.old ≡ false }
     requires err { E.has_failed err.old ≡ false }
-    ensures { AsWritten (SeveralEnd (folders_of H.Host host.now) (H.has_document host.now) (shut_of H.Host host.now) task.now result)
+    ensures { AsWritten (SeveralEnd (folders_of H.Host host.now) (H.has_document host.now) (shut_of H.Host host.now (devices_of H.Input.Source H.Input.Explains O.Drain O.Explains)) task.now result)
         O.Drain E.Drain out.old out.new err.old err.new }
 {
     let folder = match folder_for(alloc, host, task.addressed) {
         Ok(folder) => folder,
         Err(fault) => return refuse_address(fault, err),
     };
-    let source = match open_prefixes(host, task) {
+    let mut source = match open_prefixes(host, task) {
         Ok(source) => source,
         Err(name) => return refuse_file(alloc, host, name, task.explain, err),
     };
-    let prefixes = match given(alloc, task.limits, source) {
+    let prefixes = match given(alloc, task.limits, &mut source) {
         Ok(prefixes) => prefixes,
-        Err(fault) => return refuse_prefixes(alloc, &fault, err),
+        Err(fault) => {
+            let file = (name_by(task.prefixes.as_deref()), &source);
+            return refuse_bindings(alloc, task.explain, &fault, file, err);
+        }
     };
+    drop(source);
     let plan = Plan {
         alloc,
         base: task.base.as_ref(),
@@ -120,14 +126,14 @@ fn folder_for<H: Host>(
 }
 
 // The bytes of the file of bindings, once they are seen to be bindings.
-fn given<I: Source + Drop>(
+fn given<I: Source>(
     alloc: Global,
     limits: Limits,
-    source: Option<I>,
+    source: &mut Option<I>,
 ) -> Result<Option<Vec<u8>>, LoadFault>
-    requires { IfSome source (λ s. (I.has_ended s ≡ false) × (I.has_failed s ≡ false)) }
-    ensures given { IfOk result (λ bytes. GivesBindings limits (option_map I.remaining source) (option_map (λ b. b.items) bytes)) }
-    ensures none { IfErr result (λ fault. GivesNoBindings fault limits (option_map I.remaining source)) }
+    requires { IfSome source.old (λ s. (I.has_ended s ≡ false) × (I.has_failed s ≡ false)) }
+    ensures given { IfOk result (λ bytes. GivesBindings limits (option_map I.remaining source.old) (option_map (λ b. b.items) bytes)) }
+    ensures none { IfErr result (λ fault. StartsNot fault limits (option_map I.remaining source.old) (option_map (told I.Source) source.new)) }
 {
     match source {
         Some(source) => Ok(Some(given_by(alloc, limits, source)?)),
@@ -135,24 +141,19 @@ fn given<I: Source + Drop>(
     }
 }
 
-fn given_by<I: Source + Drop>(
-    alloc: Global,
-    limits: Limits,
-    source: I,
-) -> Result<Vec<u8>, LoadFault>
-    requires more { I.has_ended source ≡ false }
-    requires live { I.has_failed source ≡ false }
-    ensures given { IfOk result (λ bytes. GivesBindings limits (Some (I.remaining source)) (Some bytes.items)) }
-    ensures none { IfErr result (λ fault. GivesNoBindings fault limits (Some (I.remaining source))) }
+fn given_by<I: Source>(alloc: Global, limits: Limits, source: &mut I) -> Result<Vec<u8>, LoadFault>
+    requires more { I.has_ended source.old ≡ false }
+    requires live { I.has_failed source.old ≡ false }
+    ensures given { IfOk result (λ bytes. GivesBindings limits (Some (I.remaining source.old)) (Some bytes.items)) }
+    ensures none { IfErr result (λ fault. LoadStops fault limits (I.remaining source.old) (told I.Source source.new)) }
 {
-    let mut source = source;
-    let bytes = read_whole(alloc, &mut source)?;
+    let bytes = read_whole(alloc, source)?;
     bindings_in(alloc, limits, bytes.as_slice())?;
     Ok(bytes)
 }
 
 // Checks the documents in turn. After one that an output failed at no more are read.
-fn check_with<H: Host, O: Drain, E: Drain>(
+fn check_with<H: Host, O: Drain + Explains, E: Drain>(
     plan: &Plan<'_>,
     task: &Task,
     host: &H,
@@ -162,7 +163,7 @@ fn check_with<H: Host, O: Drain, E: Drain>(
     requires base { BaseFits (shared_of plan.now).base plan.now.limits }
     requires out { O.has_failed out.old ≡ false }
     requires err { E.has_failed err.old ≡ false }
-    ensures { AsWritten (EndsEach (H.has_document host.now) (shut_of H.Host host.now) (shared_of plan.now) (documents_of task.now) result)
+    ensures { AsWritten (EndsEach (H.has_document host.now) (shut_of H.Host host.now (devices_of H.Input.Source H.Input.Explains O.Drain O.Explains)) (shared_of plan.now) (documents_of task.now) result)
         O.Drain E.Drain out.old out.new err.old err.new }
 {
     let first = (task.form, name_by(task.file.as_deref()));
@@ -186,7 +187,7 @@ fn check_with<H: Host, O: Drain, E: Drain>(
 }
 
 // Checks the next document, and says whether an output has failed since.
-fn check_next<H: Host, O: Drain, E: Drain>(
+fn check_next<H: Host, O: Drain + Explains, E: Drain>(
     plan: &Plan<'_>,
     host: &H,
     document: (Form, &str),
@@ -196,7 +197,7 @@ fn check_next<H: Host, O: Drain, E: Drain>(
     requires base { BaseFits (shared_of plan.now).base plan.now.limits }
     requires out { O.has_failed out.old ≡ false }
     requires err { E.has_failed err.old ≡ false }
-    ensures ends { AsWritten (EndsAt (shared_of plan.now).folder (H.has_document host.now) (shut_of H.Host host.now) (shared_of plan.now) (document.entry.0, document.entry.1.now) result.status)
+    ensures ends { AsWritten (EndsAt (shared_of plan.now).folder (H.has_document host.now) (shut_of H.Host host.now (devices_of H.Input.Source H.Input.Explains O.Drain O.Explains)) (shared_of plan.now) (document.entry.0, document.entry.1.now) result.status)
         O.Drain E.Drain out.old out.new err.old err.new }
     ensures failed { result.has_failed ≡ has_failed_output (written O.Drain out.new) (written E.Drain err.new) }
 {
@@ -208,7 +209,7 @@ fn check_next<H: Host, O: Drain, E: Drain>(
 }
 
 // Checks a document, with its address as its base where that is asked for, and answers its status.
-fn check_one<H: Host, O: Drain, E: Drain>(
+fn check_one<H: Host, O: Drain + Explains, E: Drain>(
     plan: &Plan<'_>,
     host: &H,
     document: (Form, &str),
@@ -218,7 +219,7 @@ fn check_one<H: Host, O: Drain, E: Drain>(
     requires base { BaseFits (shared_of plan.now).base plan.now.limits }
     requires out { O.has_failed out.old ≡ false }
     requires err { E.has_failed err.old ≡ false }
-    ensures { AsWritten (EndsAt (shared_of plan.now).folder (H.has_document host.now) (shut_of H.Host host.now) (shared_of plan.now) (document.entry.0, document.entry.1.now) result)
+    ensures { AsWritten (EndsAt (shared_of plan.now).folder (H.has_document host.now) (shut_of H.Host host.now (devices_of H.Input.Source H.Input.Explains O.Drain O.Explains)) (shared_of plan.now) (document.entry.0, document.entry.1.now) result)
         O.Drain E.Drain out.old out.new err.old err.new }
 {
     match plan.folder {
@@ -228,7 +229,7 @@ fn check_one<H: Host, O: Drain, E: Drain>(
 }
 
 // Checks a document with its address in this folder as its base, and answers its status.
-fn check_at<H: Host, O: Drain, E: Drain>(
+fn check_at<H: Host, O: Drain + Explains, E: Drain>(
     plan: &Plan<'_>,
     folder: &str,
     host: &H,
@@ -238,7 +239,7 @@ fn check_at<H: Host, O: Drain, E: Drain>(
 ) -> u8
     requires out { O.has_failed out.old ≡ false }
     requires err { E.has_failed err.old ≡ false }
-    ensures { AsWritten (EndsAt (Some folder.now) (H.has_document host.now) (shut_of H.Host host.now) (shared_of plan.now) (document.entry.0, document.entry.1.now) result)
+    ensures { AsWritten (EndsAt (Some folder.now) (H.has_document host.now) (shut_of H.Host host.now (devices_of H.Input.Source H.Input.Explains O.Drain O.Explains)) (shared_of plan.now) (document.entry.0, document.entry.1.now) result)
         O.Drain E.Drain out.old out.new err.old err.new }
 {
     let (_, name) = document;
@@ -249,7 +250,7 @@ fn check_at<H: Host, O: Drain, E: Drain>(
 }
 
 // Checks a document with the base of the plan, and answers its status.
-fn check_based<H: Host, O: Drain, E: Drain>(
+fn check_based<H: Host, O: Drain + Explains, E: Drain>(
     plan: &Plan<'_>,
     host: &H,
     document: (Form, &str),
@@ -259,7 +260,7 @@ fn check_based<H: Host, O: Drain, E: Drain>(
     requires base { BaseFits (shared_of plan.now).base plan.now.limits }
     requires out { O.has_failed out.old ≡ false }
     requires err { E.has_failed err.old ≡ false }
-    ensures { AsWritten (EndsOne (H.has_document host.now) (shut_of H.Host host.now) (shared_of plan.now) (document.entry.0, document.entry.1.now) result)
+    ensures { AsWritten (EndsOne (H.has_document host.now) (shut_of H.Host host.now (devices_of H.Input.Source H.Input.Explains O.Drain O.Explains)) (shared_of plan.now) (document.entry.0, document.entry.1.now) result)
         O.Drain E.Drain out.old out.new err.old err.new }
 {
     let (form, name) = document;
@@ -274,7 +275,7 @@ fn check_based<H: Host, O: Drain, E: Drain>(
 }
 
 // Checks the document that a source has, and answers its status.
-fn check_source<I: Source + Drop, O: Drain, E: Drain>(
+fn check_source<I: Source + Explains + Drop, O: Drain + Explains, E: Drain>(
     plan: &Plan<'_>,
     document: (Job, &str),
     source: I,
@@ -286,14 +287,22 @@ fn check_source<I: Source + Drop, O: Drain, E: Drain>(
     requires out { O.has_failed out.old ≡ false }
     requires err { E.has_failed err.old ≡ false }
     ensures { (left : Reading) × (AsWritten (AcceptsOne document.entry.0 document.entry.1.now (I.remaining source) result) O.Drain E.Drain out.old out.new err.old err.new
-        ⊎ AsWritten (StopsOne plan.now.explain document.entry.0 document.entry.1.now (I.remaining source) left result) O.Drain E.Drain out.old out.new err.old err.new) }
+        ⊎ AsWritten (StopsOne (devices_of I.Source I.Explains O.Drain O.Explains) plan.now.explain document.entry.0 document.entry.1.now (I.remaining source) left result) O.Drain E.Drain out.old out.new err.old err.new) }
 {
     let (job, name) = document;
     let mut source = source;
     match check_to(plan.alloc, job, Some(name), &mut source, out) {
         Ok(()) => 0,
         Err(stop) => {
-            tell_stop_of(plan.alloc, name, plan.explain, &stop, err);
+            let output = ("standard output", &*out);
+            tell_stopped_of(
+                plan.alloc,
+                plan.explain,
+                &stop,
+                (name, &source),
+                output,
+                err,
+            );
             status(&stop.fault)
         }
     }

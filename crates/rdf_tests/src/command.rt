@@ -16,7 +16,7 @@ use rdf_command::{
 use rdf_stream::{Escapes, Form, In, Limits, Out, Source};
 use rows::{
     Asked, CUTS, Cut, FILES, Fields, INPUT, INTO_FILES, IntoFile, LIMITED, Limited, RUNS, Run,
-    SKIPS, STARTED, Skip, Started, TASKS,
+    SKIPS, STARTED, Skip, Started, TASKS, UNWRITTEN, Unwritten,
 };
 use std::alloc::{AllocError, Global};
 use std::test::Fail;
@@ -556,6 +556,36 @@ fn skip_differs_in(alloc: Global, row: &Skip) -> Option<&'static str> {
 fn bad_lines_are_put_aside_where_that_is_asked_for(rt: HostRuntime) {
     for row in SKIPS.as_slice() {
         assert_eq!(rt; skip_differs_in(rt.alloc(), row), None, "{}", row.line);
+    }
+}
+
+/// What differs in a run whose output takes no byte.
+fn unwritten_differs_in(alloc: Global, row: &Unwritten) -> Option<&'static str> {
+    let host = InMemory {
+        words: Ok(row.line),
+        input: INPUT,
+        files: FILES.as_slice(),
+        outputs: Outputs::new(Making::Works),
+    };
+    let mut out = slow_drain(alloc, 1, 0);
+    let mut reported = Vec::new(alloc);
+    let mut err = Out::new(&mut reported);
+    let ended = start(alloc, &host, &mut out, &mut err);
+    let status = ended.status;
+    drop(ended);
+    drop(err);
+    Ended {
+        status,
+        written: out.bytes,
+        reported,
+    }
+    .differs_in(3, "", row.reported)
+}
+
+#[test]
+fn a_failed_write_to_the_output_is_reported(rt: HostRuntime) {
+    for row in UNWRITTEN.as_slice() {
+        assert_eq!(rt; unwritten_differs_in(rt.alloc(), row), None, "{}", row.line);
     }
 }
 

@@ -1,12 +1,14 @@
 // A host in memory.
 
-ghost use Rattle.std.specs.Prelude.{⊤};
+ghost use Rattle.std.specs.Prelude.{◌≡◌, false, ⊤};
 
 use crate::stream::devices::{SlowDrain, slow_drain};
-use rdf_command::{Host, NoFolder, NoOutput, NoWords, NotOpen};
+use rdf_command::{Explains, Host, NoFolder, NoOutput, NoWords, NotOpen};
 use rdf_stream::{Failed, In};
 use std::alloc::Global;
 use std::cell::{Cell, OnceCell};
+use std::io;
+use std::io::{Error, Read};
 
 /// What becomes of an output.
 #[derive(Clone, Copy, Debug, PartialEq, Eq)]
@@ -52,8 +54,40 @@ pub(crate) struct InMemory<'a> {
     pub(crate) outputs: Outputs,
 }
 
+/// Gives its bytes, and then reports the end, or an error.
+#[derive(Drop)]
+pub(crate) struct Stored<'a> {
+    bytes: &'a [u8],
+    breaks: bool,
+}
+
+impl<'a> Read for Stored<'a> {
+    fn read(&mut self, buf: &mut [u8]) -> io::Result<usize> {
+        let count = self.bytes.len().min(buf.len());
+        if count == 0 && self.breaks {
+            return Err(Error::other("broken off"));
+        }
+        let (front, rest) = self.bytes.split_at(count);
+        buf[..count].copy_from_slice(front);
+        self.bytes = rest;
+        Ok(count)
+    }
+}
+
+impl Explains for SlowDrain {
+    ghost tells = { λ _ _. ⊤ };
+
+    fn reason(&self, alloc: Global) -> Option<String> {
+        if self.failed {
+            String::from_str(alloc, "no room in memory").ok()
+        } else {
+            None
+        }
+    }
+}
+
 impl<'a> Host for InMemory<'a> {
-    type Input = In<&'a [u8]>;
+    type Input = In<Stored<'a>>;
 
     type Output = SlowDrain;
 
@@ -87,20 +121,26 @@ impl<'a> Host for InMemory<'a> {
         Ok(words)
     }
 
-    fn open(&self, file: Option<&str>) -> Result<In<&'a [u8]>, NotOpen> {
+    fn open(&self, file: Option<&str>) -> Result<In<Stored<'a>>, NotOpen> {
         let Some(path) = file else {
-            return Ok(In::new(self.input.as_bytes()));
+            return Ok(make_stored(self.input, false));
         };
         for (name, text) in self.files {
             if *name == path {
-                return Ok(In::new(text.as_bytes()));
+                return Ok(make_stored(text, path.starts_with("broken")));
             }
         }
         Err(NotOpen)
     }
 
-    fn reason(&self, alloc: Global, _name: &str) -> Option<String> {
-        String::from_str(alloc, "no such file in memory").ok()
+    fn reason(&self, alloc: Global, name: &str) -> Option<String> {
+        let why = match (name, self.outputs.making) {
+            ("/no.nt", _) => return None,
+            ("out.nq" | "bad.nt", Making::NotNamed) => "no name in memory",
+            ("out.nq" | "bad.nt", _) => "not in memory",
+            _ => "no such file in memory",
+        };
+        String::from_str(alloc, why).ok()
     }
 
     fn folder(&self, alloc: Global) -> Result<String, NoFolder> {
@@ -130,4 +170,15 @@ impl<'a> Host for InMemory<'a> {
     fn discard(&self, _output: SlowDrain, _name: &str) {
         self.outputs.is_discarded.set(true);
     }
+}
+
+/// The text of a file, which breaks off at its end, or not.
+fn make_stored(text: &str, breaks: bool) -> In<Stored<'_>>
+    ensures more { result.has_ended ≡ false }
+    ensures live { result.has_failed ≡ false }
+{
+    In::new(Stored {
+        bytes: text.as_bytes(),
+        breaks,
+    })
 }

@@ -280,7 +280,7 @@ pub(crate) struct Started {
 
 pub(crate) const INPUT: &str = "<a:> <b:> _:input .";
 
-pub(crate) static FILES: [(&str, &str); 10] = [
+pub(crate) static FILES: [(&str, &str); 12] = [
     ("data.nt", "<a:> <b:> \"file\" ."),
     ("data.ttl", "ex:s ex:p ex:o ."),
     ("open.ttl", "<a:> <b:> [ <c:> 1\n."),
@@ -294,9 +294,11 @@ pub(crate) static FILES: [(&str, &str); 10] = [
     ("mixed.nt", "<a:> <b:> <c:> .\nbad\n<a:> <b:> \"2\" ."),
     ("ex.txt", "ex: http://e/\n"),
     ("bad.txt", "ex: http://e/\nex: e\n"),
+    ("broken.nt", "<a:> <b:> <c:> .\n"),
+    ("broken.txt", "ex: http://e/\n"),
 ];
 
-pub(crate) static STARTED: [Started; 36] = [
+pub(crate) static STARTED: [Started; 48] = [
     Started {
         line: "rdfconv show x x x x x x x x x x x x x x x x x x x x x x x x x x x x x x x x x x x x x x x x x x x x x x x x",
         status: 2,
@@ -513,6 +515,78 @@ pub(crate) static STARTED: [Started; 36] = [
         written: "",
         reported: "rdfconv: cannot open file\nno.txt: no such file in memory\n",
     },
+    Started {
+        line: "rdfconv check --explain /no.nt",
+        status: 3,
+        written: "",
+        reported: "rdfconv: cannot open file\n",
+    },
+    Started {
+        line: "rdfconv check broken.nt",
+        status: 3,
+        written: "",
+        reported: "rdfconv: read failed\n",
+    },
+    Started {
+        line: "rdfconv check --explain broken.nt",
+        status: 3,
+        written: "",
+        reported: "rdfconv: read failed\nbroken.nt: broken off\n",
+    },
+    Started {
+        line: "rdfconv convert --explain broken.nt",
+        status: 3,
+        written: "<a:> <b:> <c:> .\n",
+        reported: "rdfconv: read failed\nbroken.nt: broken off\n",
+    },
+    Started {
+        line: "rdfconv show --explain broken.nt",
+        status: 3,
+        written: "0 4 iri\n5 4 iri\n10 4 iri\n15 1 dot\n",
+        reported: "rdfconv: read failed\nbroken.nt: broken off\n",
+    },
+    Started {
+        line: "rdfconv check data.nt broken.nt",
+        status: 3,
+        written: "data.nt: accepted, 1 quads, 18 bytes\n",
+        reported: "broken.nt: read failed\n",
+    },
+    Started {
+        line: "rdfconv check --explain data.nt broken.nt",
+        status: 3,
+        written: "data.nt: accepted, 1 quads, 18 bytes\n",
+        reported: "broken.nt: read failed\nbroken.nt: broken off\n",
+    },
+    Started {
+        line: "rdfconv check --prefixes broken.txt data.ttl",
+        status: 3,
+        written: "",
+        reported: "rdfconv: read failed\n",
+    },
+    Started {
+        line: "rdfconv check --explain --prefixes broken.txt data.ttl",
+        status: 3,
+        written: "",
+        reported: "rdfconv: read failed\nbroken.txt: broken off\n",
+    },
+    Started {
+        line: "rdfconv check --explain --prefixes broken.txt data.ttl data.nt",
+        status: 3,
+        written: "",
+        reported: "rdfconv: read failed\nbroken.txt: broken off\n",
+    },
+    Started {
+        line: "rdfconv convert --explain --prefixes bad.txt data.ttl",
+        status: 2,
+        written: "",
+        reported: "rdfconv: bad prefixes at line 2\nbad.txt:2: bad prefixes\n",
+    },
+    Started {
+        line: "rdfconv check --explain --prefixes bad.txt data.ttl data.nt",
+        status: 2,
+        written: "",
+        reported: "rdfconv: bad prefixes at line 2\nbad.txt:2: bad prefixes\n",
+    },
 ];
 
 /// A check of a document that is refused, one that is accepted, and one that is refused, and what comes of it where the
@@ -555,7 +629,7 @@ pub(crate) struct IntoFile {
     pub(crate) reported: &'static str,
 }
 
-pub(crate) static INTO_FILES: [IntoFile; 9] = [
+pub(crate) static INTO_FILES: [IntoFile; 14] = [
     IntoFile {
         line: "rdfconv convert -o out.nq --format nt data.nt",
         making: Making::Works,
@@ -628,6 +702,46 @@ pub(crate) static INTO_FILES: [IntoFile; 9] = [
         is_discarded: false,
         reported: "rdfconv: cannot open file\n",
     },
+    IntoFile {
+        line: "rdfconv convert --explain -o out.nq data.nt",
+        making: Making::NotWritten,
+        status: 3,
+        kept: None,
+        is_discarded: true,
+        reported: "rdfconv: write failed\nout.nq: no room in memory\n",
+    },
+    IntoFile {
+        line: "rdfconv convert --explain -o out.nq data.nt",
+        making: Making::NotNamed,
+        status: 3,
+        kept: None,
+        is_discarded: false,
+        reported: "rdfconv: write failed\nout.nq: no name in memory\n",
+    },
+    IntoFile {
+        line: "rdfconv convert --explain -o out.nq data.nt",
+        making: Making::NotCreated,
+        status: 3,
+        kept: None,
+        is_discarded: false,
+        reported: "rdfconv: cannot open file\nout.nq: not in memory\n",
+    },
+    IntoFile {
+        line: "rdfconv convert --explain -o out.nq data.nt",
+        making: Making::NoMemory,
+        status: 4,
+        kept: None,
+        is_discarded: false,
+        reported: "rdfconv: out of memory\n",
+    },
+    IntoFile {
+        line: "rdfconv convert --explain -o out.nq broken.nt",
+        making: Making::Works,
+        status: 3,
+        kept: None,
+        is_discarded: true,
+        reported: "rdfconv: read failed\nbroken.nt: broken off\n",
+    },
 ];
 
 /// A run that goes on after bad lines, and what comes of it.
@@ -645,7 +759,7 @@ pub(crate) struct Skip {
     pub(crate) reported: &'static str,
 }
 
-pub(crate) static SKIPS: [Skip; 6] = [
+pub(crate) static SKIPS: [Skip; 13] = [
     Skip {
         line: "rdfconv convert --format nt --skip bad.nt mixed.nt",
         making: Making::Works,
@@ -705,5 +819,105 @@ pub(crate) static SKIPS: [Skip; 6] = [
         aside: None,
         is_discarded: false,
         reported: "rdfconv: cannot open file\n",
+    },
+    Skip {
+        line: "rdfconv check --explain --format nt --skip bad.nt mixed.nt",
+        making: Making::NotWritten,
+        status: 3,
+        written: "",
+        kept: None,
+        aside: None,
+        is_discarded: true,
+        reported: "rdfconv: write failed\nbad.nt: no room in memory\n",
+    },
+    Skip {
+        line: "rdfconv convert --explain --format nt -o out.nq --skip bad.nt mixed.nt",
+        making: Making::NotWritten,
+        status: 3,
+        written: "",
+        kept: None,
+        aside: None,
+        is_discarded: true,
+        reported: "rdfconv: write failed\nout.nq: no room in memory\n",
+    },
+    Skip {
+        line: "rdfconv check --explain --format nt --skip bad.nt mixed.nt",
+        making: Making::NotNamed,
+        status: 3,
+        written: "",
+        kept: None,
+        aside: None,
+        is_discarded: false,
+        reported: "rdfconv: write failed\nbad.nt: no name in memory\n",
+    },
+    Skip {
+        line: "rdfconv check --explain --format nt --skip bad.nt mixed.nt",
+        making: Making::NotCreated,
+        status: 3,
+        written: "",
+        kept: None,
+        aside: None,
+        is_discarded: false,
+        reported: "rdfconv: cannot open file\nbad.nt: not in memory\n",
+    },
+    Skip {
+        line: "rdfconv convert --explain --format nt -o out.nq --skip bad.nt mixed.nt",
+        making: Making::NotCreated,
+        status: 3,
+        written: "",
+        kept: None,
+        aside: None,
+        is_discarded: false,
+        reported: "rdfconv: cannot open file\nout.nq: not in memory\n",
+    },
+    Skip {
+        line: "rdfconv check --explain --format nt --skip bad.nt broken.nt",
+        making: Making::Works,
+        status: 3,
+        written: "",
+        kept: None,
+        aside: None,
+        is_discarded: true,
+        reported: "rdfconv: read failed\nbroken.nt: broken off\n",
+    },
+    Skip {
+        line: "rdfconv check --explain --format nt --skip bad.nt --prefixes bad.txt mixed.nt",
+        making: Making::Works,
+        status: 2,
+        written: "",
+        kept: None,
+        aside: None,
+        is_discarded: false,
+        reported: "rdfconv: bad prefixes at line 2\nbad.txt:2: bad prefixes\n",
+    },
+];
+
+/// A run whose output takes no byte.
+pub(crate) struct Unwritten {
+    /// The words, with a space between each two.
+    pub(crate) line: &'static str,
+    pub(crate) reported: &'static str,
+}
+
+pub(crate) static UNWRITTEN: [Unwritten; 5] = [
+    Unwritten {
+        line: "rdfconv convert data.nt",
+        reported: "rdfconv: write failed\n",
+    },
+    Unwritten {
+        line: "rdfconv convert --explain data.nt",
+        reported: "rdfconv: write failed\nstandard output: no room in memory\n",
+    },
+    Unwritten {
+        line: "rdfconv check data.nt data.nt",
+        reported: "data.nt: write failed\n",
+    },
+    Unwritten {
+        line: "rdfconv check --explain data.nt data.nt",
+        reported: "data.nt: write failed\nstandard output: no room in memory\n",
+    },
+    Unwritten {
+        line: "rdfconv convert --explain --format nt --skip bad.nt mixed.nt",
+        reported: "rdfconv: write failed\nstandard output: no room in memory\n",
     },
 ];

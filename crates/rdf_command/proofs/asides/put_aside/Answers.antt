@@ -1,18 +1,26 @@
-use Rattle.std.proofs.Common.{inl}
+use Rattle.std.proofs.Common.{inl, refl}
 use Rattle.rdf_stream.specs.Told.{written}
+use Rattle.rdf_command.proofs.ReasonLemmas.{broken_among}
 use Rattle.rdf_command.proofs.asides.put_aside.Goals as goal
 
 pub returns-in-Err-convert_skipping-clause-none : goal.returns-in-Err-convert_skipping-clause-none
 returns-in-Err-convert_skipping-clause-none g c =
+    let how = c.args.how.now in
+    let stop = c.in-Err-convert_skipping.fault in
+    let source = c.convert_skipping.new.source in
+    let drain = c.convert_skipping.new.drain in
+    let bad = c.convert_skipping.new.bad in
+    let err = c.tell_stop_aside.new.err in
     inl (record {
-      fault = c.in-Err-convert_skipping.fault;
+      fault = stop;
       first = g.H.Output.Drain.contents c.in-Ok.bad;
       empty = c.in-Ok.ensures.empty;
-      bad = written g.H.Output.Drain c.convert_skipping.new.bad;
+      bad = written g.H.Output.Drain bad;
       stops = c.in-Err-convert_skipping.ensures.stops;
       status_is = c.status.ensures;
       is_left = c.discard.ensures;
       details = c.none.result;
       none = c.none.ensures;
-      reported = c.tell_stop.ensures;
+      reported = broken_among (g.E.Drain.contents c.args.err.now) (g.E.Drain.contents err) (g.E.Drain.has_failed err) how.explain (g.D.Drain.has_failed drain) how.document.now how.output.now how.bad.now
+          _ _ _ _ _ _ stop c.none.result (λ why tells. (source, refl, tells)) (λ why tells. (drain, refl, tells)) (λ why tells. (bad, refl, tells)) c.tell_stop_aside.ensures;
     })

@@ -2,7 +2,8 @@ use Rattle.std.proofs.Common.{inl, inr, subst}
 use Rattle.rdf_stream.specs.Messages.{report_text}
 use Rattle.rdf_stream.specs.Told.{written}
 use Rattle.rdf_stream.specs.declared.fault.StreamFault.TheVariants.{Write}
-use Rattle.rdf_command.specs.Statuses.{Reports, ReportsCounts}
+use Rattle.rdf_command.specs.Reasons.{ReportsFailed, device}
+use Rattle.rdf_command.specs.Statuses.{ReportsCounts}
 use Rattle.rdf_command.proofs.asides.skip_into.Goals as goal
 
 pub returns-in-Ok-keep : goal.returns-in-Ok-keep
@@ -20,7 +21,7 @@ returns-in-Ok-keep g c =
 pub returns-in-Err-keep : goal.returns-in-Err-keep
 returns-in-Err-keep g c =
     let err = c.refuse_name.new.err in
-    let reported = subst (λ e. Reports (report_text Write) (g.E.Drain.contents e) (g.E.Drain.contents err) (g.E.Drain.has_failed err)) c.in-Ok-put_aside.ensures.untold c.refuse_name.ensures.reported in
+    let reported = subst (λ e. ReportsFailed c.args.how.now.explain (report_text Write) (device c.args.name.now (g.H.Host.has_reason c.args.host.now c.args.name.now)) (g.E.Drain.contents e) (g.E.Drain.contents err) (g.E.Drain.has_failed err)) c.in-Ok-put_aside.ensures.untold c.refuse_name.ensures.reported in
     inl (
       g.H.Output.Drain.contents c.in-Ok.output,
       c.in-Ok.ensures.empty,

@@ -1,6 +1,6 @@
 -- The reason is the one that the host tells.
-use Rattle.std.proofs.Common.{option_map, string_bytes, subst}
-use Rattle.rdf_command.specs.Reasons.{shut_text_of}
+use Rattle.std.proofs.Common.{◌++◌, codes, option_map, string_bytes, subst}
+use Rattle.rdf_command.specs.Reasons.{reason_line}
 use Rattle.rdf_command.specs.Statuses.{ReportsOf}
 use Rattle.rdf_command.proofs.reasons.tell_why_of.Goals as goal
 
@@ -12,5 +12,5 @@ returns g c =
     let name = c.args.name.now in (
       option_map string_bytes c.reason-why.result,
       c.reason-why.ensures,
-      subst (λ why. ReportsOf name (shut_text_of name why) old new failed) c.as_deref.ensures.value c.tell_reason_of.ensures,
+      subst (λ why. ReportsOf name (codes "cannot open file\n" ++ reason_line name why) old new failed) c.as_deref.ensures.value c.tell_reason_of.ensures,
     )

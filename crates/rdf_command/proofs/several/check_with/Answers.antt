@@ -2,8 +2,8 @@
 use Rattle.std.proofs.Common.{◌∙◌, ◌∷◌, ◌+◌, ap, drop, false, subst, sym, string_bytes, arith}
 use Rattle.std.proofs.lemmas.List.{drop_all, drop_more}
 use Rattle.rdf_stream.specs.Told.{written}
-use Rattle.rdf_command.specs.Programs.{documents_of}
-use Rattle.rdf_command.specs.Reasons.{shut_of}
+use Rattle.rdf_command.specs.Programs.{documents_of, shut_of}
+use Rattle.rdf_command.specs.Reasons.{devices_of}
 use Rattle.rdf_command.specs.Several.{EndsAt, shared_of}
 use Rattle.rdf_command.specs.Words.{further_of, name_by}
 use Rattle.rdf_command.proofs.SeveralLemmas.{Completes, both_live, completed, first_completes, next_completes, stopped}
@@ -12,7 +12,7 @@ use Rattle.rdf_command.proofs.several.check_with.Goals as goal
 pub loop-document-init : goal.loop-document-init
 loop-document-init g c =
     let has_document = g.H.Host.has_document c.args.host.now in
-    let shut = shut_of g.H.Host c.args.host.now in
+    let shut = shut_of g.H.Host c.args.host.now (devices_of g.H.Input.Source g.H.Input.Explains g.O.Drain g.O.Explains) in
     let shared = shared_of c.args.plan.now in
     let whole = documents_of c.args.task.now in
     let out = written g.O.Drain c.args.out.now in
@@ -34,7 +34,7 @@ loop-document-init g c =
 
 pub returns-then-turn : goal.returns-then-turn
 returns-then-turn g c =
-    stopped (g.H.Host.has_document c.args.host.now) (shut_of g.H.Host c.args.host.now) (shared_of c.args.plan.now) (documents_of c.args.task.now)
+    stopped (g.H.Host.has_document c.args.host.now) (shut_of g.H.Host c.args.host.now (devices_of g.H.Input.Source g.H.Input.Explains g.O.Drain g.O.Explains)) (shared_of c.args.plan.now) (documents_of c.args.task.now)
     (g.O.Drain.contents c.args.out.now) (g.E.Drain.contents c.args.err.now) _ c.loop-document.worst c.loop-document.turn.has_failed
     (written g.O.Drain c.loop-document.out) (written g.E.Drain c.loop-document.err) c.if-turn.true c.loop-document.invariant.completes
 
@@ -47,7 +47,7 @@ check_next-turn-requires-in-loop-document-clause-err g c = (both_live _ _ c.loop
 pub loop-document-preserved : goal.loop-document-preserved
 loop-document-preserved g c =
     let has_document = g.H.Host.has_document c.args.host.now in
-    let shut = shut_of g.H.Host c.args.host.now in
+    let shut = shut_of g.H.Host c.args.host.now (devices_of g.H.Input.Source g.H.Input.Explains g.O.Drain g.O.Explains) in
     let shared = shared_of c.args.plan.now in
     let whole = documents_of c.args.task.now in
     let out_old = g.O.Drain.contents c.args.out.now in
@@ -78,9 +78,9 @@ pub returns : goal.returns
 returns g c =
     let all = c.as_slice-more.result.now in
     let end = drop_all c.loop-document.document-index all (omega (arith, c.loop-document-test.false)) in
-    completed (g.H.Host.has_document c.args.host.now) (shut_of g.H.Host c.args.host.now) (shared_of c.args.plan.now) (documents_of c.args.task.now)
+    completed (g.H.Host.has_document c.args.host.now) (shut_of g.H.Host c.args.host.now (devices_of g.H.Input.Source g.H.Input.Explains g.O.Drain g.O.Explains)) (shared_of c.args.plan.now) (documents_of c.args.task.now)
     (g.O.Drain.contents c.args.out.now) (g.E.Drain.contents c.args.err.now) c.loop-document.worst c.loop-document.turn.has_failed
     (written g.O.Drain c.loop-document.out) (written g.E.Drain c.loop-document.err)
-    (subst (λ ds. Completes (g.H.Host.has_document c.args.host.now) (shut_of g.H.Host c.args.host.now) (shared_of c.args.plan.now) (documents_of c.args.task.now)
+    (subst (λ ds. Completes (g.H.Host.has_document c.args.host.now) (shut_of g.H.Host c.args.host.now (devices_of g.H.Input.Source g.H.Input.Explains g.O.Drain g.O.Explains)) (shared_of c.args.plan.now) (documents_of c.args.task.now)
     (g.O.Drain.contents c.args.out.now) (g.E.Drain.contents c.args.err.now) ds c.loop-document.turn.has_failed c.loop-document.worst
     (written g.O.Drain c.loop-document.out) (written g.E.Drain c.loop-document.err)) (ap further_of end) c.loop-document.invariant.completes)

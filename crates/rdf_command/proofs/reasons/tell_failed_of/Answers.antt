@@ -1,0 +1,16 @@
+-- The reason is the one that the device tells.
+use Rattle.std.proofs.Common.{◌++◌, option_map, string_bytes, subst}
+use Rattle.rdf_command.specs.Reasons.{reason_line}
+use Rattle.rdf_command.specs.Statuses.{ReportsOf}
+use Rattle.rdf_command.proofs.reasons.tell_failed_of.Goals as goal
+
+pub returns : goal.returns
+returns g c =
+    let old = g.E.Drain.contents c.args.err.now in
+    let new = g.E.Drain.contents c.tell_reason_of.new.err in
+    let failed = g.E.Drain.has_failed c.tell_reason_of.new.err in
+    let name = c.args.name.now in (
+      option_map string_bytes c.reason-why.result,
+      c.reason-why.ensures,
+      subst (λ why. ReportsOf name (c.args.line.now ++ reason_line c.args.device.entry.0.now why) old new failed) c.as_deref.ensures.value c.tell_reason_of.ensures,
+    )
