@@ -38,7 +38,7 @@ module _ (says : Outputs) (source : Reading → Option Text → Type 0) (one oth
 
   stops : StopsAside says these how job known left status out_old out err_old err → StopsAside says those how job known left status out_old out err_old err
   stops s =
-      let reports : Device → Type 0 = λ d. ReportsStop how.explain (device how.document (source left)) d s.fault s.details err_old err.contents err.has_failed in
+      let reports : Device → Type 0 = λ d. ReportsStop how.explain (device how.document (source left)) d s.fault s.evidence err_old err.contents err.has_failed in
       let bad = device how.bad (says.output s.bad) in
       let of_bad = subst (λ b. reports (broken b (device how.output (one out)) bad)) live s.reported in
       record {
@@ -49,7 +49,7 @@ module _ (says : Outputs) (source : Reading → Option Text → Type 0) (one oth
         stops = s.stops;
         status_is = s.status_is;
         is_left = s.is_left;
-        details = s.details;
+        evidence = s.evidence;
         none = s.none;
         reported = subst (λ b. reports (broken b (device how.output (other out)) bad)) (sym live) of_bad;
       }

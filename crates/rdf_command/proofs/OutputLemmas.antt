@@ -46,7 +46,7 @@ module _ (t other : Task) (prefixes : Option (Option (List ℕ))) (known : Optio
   of_stop : (devices : Devices) (name : Text) (bindings : List (List ℕ × List ℕ)) (source : Reading) (status : ℕ) (out_old : Option (List ℕ)) (out : Written) (err_old : Option (List ℕ)) (err : Written)
       → RunStops devices name So bindings status known source out_old out err_old err → RunStops devices name t bindings status known source out_old out err_old err
   of_stop devices name bindings source status out_old out err_old err s =
-      record { fault = s.fault; status_is = s.status_is; stops = s.stops; sent = s.sent; details = s.details; expected = s.expected; reported = s.reported }
+      record { fault = s.fault; status_is = s.status_is; stops = s.stops; sent = s.sent; evidence = s.evidence; expected = s.expected; reported = s.reported }
 
   run_of : (devices : Devices) (name : Text) (left : FilesRead) (status : ℕ) (out_old : Option (List ℕ)) (out : Written) (err_old : Option (List ℕ)) (err : Written)
       → RunEnds devices name So prefixes known left status out_old out err_old err → RunEnds devices name t prefixes known left status out_old out err_old err

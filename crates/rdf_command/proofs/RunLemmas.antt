@@ -6,12 +6,13 @@ use Rattle.rdf_stream.specs.Checks.{IsAccepted}
 use Rattle.rdf_stream.specs.Devices.{AppendsFront, Reading, Written}
 use Rattle.rdf_stream.specs.Jobs.{JobRead}
 use Rattle.rdf_stream.specs.Languages.{language_of}
-use Rattle.rdf_stream.specs.declared.expected.Details.{Details}
+use Rattle.rdf_stream.specs.declared.explains.Evidence.{Evidence}
+use Rattle.rdf_stream.specs.Places.{NearRead}
 use Rattle.rdf_stream.specs.declared.fault.StreamFault.{StreamFault}
 use Rattle.rdf_stream.specs.declared.fault.StreamFault.TheVariants.{Refused, Read, Write, Memory}
 use Rattle.rdf_command.specs.declared.task.Task.{Task}
 use Rattle.rdf_command.specs.Reasons.{Devices, ReportsStop, device}
-use Rattle.rdf_command.specs.Runs.{Does, HandsOver, RunEnds, SendsOn, StartsWith, StopsAction, TellsDetails, accepted_text, job_of}
+use Rattle.rdf_command.specs.Runs.{Does, HandsOver, RunEnds, SendsOn, StartsWith, StopsAction, TellsEvidence, accepted_text, job_of}
 use Rattle.rdf_command.specs.Statuses.{status_of}
 use Rattle.rdf_command.specs.Words.{name_of}
 
@@ -33,10 +34,10 @@ module _ (devices : Devices) (name : Text) (t : Task) (prefixes : Option (Option
       inl (bindings, starts, ((λ e. (subst (λ j. IfSome known (λ bytes. Does t.action j bytes out_old out.contents)) is done, flushed)), (λ n. absurd (n refl)), prompt_so))
 
   pub run_stopped : (fault : StreamFault) (status : ℕ) → status ≡ status_of fault → StopsAction t.action fault job known source out_old out.contents out.has_failed
-      → SendsOn t.action fault out.is_flushed → (details : Details) → TellsDetails t.action fault job known source details
-      → ReportsStop t.explain (device (name_of t) (devices.source source)) (device name (devices.output out)) fault details err_old err.contents err.has_failed
+      → SendsOn t.action fault out.is_flushed → (evidence : Evidence NearRead) → TellsEvidence t.explain t.action fault job known source evidence
+      → ReportsStop t.explain (device (name_of t) (devices.source source)) (device name (devices.output out)) fault evidence err_old err.contents err.has_failed
       → RunEnds devices name t prefixes known (record { prefixes = left; document = source }) status out_old out err_old err
-  run_stopped fault status same stops sent details expected reported =
+  run_stopped fault status same stops sent evidence expected reported =
       inl (
         bindings,
         starts,
@@ -47,8 +48,8 @@ module _ (devices : Devices) (name : Text) (t : Task) (prefixes : Option (Option
             status_is = same;
             stops = subst (λ j. StopsAction t.action fault j known source out_old out.contents out.has_failed) is stops;
             sent = sent;
-            details = details;
-            expected = subst (λ j. TellsDetails t.action fault j known source details) is expected;
+            evidence = evidence;
+            expected = subst (λ j. TellsEvidence t.explain t.action fault j known source evidence) is expected;
             reported = reported;
           }),
           prompt_so,

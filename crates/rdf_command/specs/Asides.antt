@@ -2,7 +2,9 @@
 use Rattle.std.specs.Prelude.{◌≡◌, ◌⊎◌, ℕ, Bool, true, false, List, Option, Some, None, option_map, unwrap_or}
 use Rattle.std.specs.String.{string_bytes}
 use Rattle.clap.specs.Words.{Text}
-use Rattle.rdf_stream.specs.declared.expected.Details.{Details}
+use Rattle.rdf_stream.specs.declared.explains.Evidence.{Evidence}
+use Rattle.rdf_stream.specs.Places.{NearRead}
+use Rattle.rdf_stream.specs.declared.watch.Nearby.TheVariants.{Unasked}
 use Rattle.rdf_stream.specs.Devices.{Reading, Written}
 use Rattle.rdf_stream.specs.Expected.{NoDetails}
 use Rattle.rdf_stream.specs.Jobs.{JobRead}
@@ -69,10 +71,11 @@ pub record StopsAside (says : Outputs) (devices : Devices) (how : Told) (job : J
   pub stops : SkipStops fault (conversion_of job) known left out_old out.contents first bad.contents out.has_failed bad.has_failed
   pub status_is : status ≡ status_of fault
   pub is_left : says.is_left how.bad
-  pub details : Details
-  pub none : NoDetails details
+  pub evidence : Evidence NearRead
+  pub none : NoDetails evidence.details
+  pub unasked : evidence.near ≡ Unasked
   pub reported : ReportsStop how.explain (device how.document (devices.source left))
-      (broken out.has_failed (device how.output (devices.output out)) (device how.bad (says.output bad))) fault details err_old err.contents err.has_failed
+      (broken out.has_failed (device how.output (devices.output out)) (device how.bad (says.output bad))) fault evidence err_old err.contents err.has_failed
 
 -- A file could not get its name, which the status and the text on the error output say, and it is what it was.
 pub record NamesNot (says : Outputs) (asked : Bool) (name : Text) (status : ℕ) (err_old : Option (List ℕ)) (err : Written) : Type 0 where

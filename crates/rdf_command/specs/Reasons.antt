@@ -6,7 +6,8 @@ use Rattle.rdf_stream.specs.Messages.{report_text}
 use Rattle.rdf_stream.specs.Told.{told, written}
 use Rattle.rdf_stream.specs.declared.devices.Drain as drain
 use Rattle.rdf_stream.specs.declared.devices.Source as source
-use Rattle.rdf_stream.specs.declared.expected.Details.{Details}
+use Rattle.rdf_stream.specs.declared.explains.Evidence.{Evidence}
+use Rattle.rdf_stream.specs.Places.{NearRead}
 use Rattle.rdf_stream.specs.declared.fault.LoadFault.{LoadFault}
 use Rattle.rdf_stream.specs.declared.fault.LoadFault.TheVariants as load
 use Rattle.rdf_stream.specs.declared.fault.LoadFault.TheVariants.{Bad}
@@ -92,16 +93,16 @@ ReportsNoOutput tells asked name output.NotOpen old new failed = ReportsShut tel
 ReportsNoOutput tells asked name output.Memory old new failed = Reports (report_text Memory) old new failed
 
 -- What is reported of the fault of a run that reads this document and writes to this output, where an explanation is asked for or not.
-abbrev pub ReportsStop : Bool → Device → Device → StreamFault → Details → Option (List ℕ) → Option (List ℕ) → Bool → Type 0
-ReportsStop true document output Read details old new failed = ReportsFailed true (report_text Read) document old new failed
-ReportsStop true document output Write details old new failed = ReportsFailed true (report_text Write) output old new failed
-ReportsStop asked document output fault details old new failed = ReportsExplained asked document.name fault details old new failed
+abbrev pub ReportsStop : Bool → Device → Device → StreamFault → Evidence NearRead → Option (List ℕ) → Option (List ℕ) → Bool → Type 0
+ReportsStop true document output Read evidence old new failed = ReportsFailed true (report_text Read) document old new failed
+ReportsStop true document output Write evidence old new failed = ReportsFailed true (report_text Write) output old new failed
+ReportsStop asked document output fault evidence old new failed = ReportsExplained asked document.name fault evidence old new failed
 
 -- the same of one of several documents
-abbrev pub ReportsStopOf : Bool → Device → Device → StreamFault → Details → Option (List ℕ) → Option (List ℕ) → Bool → Type 0
-ReportsStopOf true document output Read details old new failed = ReportsFailedOf document.name true (codes "read failed\n") document old new failed
-ReportsStopOf true document output Write details old new failed = ReportsFailedOf document.name true (codes "write failed\n") output old new failed
-ReportsStopOf asked document output fault details old new failed = ReportsExplainedOf asked document.name fault details old new failed
+abbrev pub ReportsStopOf : Bool → Device → Device → StreamFault → Evidence NearRead → Option (List ℕ) → Option (List ℕ) → Bool → Type 0
+ReportsStopOf true document output Read evidence old new failed = ReportsFailedOf document.name true (codes "read failed\n") document old new failed
+ReportsStopOf true document output Write evidence old new failed = ReportsFailedOf document.name true (codes "write failed\n") output old new failed
+ReportsStopOf asked document output fault evidence old new failed = ReportsExplainedOf asked document.name fault evidence old new failed
 
 -- the line that names the place of a bad line in a file of bindings of this name
 abbrev pub bad_prefixes_text : Text → ℕ → List ℕ

@@ -1,10 +1,15 @@
 -- What a run of the program does.
-use Rattle.std.specs.Prelude.{◌≡◌, ◌≢◌, ◌⊎◌, ℕ, Bool, true, false, List, [], ◌++◌, codes, decimal, Option, Some, None, IfSome, option_map}
+use Rattle.std.specs.Prelude.{◌≡◌, ◌≢◌, ◌⊎◌, ℕ, Bool, true, false, List, [], ◌++◌, codes, decimal, Option, Some, None, IfSome, option_map, Err}
 use Rattle.std.specs.String.{string_bytes}
 use Rattle.clap.specs.Words.{Text}
 use Rattle.std.specs.Io.KnownBytes.{Appends}
 use Rattle.rdf_driver.specs.declared.summary.Summary.{Summary}
-use Rattle.rdf_stream.specs.declared.expected.Details.{Details}
+use Rattle.rdf_stream.specs.declared.explains.Evidence.{Evidence}
+use Rattle.rdf_stream.specs.declared.watch.Nearby.{Nearby}
+use Rattle.rdf_stream.specs.declared.watch.Nearby.TheVariants.{Unasked, Asked}
+use Rattle.rdf_stream.specs.Places.{HandsOut, NearRead, TellsNear}
+use Rattle.rdf_iri.specs.Limits.{Sizes}
+use Rattle.rdf_terms.specs.declared.kind.Dialect.{Dialect}
 use Rattle.rdf_stream.specs.Checks.{CheckStops, IsAccepted}
 use Rattle.rdf_stream.specs.Converts.{IsConverted, IsPrompt, StopsFor}
 use Rattle.rdf_stream.specs.declared.devices.Drain as drain
@@ -19,7 +24,7 @@ use Rattle.rdf_stream.specs.Jobs.{JobRead, word_of}
 use Rattle.rdf_stream.specs.Loads.{LoadStops, Loads}
 use Rattle.rdf_stream.specs.declared.fault.LoadFault.{LoadFault}
 use Rattle.rdf_stream.specs.Languages.{conversion_of, language_of}
-use Rattle.rdf_stream.specs.Shows.{ShowStops, Shows}
+use Rattle.rdf_stream.specs.Shows.{ShowStops, Shows, dialect_of}
 use Rattle.rdf_stream.specs.declared.fault.StreamFault.{StreamFault}
 use Rattle.rdf_stream.specs.declared.fault.StreamFault.TheVariants.{Write, Memory}
 use Rattle.rdf_command.specs.declared.task.Action.{Action}
@@ -111,16 +116,33 @@ SendsOn Check fault flushed = Unit
 SendsOn Show fault flushed = IsSentOn fault flushed
 SendsOn Convert fault flushed = IsSentOn fault flushed
 
--- What is known of a token that was unexpected. `show` looks at tokens alone, and tells nothing.
-abbrev pub TellsDetails : Action → StreamFault → JobRead → Option (List ℕ) → Reading → Details → Type 0
-TellsDetails Show fault job known left details = NoDetails details
-TellsDetails action fault job known left details = ExpectsFor fault (language_of job) (trees_of job) known left details
+-- the place of a refusal, which is asked for with an explanation
+abbrev pub asked_near : Bool → Nearby NearRead
+asked_near true = Asked
+asked_near false = Unasked
+
+-- What is told of the place of a fault, in these tokens of a source, where an explanation is asked for; and the limits of the job.
+abbrev pub TellsPlace : Bool → Dialect → ℕ → StreamFault → JobRead → Option (List ℕ) → Reading → Evidence NearRead → Type 0
+TellsPlace asked dialect limit fault job known left evidence =
+    HandsOut (asked_near asked) (TellsNear dialect limit (Err fault) known left) evidence.near × (evidence.limits ≡ job.limits)
+
+-- the same of a document, and what is known of a token that was unexpected
+abbrev pub TellsOf : Bool → StreamFault → JobRead → Option (List ℕ) → Reading → Evidence NearRead → Type 0
+TellsOf asked fault job known left evidence =
+    ExpectsFor fault (language_of job) (trees_of job) known left evidence.details
+    × TellsPlace asked (language_of job).dialect (language_of job).limit fault job known left evidence
+
+-- What is known of a fault. `show` looks at tokens alone, and knows nothing of one that was unexpected.
+abbrev pub TellsEvidence : Bool → Action → StreamFault → JobRead → Option (List ℕ) → Reading → Evidence NearRead → Type 0
+TellsEvidence asked Show fault job known left evidence =
+    NoDetails evidence.details × TellsPlace asked (dialect_of job.form) job.limits.token fault job known left evidence
+TellsEvidence asked action fault job known left evidence = TellsOf asked fault job known left evidence
 
 -- The document was accepted, and what the task asks for was written and flushed.
 abbrev pub IsDone : Task → List (List ℕ × List ℕ) → Option (List ℕ) → Option (List ℕ) → Written → Type 0
 IsDone t bindings known out_old out = IfSome known (λ bytes. Does t.action (job_of t bindings) bytes out_old out.contents) × (out.is_flushed ≡ true)
 
--- The run stopped for a fault, which its status and the text on the error output say, with what is known of an unexpected token, or the reason of the device
+-- The run stopped for a fault, which its status and the text on the error output say, with what is known of its place and of an unexpected token, or the reason of the device
 -- that failed, where the task asks for an explanation. The output has this name.
 pub record RunStops (devices : Devices) (name : Text) (t : Task) (bindings : List (List ℕ × List ℕ)) (status : ℕ) (known : Option (List ℕ)) (source : Reading)
     (out_old : Option (List ℕ)) (out : Written) (err_old : Option (List ℕ)) (err : Written) : Type 0 where
@@ -128,9 +150,9 @@ pub record RunStops (devices : Devices) (name : Text) (t : Task) (bindings : Lis
   pub status_is : status ≡ status_of fault
   pub stops : StopsAction t.action fault (job_of t bindings) known source out_old out.contents out.has_failed
   pub sent : SendsOn t.action fault out.is_flushed
-  pub details : Details
-  pub expected : TellsDetails t.action fault (job_of t bindings) known source details
-  pub reported : ReportsStop t.explain (device (name_of t) (devices.source source)) (device name (devices.output out)) fault details
+  pub evidence : Evidence NearRead
+  pub expected : TellsEvidence t.explain t.action fault (job_of t bindings) known source evidence
+  pub reported : ReportsStop t.explain (device (name_of t) (devices.source source)) (device name (devices.output out)) fault evidence
       err_old err.contents err.has_failed
 
 -- A run with these bindings, over a source of these bytes, left the source and the two outputs like this: it is done at 0, and else it stopped.

@@ -3,11 +3,10 @@ use Rattle.std.specs.Prelude.{◌≡◌, ◌⊎◌, ◌||◌, ℕ, Bool, true, f
 use Rattle.rdf_iri.specs.Bindings.{BindingMap, IsReadFrom}
 use Rattle.rdf_iri.specs.Limits.{Sizes}
 use Rattle.rdf_lines.specs.declared.form.Escapes.TheVariants.{Plain}
-use Rattle.rdf_stream.specs.declared.expected.Details.{Details}
+use Rattle.rdf_stream.specs.declared.explains.Evidence.{Evidence}
+use Rattle.rdf_stream.specs.Places.{NearRead}
 use Rattle.rdf_stream.specs.Devices.{Reading, Written}
-use Rattle.rdf_stream.specs.Expected.{ExpectsFor, trees_of}
 use Rattle.rdf_stream.specs.Jobs.{JobRead}
-use Rattle.rdf_stream.specs.Languages.{language_of}
 use Rattle.rdf_stream.specs.Loads.{BindsNot, HasGivenAll}
 use Rattle.rdf_stream.specs.declared.fault.LoadFault.{LoadFault}
 use Rattle.rdf_stream.specs.declared.fault.LoadFault.TheVariants.{Memory}
@@ -18,7 +17,7 @@ use Rattle.rdf_terms.specs.declared.fault.TermFault.TheVariants.{BadTerm}
 use Rattle.rdf_command.specs.declared.several.Plan.{Plan}
 use Rattle.rdf_command.specs.Addresses.{HasNoAddress, IsAddress}
 use Rattle.rdf_command.specs.Reasons.{Devices, ReportsShutOf, ReportsStopOf, Shut, device, standard_output}
-use Rattle.rdf_command.specs.Runs.{IsCheckedAs, StopsCheckAs}
+use Rattle.rdf_command.specs.Runs.{IsCheckedAs, StopsCheckAs, TellsOf}
 use Rattle.rdf_command.specs.Statuses.{ReportsLoad, ReportsNoAddressOf, address_status, load_status, status_of}
 use Rattle.rdf_command.specs.Words.{file_by}
 
@@ -66,16 +65,16 @@ pub record AcceptsOne (job : JobRead) (name : List ℕ) (known : Option (List �
   pub flushed : out.is_flushed ≡ true
   pub untold : err.contents ≡ err_old
 
--- The document was not accepted, for a fault that the status and the line about it say, with what is known of an unexpected token where an explanation
+-- The document was not accepted, for a fault that the status and the line about it say, with what is known of its place and of an unexpected token where an explanation
 -- is asked for.
 pub record StopsOne (devices : Devices) (asked : Bool) (job : JobRead) (name : List ℕ) (known : Option (List ℕ)) (left : Reading) (status : ℕ)
     (out_old : Option (List ℕ)) (out : Written) (err_old : Option (List ℕ)) (err : Written) : Type 0 where
   pub fault : StreamFault
   pub status_is : status ≡ status_of fault
   pub stops : StopsCheckAs (Some name) fault job known left out_old out.contents out.has_failed
-  pub details : Details
-  pub expected : ExpectsFor fault (language_of job) (trees_of job) known left details
-  pub reported : ReportsStopOf asked (device name (devices.source left)) (device standard_output (devices.output out)) fault details
+  pub evidence : Evidence NearRead
+  pub expected : TellsOf asked fault job known left evidence
+  pub reported : ReportsStopOf asked (device name (devices.source left)) (device standard_output (devices.output out)) fault evidence
       err_old err.contents err.has_failed
 
 -- The document of this format and name was opened and read.

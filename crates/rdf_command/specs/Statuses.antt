@@ -6,7 +6,8 @@ use Rattle.clap.specs.Words.{kind_of}
 use Rattle.clap.specs.declared.error.kind.ErrorKind.{ErrorKind}
 use Rattle.clap.specs.declared.error.kind.ErrorKind.TheVariants.{DisplayHelp, DisplayVersion}
 use Rattle.rdf_stream.specs.Devices.{AppendsFront}
-use Rattle.rdf_stream.specs.declared.expected.Details.{Details}
+use Rattle.rdf_stream.specs.declared.explains.Evidence.{Evidence}
+use Rattle.rdf_stream.specs.Places.{NearRead}
 use Rattle.rdf_stream.specs.Explains.{explain_text}
 use Rattle.rdf_stream.specs.Messages.{fault_text, report_text}
 use Rattle.rdf_stream.specs.declared.fault.LoadFault.{LoadFault}
@@ -41,10 +42,10 @@ ReportsOf name text old new failed = Reports (name ++ codes ": " ++ text) old ne
 abbrev pub ReportsFaultOf : List ℕ → StreamFault → Option (List ℕ) → Option (List ℕ) → Bool → Type 0
 ReportsFaultOf name fault old new failed = ReportsOf name (fault_text fault ++ codes "\n") old new failed
 
--- the line that explains a refusal of the document of this name, where that is asked for
-abbrev pub explanation : Bool → List ℕ → StreamFault → Details → List ℕ
-explanation true name (Refused f) details = explain_text name f details
-explanation asked name fault details = []
+-- the lines that explain a refusal of the document of this name, where that is asked for
+abbrev pub explanation : Bool → List ℕ → StreamFault → Evidence NearRead → List ℕ
+explanation true name (Refused f) evidence = explain_text name f evidence
+explanation asked name fault evidence = []
 
 -- the line that reports a document whose name ends in no format
 abbrev pub no_format_text : List ℕ → List ℕ
@@ -59,16 +60,16 @@ abbrev pub ReportsFault : StreamFault → Option (List ℕ) → Option (List ℕ
 ReportsFault (Refused f) old new failed = Reports (report_text (Refused f)) old new failed ⊎ (new ≡ old)
 ReportsFault fault old new failed = Reports (report_text fault) old new failed
 
--- What is reported of a fault of the document of this name, where its refusal is asked to be explained or not. The line that explains it takes memory
--- too, and is left out where that is refused.
-abbrev pub ReportsExplained : Bool → List ℕ → StreamFault → Details → Option (List ℕ) → Option (List ℕ) → Bool → Type 0
-ReportsExplained asked name fault details old new failed =
-    Reports (report_text fault ++ explanation asked name fault details) old new failed ⊎ ReportsFault fault old new failed
+-- What is reported of a fault of the document of this name, where its refusal is asked to be explained or not. The lines that explain it take memory
+-- too, and are left out where that is refused.
+abbrev pub ReportsExplained : Bool → List ℕ → StreamFault → Evidence NearRead → Option (List ℕ) → Option (List ℕ) → Bool → Type 0
+ReportsExplained asked name fault evidence old new failed =
+    Reports (report_text fault ++ explanation asked name fault evidence) old new failed ⊎ ReportsFault fault old new failed
 
 -- the same of one of several documents
-abbrev pub ReportsExplainedOf : Bool → List ℕ → StreamFault → Details → Option (List ℕ) → Option (List ℕ) → Bool → Type 0
-ReportsExplainedOf asked name fault details old new failed =
-    ReportsOf name (fault_text fault ++ codes "\n" ++ explanation asked name fault details) old new failed ⊎ ReportsFaultOf name fault old new failed
+abbrev pub ReportsExplainedOf : Bool → List ℕ → StreamFault → Evidence NearRead → Option (List ℕ) → Option (List ℕ) → Bool → Type 0
+ReportsExplainedOf asked name fault evidence old new failed =
+    ReportsOf name (fault_text fault ++ codes "\n" ++ explanation asked name fault evidence) old new failed ⊎ ReportsFaultOf name fault old new failed
 
 -- a line of a file of bindings that is refused is a mistake of the words
 abbrev pub load_status : LoadFault → ℕ

@@ -17,7 +17,9 @@ use crate::reasons::{refuse_bindings, refuse_name, refuse_output, tell_stopped};
 use crate::reports::{Stop, status, tell_counts};
 use crate::runs::{Files, job_of};
 use crate::task::{Action, Task};
-use rdf_stream::{Details, Drain, Failed, Job, SkipSummary, Source, convert_skipping};
+use rdf_stream::{
+    Details, Drain, Evidence, Failed, Job, Limits, Nearby, SkipSummary, Source, convert_skipping,
+};
 use std::alloc::Global;
 
 /// What a run that goes on after bad lines is told beside its job.
@@ -307,7 +309,11 @@ fn put_aside<H: Host, S: Source + Explains, D: Drain + Explains, E: Drain>(
         Err(fault) => {
             let stop = Stop {
                 fault,
-                details: Details::none(),
+                evidence: Evidence {
+                    details: Details::none(),
+                    near: Nearby::Unasked,
+                    limits: Limits::default(),
+                },
             };
             tell_stop_aside(how, &stop, source, drain, &bad, err);
             host.discard(bad, how.bad);
@@ -329,7 +335,7 @@ fn tell_stop_aside<S: Explains, D: Drain + Explains, B: Explains, E: Drain>(
     requires { E.has_failed err.old ≡ false }
     ensures { ReportsStop how.now.explain (device how.now.document.now (S.tells source.now))
         (broken (D.has_failed drain.now) (device how.now.output.now (D.tells drain.now)) (device how.now.bad.now (B.tells bad.now)))
-        stop.now.fault stop.now.details (E.contents err.old) (E.contents err.new) (E.has_failed err.new) }
+        stop.now.fault stop.now.evidence (E.contents err.old) (E.contents err.new) (E.has_failed err.new) }
 {
     let document = (how.document, source);
     if drain.failed() {

@@ -91,11 +91,11 @@ fn tell_why<H: Host, E: Drain>(alloc: Global, line: &[u8], host: &H, name: &str,
 }
 
 // The line of a device that failed, and the line of the reason that it tells.
-fn tell_failed<D: Explains, E: Drain>(alloc: Global, line: &[u8], device: (&str, &D), err: &mut E)
+fn tell_failed<D: Explains, E: Drain>(alloc: Global, line: &[u8], teller: (&str, &D), err: &mut E)
     requires { E.has_failed err.old ≡ false }
-    ensures { ReportsFailed true line.now (device device.entry.0.now (D.tells device.entry.1.now)) (E.contents err.old) (E.contents err.new) (E.has_failed err.new) }
+    ensures { ReportsFailed true line.now (device teller.entry.0.now (D.tells teller.entry.1.now)) (E.contents err.old) (E.contents err.new) (E.has_failed err.new) }
 {
-    let (name, device) = device;
+    let (name, device) = teller;
     let why = device.reason(alloc);
     tell_reason(alloc, line, name, why.as_deref(), err);
 }
@@ -154,13 +154,13 @@ fn tell_failed_of<D: Explains, E: Drain>(
     alloc: Global,
     name: &str,
     line: &[u8],
-    device: (&str, &D),
+    teller: (&str, &D),
     err: &mut E,
 )
     requires { E.has_failed err.old ≡ false }
-    ensures { ReportsFailedOf name.now true line.now (device device.entry.0.now (D.tells device.entry.1.now)) (E.contents err.old) (E.contents err.new) (E.has_failed err.new) }
+    ensures { ReportsFailedOf name.now true line.now (device teller.entry.0.now (D.tells teller.entry.1.now)) (E.contents err.old) (E.contents err.new) (E.has_failed err.new) }
 {
-    let (called, device) = device;
+    let (called, device) = teller;
     let why = device.reason(alloc);
     tell_reason_of(alloc, name, line, (called, why.as_deref()), err);
 }
@@ -174,7 +174,7 @@ fn tell_reason_of<E: Drain>(
     err: &mut E,
 )
     requires { E.has_failed err.old ≡ false }
-    ensures { ReportsOf name.now (line.now ++ reason_line reason.entry.0.now (option_map (λ s. s.now) reason.entry.1.entry)) (E.contents err.old) (E.contents err.new) (E.has_failed err.new) }
+    ensures { ReportsOf name.now (line.now ++ reason_line reason.entry.0.now (option_map (λ s. s.now) reason.entry.1)) (E.contents err.old) (E.contents err.new) (E.has_failed err.new) }
 {
     let (called, why) = reason;
     match with_reason(alloc, line, called, why) {
@@ -229,16 +229,33 @@ pub fn tell_stopped<S: Explains, O: Explains, E: Drain>(
 )
     requires { E.has_failed err.old ≡ false }
     ensures { ReportsStop explain (device document.entry.0.now (S.tells document.entry.1.now)) (device output.entry.0.now (O.tells output.entry.1.now))
-        stop.now.fault stop.now.details (E.contents err.old) (E.contents err.new) (E.has_failed err.new) }
+        stop.now.fault stop.now.evidence (E.contents err.old) (E.contents err.new) (E.has_failed err.new) }
+{
+    if explain {
+        explain_stop(alloc, stop, document, output, err);
+    } else {
+        let (name, _) = document;
+        tell_stop(alloc, name, false, stop, err);
+    }
+}
+
+fn explain_stop<S: Explains, O: Explains, E: Drain>(
+    alloc: Global,
+    stop: &Stop,
+    document: (&str, &S),
+    output: (&str, &O),
+    err: &mut E,
+)
+    requires { E.has_failed err.old ≡ false }
+    ensures { ReportsStop true (device document.entry.0.now (S.tells document.entry.1.now)) (device output.entry.0.now (O.tells output.entry.1.now))
+        stop.now.fault stop.now.evidence (E.contents err.old) (E.contents err.new) (E.has_failed err.new) }
 {
     let (name, _) = document;
-    if !explain {
-        return tell_stop(alloc, name, explain, stop, err);
-    }
     match &stop.fault {
         StreamFault::Read => tell_failed(alloc, read_failed().as_bytes(), document, err),
         StreamFault::Write => tell_failed(alloc, write_failed().as_bytes(), output, err),
-        StreamFault::Refused(_) | StreamFault::Memory => tell_stop(alloc, name, explain, stop, err),
+        StreamFault::Refused(_) => tell_stop(alloc, name, true, stop, err),
+        StreamFault::Memory => tell_stop(alloc, name, true, stop, err),
     }
 }
 
@@ -253,18 +270,33 @@ pub fn tell_stopped_of<S: Explains, O: Explains, E: Drain>(
 )
     requires { E.has_failed err.old ≡ false }
     ensures { ReportsStopOf explain (device document.entry.0.now (S.tells document.entry.1.now)) (device output.entry.0.now (O.tells output.entry.1.now))
-        stop.now.fault stop.now.details (E.contents err.old) (E.contents err.new) (E.has_failed err.new) }
+        stop.now.fault stop.now.evidence (E.contents err.old) (E.contents err.new) (E.has_failed err.new) }
+{
+    if explain {
+        explain_stop_of(alloc, stop, document, output, err);
+    } else {
+        let (name, _) = document;
+        tell_stop_of(alloc, name, false, stop, err);
+    }
+}
+
+fn explain_stop_of<S: Explains, O: Explains, E: Drain>(
+    alloc: Global,
+    stop: &Stop,
+    document: (&str, &S),
+    output: (&str, &O),
+    err: &mut E,
+)
+    requires { E.has_failed err.old ≡ false }
+    ensures { ReportsStopOf true (device document.entry.0.now (S.tells document.entry.1.now)) (device output.entry.0.now (O.tells output.entry.1.now))
+        stop.now.fault stop.now.evidence (E.contents err.old) (E.contents err.new) (E.has_failed err.new) }
 {
     let (name, _) = document;
-    if !explain {
-        return tell_stop_of(alloc, name, explain, stop, err);
-    }
     match &stop.fault {
         StreamFault::Read => tell_failed_of(alloc, name, b"read failed\n", document, err),
         StreamFault::Write => tell_failed_of(alloc, name, b"write failed\n", output, err),
-        StreamFault::Refused(_) | StreamFault::Memory => {
-            tell_stop_of(alloc, name, explain, stop, err)
-        }
+        StreamFault::Refused(_) => tell_stop_of(alloc, name, true, stop, err),
+        StreamFault::Memory => tell_stop_of(alloc, name, true, stop, err),
     }
 }
 
@@ -281,9 +313,23 @@ pub fn refuse_bindings<S: Explains, E: Drain>(
     ensures status { result ≡ load_status fault.now }
     ensures reported { ReportsBindings explain (device file.entry.0.now (S.tells file.entry.1.now)) fault.now (E.contents err.old) (E.contents err.new) (E.has_failed err.new) }
 {
-    if !explain {
-        return refuse_prefixes(alloc, fault, err);
+    if explain {
+        explain_bindings(alloc, fault, file, err)
+    } else {
+        refuse_prefixes(alloc, fault, err)
     }
+}
+
+fn explain_bindings<S: Explains, E: Drain>(
+    alloc: Global,
+    fault: &LoadFault,
+    file: (&str, &S),
+    err: &mut E,
+) -> u8
+    requires { E.has_failed err.old ≡ false }
+    ensures status { result ≡ load_status fault.now }
+    ensures reported { ReportsBindings true (device file.entry.0.now (S.tells file.entry.1.now)) fault.now (E.contents err.old) (E.contents err.new) (E.has_failed err.new) }
+{
     match fault {
         LoadFault::Bad(fault) => {
             let (name, _) = file;
@@ -315,9 +361,17 @@ fn bad_line(alloc: Global, name: &str, line: u64) -> Result<Vec<u8>, AllocError>
     ensures { IfOk result (λ text. text.items ≡ prefixes_text line ++ bad_prefixes_text name.now line) }
 {
     let mut lines = prefixes_line(alloc, line)?;
-    lines.extend_from_slice(name.as_bytes())?;
-    lines.extend_from_slice(b":")?;
-    put_number(line, &mut lines)?;
-    lines.extend_from_slice(b": bad prefixes\n")?;
+    let place = bad_prefixes_line(alloc, name, line)?;
+    lines.extend_from_slice(place.as_slice())?;
     Ok(lines)
+}
+
+fn bad_prefixes_line(alloc: Global, name: &str, line: u64) -> Result<Vec<u8>, AllocError>
+    ensures { IfOk result (λ text. text.items ≡ bad_prefixes_text name.now line) }
+{
+    let mut place = Vec::from_slice(alloc, name.as_bytes())?;
+    place.extend_from_slice(b":")?;
+    put_number(line, &mut place)?;
+    place.extend_from_slice(b": bad prefixes\n")?;
+    Ok(place)
 }

@@ -10,7 +10,7 @@ use crate::task::WordsFault;
 use clap::Error;
 use itoa::Buffer;
 use rdf_stream::{
-    Details, Drain, Failed, LoadFault, SkipSummary, StreamFault, TermFault,
+    Drain, Evidence, Failed, LoadFault, Near, SkipSummary, StreamFault, TermFault,
     explain as explain_line, out_of_memory, put_all, read_failed, report, write_failed,
 };
 use std::alloc::{AllocError, Global};
@@ -20,8 +20,8 @@ use std::alloc::{AllocError, Global};
 pub struct Stop {
     /// The fault.
     pub fault: StreamFault,
-    /// What is known of a token that was unexpected. `show` tells nothing.
-    pub details: Details,
+    /// What is known of it, to explain it.
+    pub evidence: Evidence<Near>,
 }
 
 /// The status of a fault.
@@ -39,7 +39,7 @@ pub fn status(fault: &StreamFault) -> u8
 /// refusal alone takes memory. Where that is refused, nothing is reported.
 pub fn tell_stop<E: Drain>(alloc: Global, name: &str, explain: bool, stop: &Stop, err: &mut E)
     requires { E.has_failed err.old ≡ false }
-    ensures { ReportsExplained explain name.now stop.now.fault stop.now.details (E.contents err.old) (E.contents err.new) (E.has_failed err.new) }
+    ensures { ReportsExplained explain name.now stop.now.fault stop.now.evidence (E.contents err.old) (E.contents err.new) (E.has_failed err.new) }
 {
     match &stop.fault {
         StreamFault::Refused(_) => {
@@ -55,9 +55,9 @@ pub fn tell_stop<E: Drain>(alloc: Global, name: &str, explain: bool, stop: &Stop
     }
 }
 
-// The line that reports a stop, and the line that explains it. That is left out where memory for it is refused.
+// The line that reports a stop, and the lines that explain it. They are left out where memory for them is refused.
 fn report_of(alloc: Global, name: &str, explain: bool, stop: &Stop) -> Result<Vec<u8>, AllocError>
-    ensures { IfOk result (λ text. (text.items ≡ report_text stop.now.fault ++ explanation explain name.now stop.now.fault stop.now.details)
+    ensures { IfOk result (λ text. (text.items ≡ report_text stop.now.fault ++ explanation explain name.now stop.now.fault stop.now.evidence)
         ⊎ (text.items ≡ report_text stop.now.fault)) }
 {
     let mut text = Vec::new(alloc);
@@ -70,7 +70,7 @@ fn report_of(alloc: Global, name: &str, explain: bool, stop: &Stop) -> Result<Ve
     }
 }
 
-// The line that explains a refusal, where that is asked for.
+// The lines that explain a refusal, where that is asked for.
 fn put_explanation(
     alloc: Global,
     name: &str,
@@ -78,12 +78,12 @@ fn put_explanation(
     stop: &Stop,
     text: &mut Vec<u8>,
 ) -> Result<(), AllocError>
-    ensures put { OnOk result (text.new.items ≡ text.old.items ++ explanation explain name.now stop.now.fault stop.now.details) }
+    ensures put { OnOk result (text.new.items ≡ text.old.items ++ explanation explain name.now stop.now.fault stop.now.evidence) }
     ensures left_out { OnErr result (text.new.items ≡ text.old.items) }
 {
     match &stop.fault {
         StreamFault::Refused(fault) if explain => {
-            let line = explain_line(alloc, name, fault, &stop.details)?;
+            let line = explain_line(alloc, name, fault, &stop.evidence)?;
             text.extend_from_slice(line.as_slice())
         }
         _ => Ok(()),
@@ -93,7 +93,7 @@ fn put_explanation(
 /// Reports why one of several documents, that of this name, was not accepted, and explains it where that is asked for.
 pub fn tell_stop_of<E: Drain>(alloc: Global, name: &str, explain: bool, stop: &Stop, err: &mut E)
     requires { E.has_failed err.old ≡ false }
-    ensures { ReportsExplainedOf explain name.now stop.now.fault stop.now.details (E.contents err.old) (E.contents err.new) (E.has_failed err.new) }
+    ensures { ReportsExplainedOf explain name.now stop.now.fault stop.now.evidence (E.contents err.old) (E.contents err.new) (E.has_failed err.new) }
 {
     match report_of(alloc, name, explain, stop) {
         Ok(text) => tell_of(alloc, name, &text[b"rdfconv: ".len()..], err),

@@ -5,14 +5,13 @@ ghost use Rattle.std.specs.Io.KnownBytes.{Appends};
 ghost use Rattle.rdf_iri.specs.Scope.{BaseFits};
 ghost use Rattle.rdf_stream.specs.Converts.{IsConverted, IsPrompt, StopsFor};
 ghost use Rattle.rdf_stream.specs.Devices.{AppendsFront};
-ghost use Rattle.rdf_stream.specs.Expected.{ExpectsFor, trees_of};
 ghost use Rattle.rdf_stream.specs.Faults.{IsSentOn};
 ghost use Rattle.rdf_stream.specs.Jobs.{word_of};
-ghost use Rattle.rdf_stream.specs.Languages.{conversion_of, language_of};
+ghost use Rattle.rdf_stream.specs.Languages.{conversion_of};
 ghost use Rattle.rdf_stream.specs.Told.{AsTold, told};
 ghost use Rattle.rdf_command.specs.Reasons.{devices_of, standard_output};
-ghost use Rattle.rdf_command.specs.Runs.{AreFresh, AsWritten, Does, HandsOver, IsCheckedAs, IsJobOf, RunEnds, SendsOn, StartsNot, StopsAction, StopsCheckAs};
-ghost use Rattle.rdf_command.specs.Runs.{TellsDetails, accepted_text, files_told, front_of};
+ghost use Rattle.rdf_command.specs.Runs.{AreFresh, AsWritten, Does, HandsOver, IsCheckedAs, IsJobOf, RunEnds, SendsOn, StartsNot, StopsAction, StopsCheckAs, asked_near};
+ghost use Rattle.rdf_command.specs.Runs.{TellsEvidence, TellsOf, accepted_text, files_told, front_of};
 
 use crate::commands::name_by;
 use crate::explains::Explains;
@@ -20,8 +19,9 @@ use crate::reasons::{refuse_bindings, tell_stopped};
 use crate::reports::{Stop, named_front, put_number, status};
 use crate::task::{Action, Task};
 use rdf_stream::{
-    Details, Drain, Failed, Iri, Job, LoadFault, NodePrefix, Source, StreamFault, Summary,
-    check_expecting, convert_expecting, load_bindings, put_all, show,
+    Details, Drain, Evidence, Failed, Iri, Job, Limits, LoadFault, Near, Nearby, NodePrefix,
+    Source, StreamFault, Summary, check_expecting, convert_expecting, load_bindings, put_all,
+    show_near,
 };
 use std::alloc::{AllocError, Global};
 
@@ -84,7 +84,7 @@ pub fn run_to_output<I: Source + Explains, O: Drain + Explains, E: Drain>(
             return refuse_bindings(alloc, explain, &fault, file, err);
         }
     };
-    match act(alloc, action, job, &mut files.document, out) {
+    match act(alloc, action, job, explain, &mut files.document, out) {
         Ok(()) => 0,
         Err(stop) => {
             let document = (name_by(file.as_deref()), &files.document);
@@ -153,6 +153,7 @@ fn act<S: Source, O: Drain>(
     alloc: Global,
     action: Action,
     job: Job,
+    explain: bool,
     source: &mut S,
     out: &mut O,
 ) -> Result<(), Stop>
@@ -163,19 +164,60 @@ fn act<S: Source, O: Drain>(
     ensures flushed { OnOk result (O.is_flushed out.new ≡ true) }
     ensures stops { IfErr result (λ stop. AsTold (StopsAction action stop.fault job) S.Source O.Drain source.old source.new out.old out.new) }
     ensures sent { IfErr result (λ stop. SendsOn action stop.fault (O.is_flushed out.new)) }
-    ensures expected { IfErr result (λ stop. TellsDetails action stop.fault job (S.remaining source.old) (told S.Source source.new) stop.details) }
+    ensures expected { IfErr result (λ stop. TellsEvidence explain action stop.fault job (S.remaining source.old) (told S.Source source.new) stop.evidence) }
     ensures prompt { HandsOver action job (S.remaining source.old) (told S.Source source.new) (O.contents out.old) (O.contents out.new) }
 {
     match action {
-        Action::Check => check_to(alloc, job, None, source, out),
-        Action::Show => match show(alloc, job, source, out) {
-            Ok(_) => Ok(()),
-            Err(fault) => Err(Stop {
-                fault,
-                details: Details::none(),
-            }),
+        Action::Check => check_to(alloc, job, None, explain, source, out),
+        Action::Show => show_to(alloc, job, explain, source, out),
+        Action::Convert => convert_to(alloc, job, explain, source, out),
+    }
+}
+
+// Writes the lines of a document's tokens.
+fn show_to<S: Source, O: Drain>(
+    alloc: Global,
+    job: Job,
+    explain: bool,
+    source: &mut S,
+    out: &mut O,
+) -> Result<(), Stop>
+    requires more { S.has_ended source.old ≡ false }
+    requires source { S.has_failed source.old ≡ false }
+    requires out { O.has_failed out.old ≡ false }
+    ensures accepted { OnOk result (IfSome (S.remaining source.old) (λ bytes. Does Action.Show job bytes (O.contents out.old) (O.contents out.new))) }
+    ensures flushed { OnOk result (O.is_flushed out.new ≡ true) }
+    ensures stops { IfErr result (λ stop. AsTold (StopsAction Action.Show stop.fault job) S.Source O.Drain source.old source.new out.old out.new) }
+    ensures sent { IfErr result (λ stop. IsSentOn stop.fault (O.is_flushed out.new)) }
+    ensures expected { IfErr result (λ stop. TellsEvidence explain Action.Show stop.fault job (S.remaining source.old) (told S.Source source.new) stop.evidence) }
+{
+    let limits = job.limits();
+    let mut near = asked_near(explain);
+    match show_near(alloc, job, source, out, &mut near) {
+        Ok(_) => Ok(()),
+        Err(fault) => Err(stop_of(fault, Details::none(), near, limits)),
+    }
+}
+
+// The place of a refusal, which is asked for with an explanation.
+fn asked_near(explain: bool) -> Nearby<Near>
+    ensures { result ≡ asked_near explain }
+{
+    if explain { Nearby::Asked } else { Nearby::Unasked }
+}
+
+// Why a run stopped, with what is known of it.
+fn stop_of(fault: StreamFault, details: Details, near: Nearby<Near>, limits: Limits) -> Stop
+    ensures fault { result.fault ≡ fault }
+    ensures evidence { result.evidence ≡ record { details = details; near = near; limits = limits } }
+{
+    Stop {
+        fault,
+        evidence: Evidence {
+            details,
+            near,
+            limits,
         },
-        Action::Convert => convert_to(alloc, job, source, out),
     }
 }
 
@@ -183,6 +225,7 @@ fn act<S: Source, O: Drain>(
 fn convert_to<S: Source, O: Drain>(
     alloc: Global,
     job: Job,
+    explain: bool,
     source: &mut S,
     out: &mut O,
 ) -> Result<(), Stop>
@@ -193,13 +236,15 @@ fn convert_to<S: Source, O: Drain>(
     ensures flushed { OnOk result (O.is_flushed out.new ≡ true) }
     ensures stops { IfErr result (λ stop. AsTold (StopsFor stop.fault (conversion_of job)) S.Source O.Drain source.old source.new out.old out.new) }
     ensures sent { IfErr result (λ stop. IsSentOn stop.fault (O.is_flushed out.new)) }
-    ensures expected { IfErr result (λ stop. ExpectsFor stop.fault (language_of job) (trees_of job) (S.remaining source.old) (told S.Source source.new) stop.details) }
+    ensures expected { IfErr result (λ stop. TellsOf explain stop.fault job (S.remaining source.old) (told S.Source source.new) stop.evidence) }
     ensures prompt { IsPrompt (conversion_of job) (S.remaining source.old) (told S.Source source.new) (O.contents out.old) (O.contents out.new) }
 {
+    let limits = job.limits();
     let mut details = Details::none();
-    match convert_expecting(alloc, job, source, out, &mut details) {
+    let mut near = asked_near(explain);
+    match convert_expecting(alloc, job, source, out, &mut details, &mut near) {
         Ok(_) => Ok(()),
-        Err(fault) => Err(Stop { fault, details }),
+        Err(fault) => Err(stop_of(fault, details, near, limits)),
     }
 }
 
@@ -208,6 +253,7 @@ pub fn check_to<S: Source, O: Drain>(
     alloc: Global,
     job: Job,
     name: Option<&str>,
+    explain: bool,
     source: &mut S,
     out: &mut O,
 ) -> Result<(), Stop>
@@ -217,28 +263,24 @@ pub fn check_to<S: Source, O: Drain>(
     ensures accepted { OnOk result (IfSome (S.remaining source.old) (λ bytes. IsCheckedAs (option_map (λ s. s.now) name.entry) job bytes (O.contents out.old) (O.contents out.new))) }
     ensures flushed { OnOk result (O.is_flushed out.new ≡ true) }
     ensures stops { IfErr result (λ stop. AsTold (StopsCheckAs (option_map (λ s. s.now) name.entry) stop.fault job) S.Source O.Drain source.old source.new out.old out.new) }
-    ensures expected { IfErr result (λ stop. ExpectsFor stop.fault (language_of job) (trees_of job) (S.remaining source.old) (told S.Source source.new) stop.details) }
+    ensures expected { IfErr result (λ stop. TellsOf explain stop.fault job (S.remaining source.old) (told S.Source source.new) stop.evidence) }
 {
+    let limits = job.limits();
     let mut details = Details::none();
-    let summary = match check_expecting(alloc, job, source, &mut details) {
+    let mut near = asked_near(explain);
+    let summary = match check_expecting(alloc, job, source, &mut details, &mut near) {
         Ok(summary) => summary,
-        Err(fault) => return Err(Stop { fault, details }),
+        Err(fault) => return Err(stop_of(fault, details, near, limits)),
     };
     let text = match accepted_line(alloc, name, summary) {
         Ok(text) => text,
         Err(AllocError) => {
-            return Err(Stop {
-                fault: StreamFault::Memory,
-                details,
-            });
+            return Err(stop_of(StreamFault::Memory, details, near, limits));
         }
     };
     match write_out(text.as_slice(), out) {
         Ok(()) => Ok(()),
-        Err(Failed) => Err(Stop {
-            fault: StreamFault::Write,
-            details,
-        }),
+        Err(Failed) => Err(stop_of(StreamFault::Write, details, near, limits)),
     }
 }
 

@@ -291,7 +291,7 @@ fn check_source<I: Source + Explains + Drop, O: Drain + Explains, E: Drain>(
 {
     let (job, name) = document;
     let mut source = source;
-    match check_to(plan.alloc, job, Some(name), &mut source, out) {
+    match check_to(plan.alloc, job, Some(name), plan.explain, &mut source, out) {
         Ok(()) => 0,
         Err(stop) => {
             let output = ("standard output", &*out);

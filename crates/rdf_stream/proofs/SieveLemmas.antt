@@ -1,18 +1,17 @@
 -- Lines that are sifted, one after another.
 use Rattle.std.proofs.Common.{◌≡◌, ℕ, ◌+◌, ◌<◌, ◌≤◌, ◌==◌, cond, Bool, true, false, List, [], ◌∷◌, ◌++◌, inl, inr, Option, Some, IfSome, refl, sym, ap, ◌∙◌, subst, append_assoc, length, take, drop, arith, length-append, length-drop, length-take}
 use Rattle.std.specs.Io.KnownBytes.{Appends}
-use Rattle.std.specs.List.{All, concat}
+use Rattle.std.specs.List.{concat}
 use Rattle.std.specs.Prelude.{encode_utf8_all, map, count_by}
 use Rattle.std.specs.Str.{IsUtf8, chars}
 use Rattle.std.specs.Str.Lossy.{utf8_valid_len}
 use Rattle.std.proofs.Math.Utf8.{encode, encodes}
 use Rattle.std.proofs.KnownBytes.{Appends-nil, Appends-trans}
-use Rattle.std.proofs.lemmas.List.{append-nil, length-take-le, map-append, take-append-drop}
-use Rattle.std.proofs.lemmas.List.Elements.{All-head, All-tail}
+use Rattle.std.proofs.lemmas.List.{append-nil, map-append, take-append-drop}
 use Rattle.std.proofs.lemmas.List.Concat.{flat_map-append}
 use Rattle.std.proofs.lemmas.Str.{encodes-append, chars-encodes, encodes-chars}
 use Rattle.std.proofs.lemmas.Bool.{false≢true, false_from_ne_true, eqb-true}
-use Rattle.rdf_tokens.specs.Good.{good, has_byte_order_mark, most_bytes}
+use Rattle.rdf_tokens.specs.Good.{good, has_byte_order_mark}
 use Rattle.rdf_tokens.proofs.GoodLemmas.{good_front}
 use Rattle.rdf_tokens.proofs.RefusalPlaces as places
 use Rattle.rdf_tokens.proofs.PlaceLemmas.{feeds-append}
@@ -20,11 +19,10 @@ use Rattle.rdf_tokens.proofs.PastGood.{good_past}
 use Rattle.rdf_driver.specs.declared.summary.Summary.{Summary}
 use Rattle.rdf_terms.specs.Terms.{Quad}
 use Rattle.rdf_terms.specs.declared.reason.Reason.{Reason}
-use Rattle.rdf_terms.specs.declared.reason.Reason.TheVariants.{BadEscape, BadUtf8, DocumentTooLong, Ended, Memory, NoToken, Sink, TokenTooLong}
-use Rattle.rdf_tokens.specs.Grammars.{IsTooLong, Language, Refused, StopsAt, reading_of}
-use Rattle.rdf_tokens.specs.Laws.{IsPlaceIn, StandsIn}
-use Rattle.rdf_tokens.specs.Tokens.{Place, Token}
-use Rattle.rdf_tokens.specs.Tokens.{Outcome}
+use Rattle.rdf_terms.specs.declared.reason.Reason.TheVariants.{DocumentTooLong}
+use Rattle.rdf_tokens.specs.Grammars.{Language, Refused}
+use Rattle.rdf_tokens.specs.Laws.{IsPlaceIn}
+use Rattle.rdf_tokens.specs.Tokens.{Place}
 use Rattle.rdf_tokens.specs.Tokens.Outcome.{complete, token_too_long}
 use Rattle.rdf_tokens.specs.Scans.{place_of}
 use Rattle.rdf_tokens.specs.declared.token.Fault.{Fault}

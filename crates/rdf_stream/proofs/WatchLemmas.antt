@@ -1,6 +1,6 @@
 -- Columns and lines after bytes that come in parts.
 use Rattle.std.proofs.Common.{◌≡◌, ◌≤◌, ◌<◌, ◌+◌, ◌-◌, ◌∙◌, ℕ, zero, suc, Bool, true, false, cond, List, [], ◌∷◌, ◌++◌, length, take, drop, refl, sym, ap, subst, arith, length-append, length-drop, append_assoc}
-use Rattle.std.specs.Prelude.{slice_index, Option, Some, None, IfSome, Result, Err}
+use Rattle.std.specs.Prelude.{slice_index, Option, Some, None, IfSome, Err}
 use Rattle.std.specs.Io.KnownBytes.{Consumes, IsAtEnd}
 use Rattle.std.proofs.KnownBytes.{Consumes-trans}
 use Rattle.std.proofs.lemmas.Bool.{false≢true}
@@ -15,7 +15,7 @@ use Rattle.rdf_stream.specs.Devices.{HasGiven, Reading}
 use Rattle.rdf_stream.specs.Watches.{Follows, IsNearFault, WatchesAll}
 use Rattle.rdf_stream.specs.declared.watch.Nearby.{Nearby}
 use Rattle.rdf_stream.specs.declared.watch.Nearby.TheVariants.{Unasked, Asked, Told}
-use Rattle.rdf_stream.specs.Places.{HandsOut, IsNear, NearRead, TellsNear, column_after, is_feed, goes_on, last_of, line_after, line_rest, next_column, reach}
+use Rattle.rdf_stream.specs.Places.{HandsOut, IsNear, NearRead, TellsNear, column_after, is_feed, goes_on, last_of, line_after, next_column, reach}
 
 pub column_append : (n : ℕ) (u v : List ℕ) → column_after n (u ++ v) ≡ column_after (column_after n u) v
 column_append n [] v = refl

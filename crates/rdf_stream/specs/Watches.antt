@@ -1,12 +1,12 @@
 -- What a run keeps of the bytes that it has read, and what it tells of the place of a refusal.
-use Rattle.std.specs.Prelude.{◌≡◌, ℕ, Bool, List, ◌++◌, length, Option, None, IfSome}
+use Rattle.std.specs.Prelude.{◌≡◌, ℕ, Bool, List, Option, None, IfSome}
 use Rattle.std.specs.Io.KnownBytes.{Consumes}
 use Rattle.rdf_stream.specs.declared.fault.StreamFault.{StreamFault}
 use Rattle.rdf_stream.specs.declared.fault.StreamFault.TheVariants.{Refused}
 use Rattle.rdf_stream.specs.declared.watch.Watching.{Watching}
 use Rattle.rdf_stream.specs.declared.watch.Words.{Words}
 use Rattle.rdf_stream.specs.Devices.{Reading}
-use Rattle.rdf_stream.specs.Kept.{Kept, Watches}
+use Rattle.rdf_stream.specs.Kept.{Watches}
 use Rattle.rdf_stream.specs.Places.{IsNear, NearRead}
 
 -- so it is where something is kept

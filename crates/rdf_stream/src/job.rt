@@ -201,8 +201,8 @@ impl<A: Allocator> Job<A> {
         }
     }
 
-    /// The limits.
-    pub(crate) fn limits(&self) -> Limits
+    /// The limits. It takes no memory.
+    pub fn limits(&self) -> Limits
         ensures { result ≡ self.now.limits }
     {
         self.limits

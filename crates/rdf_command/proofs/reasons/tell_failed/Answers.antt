@@ -10,7 +10,7 @@ returns g c =
     let new = g.E.Drain.contents c.tell_reason.new.err in
     let failed = g.E.Drain.has_failed c.tell_reason.new.err in
     let line = c.args.line.now in
-    let name = c.args.device.entry.0.now in (
+    let name = c.args.teller.0.now in (
       option_map string_bytes c.reason-why.result,
       c.reason-why.ensures,
       subst (λ why. Reports (line ++ reason_line name why) old new failed ⊎ Reports line old new failed) c.as_deref.ensures.value c.tell_reason.ensures,

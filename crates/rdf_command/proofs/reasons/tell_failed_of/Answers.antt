@@ -12,5 +12,5 @@ returns g c =
     let name = c.args.name.now in (
       option_map string_bytes c.reason-why.result,
       c.reason-why.ensures,
-      subst (λ why. ReportsOf name (c.args.line.now ++ reason_line c.args.device.entry.0.now why) old new failed) c.as_deref.ensures.value c.tell_reason_of.ensures,
+      subst (λ why. ReportsOf name (c.args.line.now ++ reason_line c.args.teller.0.now why) old new failed) c.as_deref.ensures.value c.tell_reason_of.ensures,
     )

@@ -22,16 +22,16 @@ returns-clause-ends g c =
     let failed = g.E.Drain.has_failed c.tell_stopped.new.err in
     let source = c.act.new.source in
     let out = c.act.new.out in
-    let name : c.name_by-document.result.now ≡ name_of c.args.task =
-    c.name_by-document.ensures ∙ ap name_by (c.as_deref-2.ensures.value ∙ ap (option_map string_bytes) c.take-file.ensures.value) in
+    let name : c.name_by-in-Err-act.result.now ≡ name_of c.args.task =
+    c.name_by-in-Err-act.ensures ∙ ap name_by (c.as_deref-in-Err-act.ensures.value ∙ ap (option_map string_bytes) c.take-file.ensures.value) in
     let told_so =
-    stop_among old new failed c.args.task.explain c.name_by-document.result.now c.args.name.now _ _ _ _ stop.fault stop.details
+    stop_among old new failed c.args.task.explain c.name_by-in-Err-act.result.now c.args.name.now _ _ _ _ stop.fault stop.evidence
     (λ why tells. (source, refl, tells)) (λ why tells. (out, refl, tells)) c.tell_stopped.ensures in
     let named =
     subst (λ n. ReportsStop c.args.task.explain (device n (source_tells g.I.Source g.I.Explains (told g.I.Source source)))
-    (device c.args.name.now (drain_tells g.O.Drain g.O.Explains (written g.O.Drain out))) stop.fault stop.details old new failed) name told_so in
+    (device c.args.name.now (drain_tells g.O.Drain g.O.Explains (written g.O.Drain out))) stop.fault stop.evidence old new failed) name told_so in
     run_stopped (devices_of g.I.Source g.I.Explains g.O.Drain g.O.Explains) c.args.name.now c.args.task _ _ h.0 h.1 c.in-Ok.job h.2 _ (told g.I.Source source) _ _ _ _ c.act.ensures.prompt stop.fault _ c.status.ensures
-    c.in-Err-act.ensures.stops c.in-Err-act.ensures.sent stop.details c.in-Err-act.ensures.expected named
+    c.in-Err-act.ensures.stops c.in-Err-act.ensures.sent stop.evidence c.in-Err-act.ensures.expected named
 
 pub returns-clause-untold : goal.returns-clause-untold
 returns-clause-untold g c none = absurd (some_status c.in-Err-act.stop.fault (sym c.status.ensures ∙ none))

@@ -15,9 +15,9 @@ returns g c = let err = c.tell_stopped_of.new.err in (
     fault = c.in-Err.stop.fault;
     status_is = c.status.ensures;
     stops = c.in-Err.ensures.stops;
-    details = c.in-Err.stop.details;
+    evidence = c.in-Err.stop.evidence;
     expected = c.in-Err.ensures.expected;
-    reported = stop_among_of (g.E.Drain.contents c.args.err.now) (g.E.Drain.contents err) (g.E.Drain.has_failed err) c.args.plan.now.explain c.args.document.entry.1.now standard_output _ _ _ _
-        c.in-Err.stop.fault c.in-Err.stop.details (λ why tells. (c.check_to.new.source, refl, tells)) (λ why tells. (c.check_to.new.out, refl, tells)) c.tell_stopped_of.ensures;
+    reported = stop_among_of (g.E.Drain.contents c.args.err.now) (g.E.Drain.contents err) (g.E.Drain.has_failed err) c.args.plan.now.explain c.args.document.1.now standard_output _ _ _ _
+        c.in-Err.stop.fault c.in-Err.stop.evidence (λ why tells. (c.check_to.new.source, refl, tells)) (λ why tells. (c.check_to.new.out, refl, tells)) c.tell_stopped_of.ensures;
   }),
 )

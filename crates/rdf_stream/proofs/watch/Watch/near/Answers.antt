@@ -1,5 +1,5 @@
 -- The place is among the bytes that are kept.
-use Rattle.std.proofs.Common.{◌≡◌, ◌∙◌, ◌≤◌, ◌+◌, ◌-◌, ◌++◌, [], ℕ, List, length, take, drop, sym, ap, subst, arith, rules, length-append}
+use Rattle.std.proofs.Common.{◌≡◌, ◌∙◌, ◌≤◌, ◌+◌, ◌-◌, ◌++◌, [], length, take, drop, sym, ap, subst, arith, rules, length-append}
 use Rattle.std.proofs.lemmas.List.{take_rest}
 use Rattle.rdf_stream.specs.Places.{column_after, last_of, line_after, line_rest, reach}
 use Rattle.rdf_stream.specs.Sights.{IsSight}
