@@ -50,7 +50,7 @@ pub record IsPlaced (job : JobRead) (input : List ℕ) (o : Outcome) (near : Nea
   pub rest : List ℕ
   pub parts : input ≡ read ++ rest
   pub is_end : Bool
-  pub near : IsNear (language_of job).dialect (language_of job).limit read is_end o.offset near
+  pub tells : IsNear (language_of job).dialect (language_of job).limit read is_end o.offset near
 
 -- the same of the job that a call asks for
 abbrev pub IsPlacedFor : Request → List ℕ → List ℕ → List ℕ → Outcome → NearRead → Type 0

@@ -4,7 +4,7 @@ use Rattle.clap.specs.Words.{Text}
 use Rattle.rdf_stream.specs.Devices.{Reading, Written}
 use Rattle.rdf_stream.specs.Jobs.{JobRead}
 use Rattle.rdf_command.specs.declared.task.Task.{Task}
-use Rattle.rdf_command.specs.Asides.{AsideBy, AsideEnds, AsideOnto, NotPutAside, StopsAside, Told, output_called, told_of}
+use Rattle.rdf_command.specs.Asides.{AsideBy, AsideEnds, AsideOnto, StopsAside, Told, output_called, told_of}
 use Rattle.rdf_command.specs.Outputs.{Outputs, output_of}
 use Rattle.rdf_command.specs.Reasons.{Device, Devices, ReportsStop, broken, device}
 use Rattle.rdf_command.specs.Runs.{StartsWith, job_of}
@@ -51,6 +51,7 @@ module _ (says : Outputs) (source : Reading → Option Text → Type 0) (one oth
         is_left = s.is_left;
         evidence = s.evidence;
         none = s.none;
+        unasked = s.unasked;
         reported = subst (λ b. reports (broken b (device how.output (other out)) bad)) (sym live) of_bad;
       }
 

@@ -24,24 +24,24 @@ module _ (old new : Option (List ℕ)) (failed : Bool) where
   pub stop_read : (document output : Device) (line : List ℕ) (fault : StreamFault) (evidence : Evidence NearRead) → fault ≡ Read → line ≡ report_text Read
       → ReportsFailed true line document old new failed → ReportsStop true document output fault evidence old new failed
   stop_read document output line fault evidence is same r =
-      subst (λ x. ReportsStop true document output x details old new failed) (sym is) (subst (λ l. ReportsFailed true l document old new failed) same r)
+      subst (λ x. ReportsStop true document output x evidence old new failed) (sym is) (subst (λ l. ReportsFailed true l document old new failed) same r)
 
   pub stop_write : (document output : Device) (line : List ℕ) (fault : StreamFault) (evidence : Evidence NearRead) → fault ≡ Write → line ≡ report_text Write
       → ReportsFailed true line output old new failed → ReportsStop true document output fault evidence old new failed
   stop_write document output line fault evidence is same r =
-      subst (λ x. ReportsStop true document output x details old new failed) (sym is) (subst (λ l. ReportsFailed true l output old new failed) same r)
+      subst (λ x. ReportsStop true document output x evidence old new failed) (sym is) (subst (λ l. ReportsFailed true l output old new failed) same r)
 
   pub stop_as : (document output : Device) (known fault : StreamFault) (evidence : Evidence NearRead) → fault ≡ known
-      → (ReportsExplained true document.name known details old new failed → ReportsStop true document output known details old new failed)
+      → (ReportsExplained true document.name known evidence old new failed → ReportsStop true document output known evidence old new failed)
       → ReportsExplained true document.name fault evidence old new failed → ReportsStop true document output fault evidence old new failed
   stop_as document output known fault evidence is so r =
-      subst (λ x. ReportsStop true document output x details old new failed) (sym is) (so (subst (λ x. ReportsExplained true document.name x details old new failed) is r))
+      subst (λ x. ReportsStop true document output x evidence old new failed) (sym is) (so (subst (λ x. ReportsExplained true document.name x evidence old new failed) is r))
 
   pub stop_as_of : (document output : Device) (known fault : StreamFault) (evidence : Evidence NearRead) → fault ≡ known
-      → (ReportsExplainedOf true document.name known details old new failed → ReportsStopOf true document output known details old new failed)
+      → (ReportsExplainedOf true document.name known evidence old new failed → ReportsStopOf true document output known evidence old new failed)
       → ReportsExplainedOf true document.name fault evidence old new failed → ReportsStopOf true document output fault evidence old new failed
   stop_as_of document output known fault evidence is so r =
-      subst (λ x. ReportsStopOf true document output x details old new failed) (sym is) (so (subst (λ x. ReportsExplainedOf true document.name x details old new failed) is r))
+      subst (λ x. ReportsStopOf true document output x evidence old new failed) (sym is) (so (subst (λ x. ReportsExplainedOf true document.name x evidence old new failed) is r))
 
   pub bindings_read : (file : Device) (line : List ℕ) (fault : LoadFault) → fault ≡ load.Read → line ≡ report_text Read
       → ReportsFailed true line file old new failed → ReportsBindings true file fault old new failed

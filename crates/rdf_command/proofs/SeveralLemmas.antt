@@ -1,5 +1,5 @@
 -- Documents that are checked in turn: what is left to do completes the whole.
-use Rattle.std.proofs.Common.{◌≡◌, ◌==◌, ◌||◌, ℕ, Bool, true, false, List, [], ◌∷◌, Option, None, Some, arith, eqb-true, length, refl, sym, subst, ◌∙◌}
+use Rattle.std.proofs.Common.{◌≡◌, ◌==◌, ◌||◌, ℕ, Bool, true, false, List, [], ◌∷◌, Option, None, arith, eqb-true, length, refl, sym, subst, ◌∙◌}
 use Rattle.std.proofs.lemmas.Bool.{false≢true, true≢false}
 use Rattle.rdf_iri.specs.Limits.{Sizes}
 use Rattle.rdf_stream.specs.Devices.{Reading, Written}
