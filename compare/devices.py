@@ -7,6 +7,7 @@ docs/DECISIONS.md. It needs `cc`; the full file system needs root. The last line
 `rt ci` or `rt run` in crates/rdf_tool builds the program; RDFCONV names another.
 """
 import os
+import re
 import resource
 import subprocess
 import sys
@@ -190,10 +191,18 @@ def calls(tries):
         tries.expect('reads and writes of one byte: ' + ' '.join(words), found == whole, found[1:])
 
 
+def without_place(said):
+    """What is said of a refusal where there was no memory for its place: no column, and neither the line nor a note."""
+    lines = said.splitlines(True)[:2]
+    return ''.join(lines[:1] + [re.sub(r'(:\d+):\d+: ', r'\1: ', line, count=1) for line in lines[1:]])
+
+
 def fail_in_turn(tries, words, path, whole, refusal, one_byte):
     """Each answer is the refusal, behind what the run begins with, or the run's own: where only its message could not be said, without
-    it, and where the C library goes on without the memory, whole."""
+    it or without its place, and where the C library goes on without the memory, whole. An explanation has the system's reason."""
     names, said, wanted = refusal
+    if '--explain' in words and names != 'malloc':
+        said += '%s: Interrupted system call (os error 4)\n' % path
     seen = os.path.join(tries.room, 'seen')
     for number in range(1, 100000):
         found = tries.run([*words, path], LD_PRELOAD=tries.shim, FAIL_CALLS=names, FAIL_AT=str(number), FAIL_SEEN=seen, **one_byte)
@@ -204,7 +213,7 @@ def fail_in_turn(tries, words, path, whole, refusal, one_byte):
         os.remove(seen)
         begins = is_front(found[0], whole[0]) if names == 'malloc' else whole[0].startswith(found[0])
         is_refusal = begins and found[2] == wanted and found[1] in (said, '')
-        lacks_text = found[0] == whole[0] and found[2] == whole[2] != 0 and whole[1].startswith(found[1])
+        lacks_text = found[0] == whole[0] and found[2] == whole[2] != 0 and (whole[1].startswith(found[1]) or found[1] == without_place(whole[1]))
         tries.expect(what, found == whole or is_refusal or lacks_text, found[1:])
     sys.exit('more than 100000 calls')
 

@@ -129,8 +129,12 @@ front_text name line (Told near) = name ++ codes ":" ++ decimal line ++ codes ":
 front_text name line near = name ++ codes ":" ++ decimal line ++ codes ": "
 
 -- after how many bytes a token stops that begins there
+abbrev pub stopped_text : ℕ → List ℕ
+stopped_text n = codes ": it stops after " ++ decimal n ++ codes " bytes"
+
+-- the same; nothing where none begins
 abbrev pub stop_text : ℕ → List ℕ
-stop_text n = codes ": it stops after " ++ decimal n ++ codes " bytes"
+stop_text n = cond (n == 0) [] (stopped_text n)
 
 -- a character of ASCII that is shown as it stands
 abbrev pub is_graphic : ℕ → Bool

@@ -3,7 +3,7 @@
 ghost use Rattle.std.specs.Prelude.{◌≡◌, ◌||◌, ◌&&◌, ◌++◌, IfOk, OnOk, Some, length, not, option_map};
 ghost use Rattle.rdf_driver.specs.Kinds.{has};
 ghost use Rattle.std.specs.List.{list_all};
-ghost use Rattle.rdf_stream.specs.Explains.{between, expected_text, explain_text, found_text, front_text, is_graphic, limit_of, limit_text, listed, name_of, note_text, only_said, quoted_text, said, shown_text, sight_text, stop_text, texts_of, told_text, word_of, words_for};
+ghost use Rattle.rdf_stream.specs.Explains.{between, expected_text, explain_text, found_text, front_text, is_graphic, limit_of, limit_text, listed, name_of, note_text, only_said, quoted_text, said, shown_text, sight_text, stop_text, stopped_text, texts_of, told_text, word_of, words_for};
 
 use crate::causes::{Cause, advice, cause_of};
 use crate::excerpt::put_excerpt;
@@ -103,9 +103,19 @@ fn put_sight<A: Allocator + Copy>(
     }
 }
 
-// After how many bytes a token stops.
+// After how many bytes a token stops that begins there; nothing where none does.
 fn put_stop<A: Allocator + Copy>(len: u64, line: &mut Vec<u8, A>) -> Result<(), AllocError>
     ensures { OnOk result (line.new.items ≡ line.old.items ++ stop_text len) }
+{
+    if len == 0 {
+        Ok(())
+    } else {
+        put_stopped(len, line)
+    }
+}
+
+fn put_stopped<A: Allocator + Copy>(len: u64, line: &mut Vec<u8, A>) -> Result<(), AllocError>
+    ensures { OnOk result (line.new.items ≡ line.old.items ++ stopped_text len) }
 {
     line.extend_from_slice(b": it stops after ")?;
     put_number(len, line)?;

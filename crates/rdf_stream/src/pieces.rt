@@ -91,7 +91,7 @@ pub(crate) fn read_pieces<A: Allocator + Copy, S: Source, L, R: Run<L>>(
             };
         }
         match run.take(&piece[..count], out) {
-            Ok(()) => watching.go_on(&piece[..count], run.open()),
+            Ok(()) => watching.go_on(&piece[..count], &*run),
             Err(fault) => {
                 watching.stop(&piece[..count], false, &fault);
                 return Err(fault);

@@ -7,6 +7,7 @@ ghost use Rattle.rdf_stream.specs.Watches.{IsNearFault, WatchesAll};
 
 use crate::excerpt::REACH;
 use crate::fault::StreamFault;
+use crate::pieces::Run;
 use crate::sight::{Sight, sight_of};
 use memchr::memrchr;
 use rdf_terms::Dialect;
@@ -140,15 +141,15 @@ impl<A: Allocator + Copy> Watching<A> {
         }
     }
 
-    /// A piece was read. With what came before it, a refusal may stand in the last bytes, so many as this, or after them.
-    pub(crate) fn go_on(&mut self, piece: &[u8], open: u64)
+    /// A piece was read. The run says in how many of the last bytes a refusal may still stand, and is asked only where something is kept.
+    pub(crate) fn go_on<L, R: Run<L>>(&mut self, piece: &[u8], run: &R)
         ensures kept { (bytes : List ℕ) → WatchesAll self.old bytes → WatchesAll self.new (bytes ++ piece.now) }
         ensures words { self.new.words ≡ self.old.words }
         ensures untold { self.new.near ≡ self.old.near }
         ensures unasked { self.old.watch ≡ None → self.new.watch ≡ None }
     {
         if let Some(watch) = &mut self.watch {
-            if !watch.take(piece, open) {
+            if !watch.take(piece, run.open()) {
                 self.watch = None;
             }
         }

@@ -207,7 +207,7 @@ static EXPLAINED: [Explained; 6] = [
     Explained {
         form: Form::NTriples,
         bytes: b"\x1f\x8b\x08",
-        lines: "a:1:1: no token: it stops after 0 bytes\n\u{fffd}\u{fffd}\u{fffd}\n^\na:1:1: note: the document is packed: unpack it first, as by gzip -dc, bzip2 -dc, xz -dc or unzip -p\n",
+        lines: "a:1:1: no token\n\u{fffd}\u{fffd}\u{fffd}\n^\na:1:1: note: the document is packed: unpack it first, as by gzip -dc, bzip2 -dc, xz -dc or unzip -p\n",
     },
     Explained {
         form: Form::Turtle,
@@ -226,7 +226,7 @@ fn is_explained(alloc: Global, row: &Explained) -> bool {
     let Some(job) = Job::new(row.form, None, limits()) else {
         return false;
     };
-    let mut source = parts_of(row.bytes, 0, u64::MAX);
+    let mut source = parts_of(row.bytes, row.bytes.len(), u64::MAX);
     match check_expecting(alloc, job, &mut source, &mut details, &mut near) {
         Err(StreamFault::Refused(fault)) => {
             let evidence = Evidence {
