@@ -203,7 +203,11 @@ fn show_to<S: Source, O: Drain>(
 fn asked_near(explain: bool) -> Nearby<Near>
     ensures { result ≡ asked_near explain }
 {
-    if explain { Nearby::Asked } else { Nearby::Unasked }
+    if explain {
+        Nearby::Asked
+    } else {
+        Nearby::Unasked
+    }
 }
 
 // Why a run stopped, with what is known of it.

@@ -93,7 +93,9 @@ fn put_sight<A: Allocator + Copy>(
 ) -> Result<(), AllocError>
     ensures { OnOk result (line.new.items ≡ line.old.items ++ sight_text reason near.now) }
 {
-    let Nearby::Told(near) = near else { return Ok(()) };
+    let Nearby::Told(near) = near else {
+        return Ok(())
+    };
     match (reason, near.sight) {
         (Reason::NoToken, Sight::Stop(len)) => put_stop(len, line),
         (Reason::Unbound | Reason::NoBase | Reason::RelativeIri, Sight::Token(_, len)) => {
@@ -191,10 +193,7 @@ fn put_limit<A: Allocator + Copy>(
     }
 }
 
-fn put_one_limit<A: Allocator + Copy>(
-    limit: u64,
-    line: &mut Vec<u8, A>,
-) -> Result<(), AllocError>
+fn put_one_limit<A: Allocator + Copy>(limit: u64, line: &mut Vec<u8, A>) -> Result<(), AllocError>
     ensures { OnOk result (line.new.items ≡ line.old.items ++ limit_text (Some limit)) }
 {
     line.extend_from_slice(b"; the limit is ")?;
@@ -210,7 +209,9 @@ fn put_shown<A: Allocator + Copy>(
 ) -> Result<(), AllocError>
     ensures { OnOk result (line.new.items ≡ line.old.items ++ shown_text name.now fault.now near.now) }
 {
-    let Nearby::Told(told) = near else { return Ok(()) };
+    let Nearby::Told(told) = near else {
+        return Ok(())
+    };
     let before = told.before.as_slice();
     let after = told.after.as_slice();
     put_excerpt(before, after, line)?;

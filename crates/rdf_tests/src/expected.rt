@@ -8,7 +8,8 @@ use rdf_driver::Kinds;
 use rdf_iri::Limits;
 use rdf_lines::LineForm;
 use rdf_stream::{
-    Details, Evidence, Form as Format, In, Job, Nearby, Out, StreamFault, check_expecting, convert_expecting, explain,
+    Details, Evidence, Form as Format, In, Job, Nearby, Out, StreamFault, check_expecting,
+    convert_expecting, explain,
 };
 use rdf_terms::{Kind, Reason};
 use rdf_trig::DocForm;
@@ -392,7 +393,16 @@ fn is_explained(alloc: Global, format: Format, bytes: &[u8], line: &str) -> bool
         return false;
     };
     match check_expecting(alloc, job, &mut In::new(bytes), &mut details, &mut near) {
-        Err(StreamFault::Refused(fault)) => match explain(alloc, "a", &fault, &Evidence { details, near, limits }) {
+        Err(StreamFault::Refused(fault)) => match explain(
+            alloc,
+            "a",
+            &fault,
+            &Evidence {
+                details,
+                near,
+                limits,
+            },
+        ) {
             Ok(text) => text.as_slice() == line.as_bytes(),
             Err(_) => false,
         },

@@ -161,7 +161,10 @@ fn of_a_long_line_the_last_bytes_are_told(rt: HostRuntime) {
         assert_eq!(rt; long_told(rt.alloc(), 10, cut), Some((25, 26)), "{cut}");
         assert_eq!(rt; long_told(rt.alloc(), 300, cut), Some((244, 316)), "{cut}");
     }
-    assert_eq!(rt; long_told(rt.alloc(), 200_000, 70_000), Some((244, 200_016)));
+    assert_eq!(rt;
+        long_told(rt.alloc(), 200_000, 70_000),
+        Some((244, 200_016))
+    );
 }
 
 #[test]

@@ -23,8 +23,8 @@ returns-in_ok-sight_of-in-Some g c = λ bytes w.
     ∙ (ap (λ v. take reach (line_rest v)) (take_rest c.deref-in-Some.result.now at) ∙ ap (λ v. take reach (line_rest (drop at v))) c.deref-in-Some.ensures.value) in
     let room : at ≤ length c.self.inside.kept.items = search rules in
     let seen : IsSight c.args.words.dialect c.args.words.limit (drop at c.self.inside.kept.items) c.args.is_end c.in_ok-sight_of-in-Some.field-0 =
-        subst (λ v. IsSight c.args.words.dialect c.args.words.limit v c.args.is_end c.in_ok-sight_of-in-Some.field-0)
-        (take_rest c.deref-in-Some-2.result.now at ∙ ap (drop at) c.deref-in-Some-2.ensures.value) c.in_ok-sight_of-in-Some.ensures in
+    subst (λ v. IsSight c.args.words.dialect c.args.words.limit v c.args.is_end c.in_ok-sight_of-in-Some.field-0)
+    (take_rest c.deref-in-Some-2.result.now at ∙ ap (drop at) c.deref-in-Some-2.ensures.value) c.in_ok-sight_of-in-Some.ensures in
     record {
       within = omega (arith, ap length w.whole, length-append w.gone kept, ap length same, here, room);
       column = column
