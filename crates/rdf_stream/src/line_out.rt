@@ -80,7 +80,8 @@ impl<'a, D: Drain, A: Allocator + Copy> LineOut<'a, D, A> {
             && self.form.graph.is_none()
     }
 
-    /// Hands over all that waits.
+    /// Hands over all that waits. This is rare, and inlined into `put` it would cost each quad some instructions.
+    #[inline(never)]
     pub(crate) fn hand_over(&mut self) -> Result<(), Failed>
         requires live { D.has_failed self.old.drain.now ≡ false }
         ensures same { SameOut self.old self.new }
