@@ -2,6 +2,7 @@
 
 use rdf_stream::{Sight, sight_of};
 use rdf_tokens::{Dialect, Kind};
+use std::alloc::Global;
 
 // The bytes from a place on, and what stands there where they are the last.
 static ROWS: [(Dialect, &str, Sight); 27] = [
@@ -68,42 +69,46 @@ fn fewer_bytes_tell_the_same_or_nothing(rt: HostRuntime) {
     }
 }
 
-// A string of so many bytes between its quotes, and what comes after them.
-fn long_string(rt: HostRuntime, len: usize, after: &[u8]) -> Vec<u8> {
-    let mut bytes = Vec::from_slice(rt.alloc(), b"\"").unwrap();
+// A string of so many bytes behind its first quote, and what comes after them.
+fn long_string(alloc: Global, len: usize, after: &[u8]) -> Option<Vec<u8>> {
+    let mut bytes = Vec::from_slice(alloc, b"\"").ok()?;
     for _ in 0..len / 2 {
-        bytes.extend_from_slice("\u{e9}".as_bytes()).unwrap();
+        bytes.extend_from_slice("\u{e9}".as_bytes()).ok()?;
     }
-    bytes.extend_from_slice(after).unwrap();
-    bytes
+    bytes.extend_from_slice(after).ok()?;
+    Some(bytes)
 }
+
+// What stands at such a string; None where memory is refused.
+fn long_sight(alloc: Global, words: (Dialect, u64), len: usize, after: &[u8]) -> Option<Sight> {
+    let bytes = long_string(alloc, len, after)?;
+    sight_of(alloc, words.0, words.1, bytes.as_slice(), true).ok()
+}
+
+// The bytes of a long string, and with the first quote.
+static LONG: [(usize, u64); 7] = [
+    (4090, 4091),
+    (4092, 4093),
+    (4094, 4095),
+    (4096, 4097),
+    (8190, 8191),
+    (8192, 8193),
+    (20_000, 20_001),
+];
 
 #[test]
 fn a_long_string_is_read_in_parts(rt: HostRuntime) {
-    for len in [4090, 4092, 4094, 4096, 8190, 8192, 20_000] {
-        let open = long_string(rt, len, b"\n<a:b>");
-        let closed = long_string(rt, len, b"\" .");
-        let broken = long_string(rt, len, b"\xff\" .");
-        let count = len as u64 + 1;
-        let sight = sight_of(rt.alloc(), Dialect::Lines, 100_000, open.as_slice(), true);
-        assert_eq!(rt; sight, Ok(Sight::Stop(count)));
-        let sight = sight_of(rt.alloc(), Dialect::Turtle, 1000, open.as_slice(), true);
-        assert_eq!(rt; sight, Ok(Sight::Unknown));
-        let sight = sight_of(
-            rt.alloc(),
-            Dialect::Turtle,
-            100_000,
-            closed.as_slice(),
-            true,
+    for (len, count) in LONG.as_slice() {
+        let open = long_sight(rt.alloc(), (Dialect::Lines, 100_000), *len, b"\n<a:b>");
+        assert_eq!(rt; open, Some(Sight::Stop(*count)));
+        let over = long_sight(rt.alloc(), (Dialect::Turtle, 1000), *len, b"\n<a:b>");
+        assert_eq!(rt; over, Some(Sight::Unknown));
+        let closed = long_sight(rt.alloc(), (Dialect::Turtle, 100_000), *len, b"\" .");
+        assert_eq!(rt;
+            closed,
+            Some(Sight::Token(Kind::ShortString, count.saturating_add(1)))
         );
-        assert_eq!(rt; sight, Ok(Sight::Token(Kind::ShortString, count + 1)));
-        let sight = sight_of(
-            rt.alloc(),
-            Dialect::Turtle,
-            100_000,
-            broken.as_slice(),
-            true,
-        );
-        assert_eq!(rt; sight, Ok(Sight::Unknown));
+        let broken = long_sight(rt.alloc(), (Dialect::Turtle, 100_000), *len, b"\xff\" .");
+        assert_eq!(rt; broken, Some(Sight::Unknown));
     }
 }
