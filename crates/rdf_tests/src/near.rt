@@ -202,7 +202,7 @@ static EXPLAINED: [Explained; 6] = [
     Explained {
         form: Form::Turtle,
         bytes: b"<a:s>\n\t<a:p> [ <a:q> \"\xc3\xa9t\xc3\xa9\" .",
-        lines: "a:2:22: unexpected token: \".\"; expected \";\", \",\" or \"]\"\n\t<a:p> [ <a:q> \"\u{e9}t\u{e9}\" .\n\t                    ^\n",
+        lines: "a:2:22: unexpected token: \".\"; expected language tag, \"^^\", \";\", \",\" or \"]\"\n\t<a:p> [ <a:q> \"\u{e9}t\u{e9}\" .\n\t                    ^\n",
     },
     Explained {
         form: Form::TriG,
