@@ -150,7 +150,7 @@ impl<A: Allocator + Copy, G: Passes<A>> Run<NoQuads> for Reader<G, A> {
     }
 
     fn open(&self) -> u64 {
-        self.held()
+        self.pending()
     }
 
     fn end(&mut self, sink: &mut NoQuads) -> Result<Summary, StreamFault> {

@@ -209,7 +209,7 @@ impl<'a, A: Allocator + Copy, G: QuadGrammar + Passes<A>, D: Drain> Run<LineOut<
     }
 
     fn open(&self) -> u64 {
-        self.held()
+        self.pending()
     }
 
     // Reads the end, hands all lines over, and sends them on.

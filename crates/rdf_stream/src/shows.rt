@@ -142,7 +142,7 @@ impl<'a, T: Spoken + Drop, D: Drain, A: Allocator + Copy> Run<LineOut<'a, D, A>>
     }
 
     fn open(&self) -> u64 {
-        self.held()
+        self.pending()
     }
 
     // Reads the end, hands all lines over, and sends them on.
