@@ -560,6 +560,119 @@ fn cuts_change_no_example(rt: HostRuntime) {
     }
 }
 
+/// Strings with escapes, the most characters that a token may have, and the first answer to them.
+static STRINGS: [(Dialect, &str, u64, Answer); 11] = [
+    (
+        Dialect::Lines,
+        "\"ab\\\"c\\u00E9d\\U0001F600\\té\" .",
+        64,
+        Answer::Token(Kind::ShortString, 0, 1, 28),
+    ),
+    (
+        Dialect::Turtle,
+        "\"ab\\\"c\\u00E9d\\U0001F600\\té\" .",
+        64,
+        Answer::Token(Kind::ShortString, 0, 1, 28),
+    ),
+    (
+        Dialect::Turtle,
+        "'ab\\'c\\u00E9d\\U0001F600\\té' .",
+        64,
+        Answer::Token(Kind::ShortString, 0, 1, 28),
+    ),
+    (
+        Dialect::Lines,
+        "\"ab\\\"c\\u00E9d\\U0001F600\\té\" .",
+        27,
+        Answer::Token(Kind::ShortString, 0, 1, 28),
+    ),
+    (
+        Dialect::Turtle,
+        "'ab\\'c\\u00E9d\\U0001F600\\té' .",
+        27,
+        Answer::Token(Kind::ShortString, 0, 1, 28),
+    ),
+    (
+        Dialect::Lines,
+        "\"ab\\\"c\\u00E9d\\U0001F600\\té\" .",
+        26,
+        Answer::Fault(Reason::TokenTooLong, 0),
+    ),
+    (
+        Dialect::Turtle,
+        "'ab\\'c\\u00E9d\\U0001F600\\té' .",
+        26,
+        Answer::Fault(Reason::TokenTooLong, 0),
+    ),
+    (
+        Dialect::Lines,
+        "\"abc\\uD800defghijklmnop\" .",
+        64,
+        Answer::Fault(Reason::BadEscape, 0),
+    ),
+    (
+        Dialect::Turtle,
+        "'abc\\t\\U00110000de\\n' .",
+        64,
+        Answer::Fault(Reason::BadEscape, 0),
+    ),
+    (
+        Dialect::Lines,
+        "\"abc\\t\\xde\" .",
+        64,
+        Answer::Fault(Reason::NoToken, 0),
+    ),
+    (
+        Dialect::Turtle,
+        "\"abc\\u00E9\n\" .",
+        64,
+        Answer::Fault(Reason::NoToken, 0),
+    ),
+];
+
+// The first answer to a text that comes in three pieces.
+fn first_answer(alloc: Global, dialect: Dialect, limit: u64, pieces: [&[u8]; 3]) -> Answer {
+    let mut scanner = Scanner::new(alloc, dialect, limit);
+    for piece in pieces {
+        push(&mut scanner, piece);
+        let answer = next(&mut scanner);
+        if answer != Answer::Undecided {
+            return answer;
+        }
+    }
+    scanner.end();
+    next(&mut scanner)
+}
+
+/// Whether a text has the same first answer wherever it is cut into three pieces.
+fn is_same_in_pieces(
+    alloc: Global,
+    dialect: Dialect,
+    text: &[u8],
+    limit: u64,
+    want: Answer,
+) -> bool {
+    for second in 0..=text.len() {
+        for first in 0..=second {
+            let pieces = [&text[..first], &text[first..second], &text[second..]];
+            if first_answer(alloc, dialect, limit, pieces) != want {
+                return false;
+            }
+        }
+    }
+    true
+}
+
+#[test]
+fn cuts_change_no_string(rt: HostRuntime) {
+    for (dialect, text, limit, want) in STRINGS.as_slice() {
+        assert!(rt;
+            is_same_in_pieces(rt.alloc(), *dialect, text.as_bytes(), *limit, *want),
+            "{text}"
+        );
+    }
+}
+
 /// Whether runs end at the first byte that is not plain.
 fn runs_are_plain() -> bool {
     let text = "a text that is longer than a few registers of sixteen bytes each";

@@ -25,7 +25,7 @@ use Rattle.rdf_tokens.proofs.EscapeNumbers.{digits-hex, digits-length}
 use Rattle.rdf_tokens.proofs.RestEscapes.{letter_below, implied, uchar_from}
 
 -- the bytes between two places, cut at one between them
-slice-split : (bs : List ℕ) (at mid end : ℕ) → at ≤ mid → mid ≤ end → mid ≤ length bs → slice_range bs at end ≡ slice_range bs at mid ++ slice_range bs mid end
+pub slice-split : (bs : List ℕ) (at mid end : ℕ) → at ≤ mid → mid ≤ end → mid ≤ length bs → slice_range bs at end ≡ slice_range bs at mid ++ slice_range bs mid end
 slice-split bs at mid end l m h =
     let first = slice_range bs at mid in
     let long : length first ≡ mid - at = length-take-le (mid - at) (drop at bs) (omega (arith, length-drop at bs)) in

@@ -45,6 +45,29 @@ valid_more bs more =
     at_least (bs ++ more) (length (bs ++ more)) (utf8_valid_len bs) (omega (arith, length-append bs more))
     (subst IsUtf8 (sym (take-append-le (utf8_valid_len bs) bs more l)) (good_front bs))
 
+-- The good text ends before bytes that begin no whole character, where what comes before them is good.
+pub valid_cut : (bs : List ℕ) (n : ℕ) → n ≤ length bs → IsUtf8 (take n bs) → utf8_valid_len (drop n bs) ≡ 0 → utf8_valid_len bs ≡ n
+unfolding utf8_valid_len
+valid_cut bs n l u z =
+    let m = utf8_valid_len bs in
+    let lm = utf8_valid_len_le bs in
+    let low : n ≤ m = at_least bs (length bs) n l u in
+    ⊎_elim
+    (λ (h : n < m).
+    let t = take m bs in
+    let k = m - n in
+    let sum : n + k ≡ m = omega arith in
+    let size : length t ≡ m = length-take-le m bs lm in
+    let front : IsUtf8 (take n t) = subst IsUtf8 (sym (take-take n m bs low)) u in
+    let rest : IsUtf8 (drop n t) = IsUtf8-drop t n (good_front bs) (IsCharBoundary-from_take t n (good_front bs) (omega arith) front) in
+    let same : drop n t ≡ take k (drop n bs) = ap (λ j. drop n (take j bs)) (sym sum) ∙ drop-take n k bs in
+    let part : IsUtf8 (take k (drop n bs)) = subst IsUtf8 same rest in
+    let inside : k ≤ length (drop n bs) = omega (arith, length-drop n bs) in
+    let more : k ≤ utf8_valid_len (drop n bs) = at_least (drop n bs) (length (drop n bs)) k inside part in
+    absurd (omega (arith, more, z)))
+    (λ h. omega arith)
+    (cases_lt n m)
+
 -- more bytes only lengthen the good text
 pub good-more : (bs more : List ℕ) → (v : List ℕ) × (good (bs ++ more) ≡ good bs ++ v)
 good-more bs more =

@@ -21,6 +21,7 @@ use Rattle.rdf_tokens.specs.Sorts.{wide_of}
 use Rattle.rdf_tokens.specs.Strings.{IsFirst, IsHighChar, RestsInQuotes, begins_high}
 use Rattle.rdf_tokens.specs.Text as strings
 use Rattle.rdf_tokens.specs.Tokens.{three_quotes}
+use Rattle.rdf_tokens.specs.Walk.{IsFit}
 use Rattle.rdf_tokens.proofs.BlankLemmas.{high-encode}
 use Rattle.rdf_tokens.proofs.FitEscapes.{fits_echar, fits_run, fits_uchar, fits_unescaped, fits-more, short_slash}
 use Rattle.rdf_tokens.proofs.NoNamesLemmas.{no_long}
@@ -132,9 +133,26 @@ module _ (d : Dialect) (q : Quote) (bs : List ℕ) (u : IsUtf8 bs) (o : opens_wi
   pub string_reached : (end : ℕ) → RestsInQuotes q bs first end → Reached d bs end (Text (text.Short q)) None
   string_reached end r = reached-run d bs first end (Text (text.Short q)) None None (sym (no_long (three_quotes d (chars bs)))) r first_on
 
+  -- up to there it has no bad escape
+  pub string_fits : (end : ℕ) → RestsInQuotes q bs first end → FitsInString bs first end → IsFit d bs end q
+  string_fits end r g = record { opens = o; one = one; inside = fits-more bs 1 first end first_fits g; reached = string_reached end r }
+
   -- the string, up to its second quote
   pub string_whole : (end : ℕ) → RestsInQuotes q bs first end → FitsInString bs first end → stands_at (quote_byte q) bs end ≡ true → IsToken d bs (end + 1) ShortString
   string_whole end r g z = string_token d q bs u o end one (fits-more bs 1 first end first_fits g) z (string_reached end r)
+
+-- A string that has no bad escape up to a place has none up to one after it.
+pub fit_on : (d : Dialect) (q : Quote) (bs : List ℕ) (at end : ℕ) → IsFit d bs at q → RestsInQuotes q bs at end → FitsInString bs at end → IsFit d bs end q
+fit_on d q bs at end h r g = record {
+  opens = h.opens;
+  one = h.one;
+  inside = fits-more bs 1 at end h.inside g;
+  reached = reached-run d bs at end (Text (text.Short q)) None None (sym (no_long (three_quotes d (chars bs)))) r h.reached;
+}
+
+-- where its second quote stands there, it is whole
+pub fit_whole : (d : Dialect) (q : Quote) (bs : List ℕ) (end : ℕ) → IsUtf8 bs → IsFit d bs end q → stands_at (quote_byte q) bs end ≡ true → IsToken d bs (end + 1) ShortString
+fit_whole d q bs end u h z = string_token d q bs u h.opens end h.one h.inside z h.reached
 
 -- What stands in strings leads from the first quote up to the second: some bytes, be the first of ASCII or not.
 module _ (d : Dialect) (q : Quote) (bs : List ℕ) (u : IsUtf8 bs) (o : opens_with d q bs ≡ true) (end : ℕ) (some : 1 < end) (r : IsRun (goes_over (short_run q)) bs 1 end)

@@ -1,31 +1,49 @@
 -- What is kept of an open token stays right where more text comes.
-use Rattle.std.proofs.Common.{◌≡◌, ℕ, zero, suc, ◌+◌, ◌≤◌, Bool, true, false, cond, List, [], ◌∷◌, ◌++◌, refl, sym, ap, ◌∙◌, subst, ⊎_elim, length, length-append, length-drop, take, drop, arith, Option, Some, None, IsUtf8}
-use Rattle.std.specs.Prelude.{encode_utf8_all}
-use Rattle.std.proofs.lemmas.Bool.{cond-true, cond-false, cases_lt, lt-ltb, le-ltb}
+use Rattle.std.proofs.Common.{◌≡◌, ℕ, zero, suc, ◌+◌, ◌-◌, ◌≤◌, Bool, true, false, cond, List, [], ◌∷◌, ◌++◌, refl, sym, ap, ◌∙◌, subst, ⊎_elim, length, length-append, length-drop, take, drop, arith, Option, Some, None, IsUtf8}
+use Rattle.std.specs.Prelude.{encode_utf8_all, is_some, nat_lt, slice_range, ◌==◌}
+use Rattle.std.proofs.lemmas.Bool.{and_from, and_parts, cond-true, cond-false, cases_lt, lt-ltb, le-ltb}
 use Rattle.std.proofs.lemmas.List.{take_all, drop_all, take-append-drop, take-append-le, drop-append-le}
 use Rattle.std.proofs.lemmas.Str.{chars-append, chars-nil, encodes-chars, IsCharBoundary-from_drop, IsUtf8-append, IsUtf8-nil, IsUtf8-drop, IsUtf8-take}
 use Rattle.std.specs.Str.{chars, IsCharBoundary}
 use Rattle.rdf_terms.specs.declared.kind.Kind.{Kind}
 use Rattle.rdf_terms.specs.declared.kind.Dialect.{Dialect}
 use Rattle.rdf_terms.specs.declared.kind.Dialect.TheVariants.{Lines, Turtle}
+use Rattle.rdf_terms.specs.Values.{of_string, outside, value}
 use Rattle.rdf_tokens.specs.declared.states.machine.State.{State}
+use Rattle.rdf_tokens.specs.declared.states.machine.State.TheVariants.{Text}
+use Rattle.rdf_tokens.specs.declared.states.text.Text.TheVariants.{Short}
+use Rattle.rdf_tokens.specs.declared.states.text.Quote.{Quote}
+use Rattle.rdf_tokens.specs.Escapes.{FitsInString}
+use Rattle.rdf_tokens.specs.Quick.{has_quote, opens_with, quote_byte, stands_at}
+use Rattle.rdf_tokens.specs.Over.{HasCome}
+use Rattle.rdf_tokens.proofs.ByteLemmas.{at-start}
+use Rattle.rdf_tokens.proofs.FitEscapes.{slice-split}
 use Rattle.rdf_tokens.specs.declared.front.Walk.{Walk}
 use Rattle.rdf_tokens.specs.Tokens.{with_length, three_quotes, only_long}
 use Rattle.rdf_tokens.specs.Machine.{kind_at, goes_on}
 use Rattle.rdf_tokens.specs.Front.{IsAt, Reached, in_bytes, longest_by, state_of, kind_by_states, open_state}
 use Rattle.rdf_tokens.specs.Moves.{good_bytes}
-use Rattle.rdf_tokens.specs.Walk.{Walked, IsCounted, walk_kept}
+use Rattle.rdf_tokens.specs.Walk.{IsFit, IsFitFor, IsWalk, IsWithin, Walked, counted_bytes, counted_chars, walk_kept}
 use Rattle.rdf_tokens.proofs.FrontLemmas.{AtMost, longest_by-at_most}
 use Rattle.rdf_tokens.proofs.GoodLemmas.{good_front}
 use Rattle.rdf_tokens.proofs.SpellingLemmas.{quotes-bytes}
 
--- the characters over which the states have come are counted
-pub counted-walk : (d : Dialect) (bs : List ℕ) (old : Option Walk) → Walked d bs old → IsCounted bs old
-counted-walk d bs None h = tt
-counted-walk d bs (Some w) h = subst (IsAt bs w.at) (sym h.counted) h.reached.here
+-- the place up to which the states have come is one of the text
+pub within-walk : (d : Dialect) (bs : List ℕ) (old : Option Walk) → Walked d bs old → IsWithin bs old
+within-walk d bs None h = tt
+within-walk d bs (Some w) h = h.reached.here.inside
+
+-- the characters of some bytes are counted
+pub counted-walk : (d : Dialect) (bs : List ℕ) (old : Option Walk) → IsUtf8 bs → Walked d bs old → IsAt bs (counted_bytes old) (counted_chars old)
+counted-walk d bs None u h = at-start bs u
+counted-walk d bs (Some w) u h = h.counted
+
+-- those of no more bytes than the text has
+pub counted-within : (d : Dialect) (bs : List ℕ) (old : Option Walk) → IsUtf8 bs → Walked d bs old → counted_bytes old ≤ length bs
+counted-within d bs old u h = (counted-walk d bs old u h).inside
 
 -- all of the characters: those before a place, and those after it
-pub counted-whole : (bs : List ℕ) (at n : ℕ) → IsAt bs at n → n + length (chars (drop at bs)) ≡ length (chars bs)
+counted-whole : (bs : List ℕ) (at n : ℕ) → IsAt bs at n → n + length (chars (drop at bs)) ≡ length (chars bs)
 counted-whole bs at n h = let c = h.count in omega (arith, ap length h.left, length-drop n (chars bs))
 
 -- those before a place are all that were counted
@@ -37,6 +55,36 @@ counted-before bs at n u h =
     ∙ (ap length (chars-append (take at bs) (drop at bs) front) ∙ length-append (chars (take at bs)) (chars (drop at bs))) in
     omega (arith, all, counted-whole bs at n h)
 
+-- those between two places are added to those before the first
+pub counted-up : (bs : List ℕ) (from to m n : ℕ) → IsUtf8 bs → IsAt bs from m → IsAt bs to n → from ≤ to → m + length (chars (slice_range bs from to)) ≡ n
+counted-up bs from to m n u h g l =
+    let a = counted-before bs from m u h in
+    let b = counted-before bs to n u g in
+    let part = slice_range bs from to in
+    let front : IsUtf8 (take from bs) = IsUtf8-take bs from u (IsCharBoundary-from_drop bs from h.inside h.utf8) in
+    let no_from : from - 0 ≡ from = omega arith in
+    let no_to : to - 0 ≡ to = omega arith in
+    let split : take to bs ≡ take from bs ++ part =
+    sym (ap (λ k. take k bs) no_to) ∙ (slice-split bs 0 from to (omega arith) l h.inside ∙ ap (λ k. take k bs ++ part) no_from) in
+    let all : length (chars (take to bs)) ≡ length (chars (take from bs)) + length (chars part) =
+    ap (λ x. length (chars x)) split ∙ (ap length (chars-append (take from bs) part front) ∙ length-append (chars (take from bs)) (chars part)) in
+    omega (arith, a, b, all)
+
+-- so all over which the states have come are
+pub walked-counted : (d : Dialect) (bs : List ℕ) (w : Walk) (count : ℕ) → IsUtf8 bs → IsWalk d bs w → count ≡ w.count + length (chars (slice_range bs w.counted w.at)) →
+    IsWalk d bs (record w { counted = w.at; count = count })
+walked-counted d bs w count u h e =
+    let here = h.reached.here in
+    let all : count ≡ h.reached.n = e ∙ counted-up bs w.counted w.at w.count h.reached.n u h.counted here h.within in
+    record { enough = h.enough; reached = h.reached; within = omega arith; counted = subst (IsAt bs w.at) (sym all) here; fit = h.fit }
+
+-- where they are, the states have come so far
+pub come-walk : (d : Dialect) (bs : List ℕ) (w : Walk) → IsUtf8 bs → IsWalk d bs w → w.counted ≡ w.at → HasCome d bs (record { state = w.state; at = w.at; count = w.count })
+come-walk d bs w u h e =
+    let here : IsAt bs w.at w.count = subst (λ k. IsAt bs k w.count) e h.counted in
+    let same : h.reached.n ≡ w.count = sym (counted-before bs w.at h.reached.n u h.reached.here) ∙ counted-before bs w.at w.count u here in
+    record { here = here; state = h.reached.state ∙ ap (λ n. state_of d (take n (chars bs))) same }
+
 -- three quotes come first or not, whatever comes after three bytes
 quotes-more : (d : Dialect) (bs more : List ℕ) → 3 ≤ length bs → three_quotes d (bs ++ more) ≡ three_quotes d bs
 quotes-more Lines bs more l = refl
@@ -44,6 +92,30 @@ quotes-more Turtle [] more l = absurd (omega arith)
 quotes-more Turtle (a ∷ []) more l = absurd (omega arith)
 quotes-more Turtle (a ∷ b ∷ []) more l = absurd (omega arith)
 quotes-more Turtle (a ∷ b ∷ c ∷ bs) more l = refl
+
+-- the first quote is the same with more text
+opens_with-more : (d : Dialect) (q : Quote) (bs more : List ℕ) → opens_with d q bs ≡ true → opens_with d q (bs ++ more) ≡ true
+opens_with-more d q [] more e = absurd (let p = (and_parts (has_quote d q) _ e).1 in let h : false ≡ true = p in cc)
+opens_with-more d q (x ∷ bs) more e = and_from (has_quote d q) _ p.0 (and_from (nat_lt 0 (length (x ∷ (bs ++ more)))) _ (lt-ltb 0 (length (x ∷ (bs ++ more))) (omega arith)) z.1)
+  where
+    p : (has_quote d q ≡ true) × (stands_at (quote_byte q) (x ∷ bs) 0 ≡ true)
+    p = and_parts (has_quote d q) _ e
+
+    z : (nat_lt 0 (length (x ∷ bs)) ≡ true) × ((x == quote_byte q) ≡ true)
+    z = and_parts (nat_lt 0 (length (x ∷ bs))) _ p.1
+
+-- bytes that fit do with more text
+fits-longer : (bs more : List ℕ) (at end : ℕ) → FitsInString bs at end → FitsInString (bs ++ more) at end
+fits-longer bs more at end h =
+    let from = h.from in
+    let within = h.within in
+    let same : slice_range (bs ++ more) at end ≡ slice_range bs at end =
+    ap (take (end - at)) (drop-append-le at bs more (omega arith)) ∙ take-append-le (end - at) (drop at bs) more (omega (arith, length-drop at bs)) in
+    record {
+      from = from;
+      within = omega (arith, length-append bs more);
+      value = λ w. ap (λ p. is_some (value of_string outside (p ++ w))) same ∙ h.value w;
+    }
 
 -- a place of the text is one of the longer text
 at-more : (bs more : List ℕ) (at n : ℕ) → IsUtf8 bs → IsUtf8 more → IsAt bs at n → IsAt (bs ++ more) at n
@@ -100,6 +172,22 @@ reached-more d bs more at s b u v l r =
           ∙ (ap (in_bytes (w ++ x)) (front-same d w x r.n three count) ∙ bytes-same w x best (at_most-le r.n (length w) best count (longest_by-at_most (kind_by_states d w) w r.n))));
     }
 
+-- a string that is fit so far is so with more text
+fit-more : (d : Dialect) (bs more : List ℕ) (at : ℕ) (q : Quote) → IsUtf8 bs → IsUtf8 more → 3 ≤ at → IsFit d bs at q → IsFit d (bs ++ more) at q
+fit-more d bs more at q u v l h =
+    let inside = h.reached.here.inside in
+    record {
+      opens = opens_with-more d q bs more h.opens;
+      one = sym (quotes-bytes d (bs ++ more) (IsUtf8-append bs more u v)) ∙ (quotes-more d bs more (omega arith) ∙ (quotes-bytes d bs u ∙ h.one));
+      inside = fits-longer bs more 1 at h.inside;
+      reached = reached-more d bs more at (Text (Short q)) None u v l h.reached;
+    }
+
+-- where a quote is kept
+fit_for-more : (d : Dialect) (bs more : List ℕ) (at : ℕ) (q : Option Quote) → IsUtf8 bs → IsUtf8 more → 3 ≤ at → IsFitFor d bs at q → IsFitFor d (bs ++ more) at q
+fit_for-more d bs more at None u v l h = tt
+fit_for-more d bs more at (Some q) u v l h = fit-more d bs more at q u v l h
+
 -- what is kept of an open token is right with more text, so it need not be read again
 pub walked-more : (d : Dialect) (bs more : List ℕ) (old : Option Walk) → IsUtf8 bs → IsUtf8 more → Walked d bs old → Walked d (bs ++ more) old
 unfolding reached-more
@@ -107,7 +195,9 @@ walked-more d bs more None u v h = tt
 walked-more d bs more (Some w) u v h = record {
   enough = h.enough;
   reached = reached-more d bs more w.at w.state (with_length w.len w.kind None) u v h.enough h.reached;
-  counted = h.counted;
+  within = h.within;
+  counted = at-more bs more w.counted w.count u v h.counted;
+  fit = fit_for-more d bs more w.at w.fit u v h.enough h.fit;
 }
 
 -- where a piece comes after the rest of a text
@@ -135,16 +225,19 @@ opened true s x e = cc
 opened false s x e = absurd (let h : Some s ≡ None = e in cc)
 
 -- what is kept after a text is right of it
-pub walked-kept : (d : Dialect) (bs : List ℕ) (old : Option Walk) (n count len : ℕ) (kind : Option Kind) (state : Option State) → IsUtf8 bs → Walked d bs old → n ≡ length bs →
-    count ≡ length (chars bs) →
+pub walked-kept : (d : Dialect) (bs : List ℕ) (old : Option Walk) (n len : ℕ) (kind : Option Kind) (state : Option State) → IsUtf8 bs → Walked d bs old → n ≡ length bs →
     with_length len kind None ≡ in_bytes (chars bs) (longest_by (kind_by_states d (chars bs)) (chars bs) (length (chars bs))) →
-    state ≡ open_state d (state_of d (chars bs)) → Walked d bs (walk_kept old n count len kind state)
-walked-kept d bs old n count len kind None u h e m f g = h
-walked-kept d bs old n count len kind (Some s) u h e m f g = ⊎_elim
+    state ≡ open_state d (state_of d (chars bs)) → Walked d bs (walk_kept old n len kind state)
+walked-kept d bs old n len kind None u h e f g = h
+walked-kept d bs old n len kind (Some s) u h e f g = ⊎_elim
     (λ l. subst (Walked d bs) (sym (cond-true _ _ _ (lt-ltb n 3 l))) h)
-    (λ l. subst (Walked d bs) (sym (cond-false _ _ _ (le-ltb n 3 l))) (record { enough = l; reached = reached; counted = m }))
+    (λ l. subst (Walked d bs) (sym (cond-false _ _ _ (le-ltb n 3 l)))
+    (record { enough = l; reached = reached; within = within; counted = counted-walk d bs old u h; fit = tt }))
     (cases_lt n 3)
   where
+    within : counted_bytes old ≤ n
+    within = let i = counted-within d bs old u h in omega (arith, e)
+
     reached : Reached d bs n s (with_length len kind None)
     reached =
         let w = chars bs in
@@ -155,6 +248,12 @@ walked-kept d bs old n count len kind (Some s) u h e m f g = ⊎_elim
           state = state ∙ ap (state_of d) (sym (take_all (length w) w (omega arith)));
           front = f;
         }
+
+-- it is right where a token goes on at a place
+pub walked-to : (d : Dialect) (bs : List ℕ) (old : Option Walk) (s : State) (at : ℕ) (fit : Option Quote) → IsUtf8 bs → Walked d bs old → counted_bytes old ≤ at → 3 ≤ at →
+    Reached d bs at s None → IsFitFor d bs at fit →
+    IsWalk d bs (record { state = s; at = at; counted = counted_bytes old; count = counted_chars old; len = 0; kind = None; fit = fit })
+walked-to d bs old s at fit u h c l r f = record { enough = l; reached = r; within = c; counted = counted-walk d bs old u h; fit = f }
 
 -- what is kept or what was there, as a test says
 pub walked_if : (d : Dialect) (bs : List ℕ) (b : Bool) (new old : Option Walk) → Walked d bs new → Walked d bs old → Walked d bs (cond b new old)

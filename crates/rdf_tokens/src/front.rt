@@ -1,11 +1,11 @@
 // The longest token at the front of a text.
 
-ghost use Rattle.std.specs.Prelude.{◌≡◌, ◌≤◌, cond, length, get_or};
-ghost use Rattle.std.specs.Str.{chars};
+ghost use Rattle.std.specs.Prelude.{◌≡◌, ◌≤◌, ℕ, List, cond, length, get_or};
+ghost use Rattle.std.specs.Str.{chars, IsUtf8};
 ghost use Rattle.rdf_terms.specs.Shapes.{is_live};
 ghost use Rattle.rdf_tokens.specs.Tokens.{three_quotes, only_long, with_length, longest};
 ghost use Rattle.rdf_tokens.specs.Front.{HasBegun, Reached, IsLongestByStates, in_bytes, longer_front, state_of, kind_here, open_state};
-ghost use Rattle.rdf_tokens.specs.Walk.{Walked, IsWalk, IsCounted, walk_kept};
+ghost use Rattle.rdf_tokens.specs.Walk.{Walked, IsWalk, IsFitFor, IsWithin, counted_bytes, counted_chars, walk_kept};
 ghost use Rattle.rdf_tokens.specs.NoNames.{is_prefix_byte, BeginsNoName, HasNoNames};
 ghost use Rattle.rdf_terms.specs.Classes.{is_letter};
 ghost use Rattle.rdf_terms.specs.Runs.{IsRun};
@@ -23,8 +23,11 @@ use crate::states::name::Name;
 use crate::states::number::Number;
 use crate::states::shape::Shape;
 use crate::states::tag::Tag;
-use crate::states::text::Text;
+use crate::states::text::{Quote, Text};
 use rdf_terms::{Dialect, Kind};
+
+/// The number of bytes of the longest escape.
+const LONGEST_ESCAPE: usize = 10;
 
 /// What stands at the front of a text.
 #[derive(Drop)]
@@ -35,15 +38,20 @@ pub(crate) struct Front {
     pub(crate) live: bool,
 }
 
-/// How far the states have come in a token that is open: the state after its bytes so far, how many characters these are, and the
-/// longest token in them.
+/// How far the states have come in a token that is open: the state after its bytes so far, and the longest token in them.
 #[derive(Clone, Copy)]
 pub(crate) struct Walk {
     pub(crate) state: State,
     pub(crate) at: usize,
+    /// The first bytes of which the characters are counted, and how many these are. They are counted only where the
+    /// limit may be passed.
+    pub(crate) counted: usize,
     pub(crate) count: usize,
     len: usize,
     kind: Option<Kind>,
+    /// The quote of a string with one at each end, where its bytes so far are plain ones and whole escapes, none of
+    /// which is bad.
+    pub(crate) fit: Option<Quote>,
 }
 
 /// The end of a text within which names were sought and none was found: the bytes after the end, the state after the whole
@@ -73,7 +81,7 @@ pub(crate) fn front_of(
     ensures no_names { HasNoNames dialect text.now no_names.new }
 {
     let shaped = shaped_front(dialect, text, walk, no_names);
-    keep(walk, text, more, &shaped);
+    keep(walk, text, moves_on(text, more, walk), &shaped);
     Front {
         best: longer(
             fixed_front(dialect, text.as_bytes()),
@@ -99,51 +107,68 @@ struct Best {
     kind: Option<Kind>,
 }
 
-/// Keeps how far the states came where they go on and more text may come. After fewer than three bytes quotes may still turn into those of a
-/// long string. Where nothing more comes, each token is looked at once, so the characters of the whole text need not be counted for it.
+/// Whether it is kept how far the states come: where more may come. A string that has no bad escape so far, and no more
+/// than the beginning of an escape after that, is gone on with before the escape.
+fn moves_on(text: &str, more: bool, walk: &Option<Walk>) -> bool
+    requires { IsWithin text.now walk.now }
+{
+    match walk {
+        Some(walk) if walk.fit.is_some() => more && text.len() - walk.at >= LONGEST_ESCAPE,
+        _ => more,
+    }
+}
+
+/// Keeps how far the states came where they go on and more text may come. After fewer than three bytes quotes may still
+/// turn into those of a long string.
 fn keep(walk: &mut Option<Walk>, text: &str, more: bool, shaped: &Shaped)
-    requires { IsCounted text.now walk.old }
-    ensures { walk.new ≡ cond more (walk_kept walk.old (length text.now) (length (chars text.now)) shaped.now.len shaped.now.kind shaped.now.state) walk.old }
+    ensures { walk.new ≡ cond more (walk_kept walk.old (length text.now) shaped.now.len shaped.now.kind shaped.now.state) walk.old }
 {
     if !more {
         return;
     }
     if let Some(state) = shaped.state {
         if text.len() >= 3 {
+            let (counted, count) = counted_in(walk);
             *walk = Some(Walk {
                 state,
                 at: text.len(),
-                count: all_chars(text, walk),
+                counted,
+                count,
                 len: shaped.len,
                 kind: shaped.kind,
+                fit: None,
             });
         }
     }
 }
 
-/// How far the states come in a token that goes on at this place, by the state there. No shorter token stands before it.
-pub(crate) fn walk_to(dialect: Dialect, state: State, text: &str, at: usize) -> Walk
-    requires enough { 3 ≤ at }
-    requires reached { Reached dialect text.now at state None }
-    ensures { IsWalk dialect text.now result }
+/// Of how many bytes the characters are counted, and how many these are.
+fn counted_in(walk: &Option<Walk>) -> (usize, usize)
+    ensures bytes { result.0 ≡ counted_bytes walk.now }
+    ensures characters { result.1 ≡ counted_chars walk.now }
 {
-    Walk {
-        state,
-        at,
-        count: char_count(&text[..at]),
-        len: 0,
-        kind: None,
+    match walk {
+        Some(walk) => (walk.counted, walk.count),
+        None => (0, 0),
     }
 }
 
-/// How many characters a text has. Those over which the states have come are not counted again.
-fn all_chars(text: &str, walk: &Option<Walk>) -> usize
-    requires { IsCounted text.now walk.now }
-    ensures { result ≡ length (chars text.now) }
+/// How far the states come in a token that goes on at this place, by the state there, after what was kept before. No
+/// shorter token stands before it. Of a string with one quote at each end that has no bad escape so far it is kept in
+/// which quote it stands.
+pub(crate) fn walk_to(before: &Option<Walk>, state: State, at: usize, fit: Option<Quote>) -> Walk
+    ensures { (d : Dialect) (bs : List ℕ) → IsUtf8 bs → Walked d bs before.now → counted_bytes before.now ≤ at → 3 ≤ at →
+        Reached d bs at state None → IsFitFor d bs at fit → IsWalk d bs result }
 {
-    match walk {
-        Some(walk) => walk.count + char_count(&text[walk.at..]),
-        None => char_count(text),
+    let (counted, count) = counted_in(before);
+    Walk {
+        state,
+        at,
+        counted,
+        count,
+        len: 0,
+        kind: None,
+        fit,
     }
 }
 

@@ -25,7 +25,53 @@ pub struct GoodText<'a> {
 }
 
 /// The longest front of the bytes that is UTF-8.
+#[inline(always)]
 pub fn good_front(bytes: &[u8]) -> GoodText<'_>
+    ensures text { result.text.now ≡ take (utf8_valid_len bytes.now) bytes.now }
+    ensures broken { result.broken ≡ is_broken bytes.now }
+{
+    match bytes {
+        [.., 0x80..=0xFF] => wide_front(bytes),
+        _ => tested_front(bytes),
+    }
+}
+
+/// The same of bytes that end in a character above U+007F, or within one, as a part of a text may. Then what stands
+/// before it is tested alone: a test of all would fail, and be made anew.
+#[cold]
+#[inline(never)]
+fn wide_front(bytes: &[u8]) -> GoodText<'_>
+    ensures text { result.text.now ≡ take (utf8_valid_len bytes.now) bytes.now }
+    ensures broken { result.broken ≡ is_broken bytes.now }
+{
+    let (front, rest) = bytes.split_at(last_start(bytes));
+    match from_utf8(rest) {
+        Err(e) if e.valid_up_to() == 0 => match from_utf8(front) {
+            Ok(text) => GoodText {
+                text,
+                broken: e.error_len().is_some(),
+            },
+            Err(_) => tested_front(bytes),
+        },
+        _ => tested_front(bytes),
+    }
+}
+
+/// Where the last character begins, by its first byte, where it is not whole, or how many bytes there are.
+fn last_start(bytes: &[u8]) -> usize
+    ensures { result ≤ length bytes.now }
+{
+    match bytes {
+        [.., 0xC2..=0xFF] => bytes.len() - 1,
+        [.., 0xE0..=0xFF, _] => bytes.len() - 2,
+        [.., 0xF0..=0xFF, _, _] => bytes.len() - 3,
+        _ => bytes.len(),
+    }
+}
+
+/// The same by one test of all.
+#[inline(always)]
+fn tested_front(bytes: &[u8]) -> GoodText<'_>
     ensures text { result.text.now ≡ take (utf8_valid_len bytes.now) bytes.now }
     ensures broken { result.broken ≡ is_broken bytes.now }
 {

@@ -1,6 +1,6 @@
 // References in angle brackets, read without the states.
 
-ghost use Rattle.std.specs.Prelude.{◌≡◌, true, IfSome};
+ghost use Rattle.std.specs.Prelude.{◌≡◌, None, true, IfSome};
 ghost use Rattle.rdf_terms.specs.declared.kind.Kind.TheVariants.{IriRef};
 ghost use Rattle.rdf_tokens.specs.Quick.{IsToken, begins_iri};
 ghost use Rattle.rdf_tokens.specs.Walk.{Walked};
@@ -31,6 +31,7 @@ pub(crate) fn iri_len(dialect: Dialect, text: &str, walk: &mut Option<Walk>) -> 
 fn enclosed_len(dialect: Dialect, text: &str, walk: &mut Option<Walk>) -> Option<usize>
     requires opens { begins_iri text.now ≡ true }
     requires walked { Walked dialect text.now walk.old }
+    requires none { walk.old ≡ None }
     ensures token { IfSome result (λ len. IsToken dialect text.now len IriRef) }
     ensures walked { Walked dialect text.now walk.new }
 {
@@ -40,7 +41,7 @@ fn enclosed_len(dialect: Dialect, text: &str, walk: &mut Option<Walk>) -> Option
         return Some(end + 1);
     }
     if end >= 3 {
-        *walk = Some(walk_to(dialect, State::Iri(Iri::Inside), text, end));
+        *walk = Some(walk_to(walk, State::Iri(Iri::Inside), end, None));
     }
     None
 }

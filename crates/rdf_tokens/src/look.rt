@@ -45,12 +45,13 @@ pub(crate) fn first_look(
     dialect: Dialect,
     text: &str,
     limit: u64,
-    walk: &Option<Walk>,
+    walk: &mut Option<Walk>,
     no_names: &Option<NoNames>,
 ) -> Option<Look>
-    requires walked { Walked dialect text.now walk.now }
+    requires walked { Walked dialect text.now walk.old }
     requires no_names { HasNoNames dialect text.now no_names.now }
-    ensures { IsFirstLook dialect limit result text.now }
+    ensures look { IsFirstLook dialect limit result text.now }
+    ensures walked { Walked dialect text.now walk.new }
 {
     if is_over(dialect, text, limit, walk, no_names) {
         return Some(Look::Stop(Reason::TokenTooLong));

@@ -4,11 +4,12 @@ ghost use Rattle.std.specs.Prelude.{◌≡◌, ◌≤◌, ◌<◌, ◌+◌, ◌�
 ghost use Rattle.std.specs.Str.{chars};
 ghost use Rattle.rdf_tokens.specs.Tokens.{over};
 ghost use Rattle.rdf_tokens.specs.Over.{shaped_over, HasCome};
-ghost use Rattle.rdf_tokens.specs.Walk.{Walked};
+ghost use Rattle.rdf_tokens.specs.Walk.{Walked, AreCounted};
 ghost use Rattle.rdf_tokens.specs.NoNames.{HasNoNames, Ends, ends_within};
 ghost use Rattle.rdf_tokens.specs.Machine.{goes_on};
 
 use crate::bytes::char_at;
+use crate::count::char_count;
 use crate::front::{NoNames, Walk, begins_in_letter};
 use crate::states::fixed::is_fixed_over;
 use crate::states::machine::State;
@@ -20,12 +21,13 @@ pub(crate) fn is_over(
     dialect: Dialect,
     text: &str,
     limit: u64,
-    walk: &Option<Walk>,
+    walk: &mut Option<Walk>,
     no_names: &Option<NoNames>,
 ) -> bool
-    requires walked { Walked dialect text.now walk.now }
+    requires walked { Walked dialect text.now walk.old }
     requires no_names { HasNoNames dialect text.now no_names.now }
-    ensures { result ≡ over dialect limit (chars text.now) }
+    ensures over { result ≡ over dialect limit (chars text.now) }
+    ensures walked { Walked dialect text.now walk.new }
 {
     if text.len() as u64 <= limit {
         return false;
@@ -40,18 +42,34 @@ fn is_shaped_over(
     dialect: Dialect,
     text: &str,
     limit: usize,
-    walk: &Option<Walk>,
+    walk: &mut Option<Walk>,
     no_names: &Option<NoNames>,
 ) -> bool
     requires long { limit < length text.now }
-    requires walked { Walked dialect text.now walk.now }
+    requires walked { Walked dialect text.now walk.old }
     requires no_names { HasNoNames dialect text.now no_names.now }
-    ensures { result ≡ shaped_over dialect limit (chars text.now) }
+    ensures over { result ≡ shaped_over dialect limit (chars text.now) }
+    ensures walked { Walked dialect text.now walk.new }
 {
     if ends_within(text.as_bytes(), limit, no_names) {
         return false;
     }
+    count_up(dialect, text, walk);
     is_over_from(dialect, text, limit, resumed(walk, limit))
+}
+
+/// Counts the characters over which the states have come, but for those that were counted before.
+fn count_up(dialect: Dialect, text: &str, walk: &mut Option<Walk>)
+    requires { Walked dialect text.now walk.old }
+    ensures walked { Walked dialect text.now walk.new }
+    ensures all { AreCounted walk.new }
+{
+    if let Some(known) = *walk {
+        let mut known = known;
+        known.count += char_count(&text[known.counted..known.at]);
+        known.counted = known.at;
+        *walk = Some(known);
+    }
 }
 
 /// Whether no name begins with the letter at the front, and the states are known to end within so many characters.
@@ -120,7 +138,7 @@ struct Begun {
 
 /// How far the states have come, if it is no further than the limit.
 fn resumed(walk: &Option<Walk>, limit: usize) -> Begun
-    ensures came { (d : Dialect) (bs : List ℕ) → IsUtf8 bs → Walked d bs walk.now → HasCome d bs result }
+    ensures came { (d : Dialect) (bs : List ℕ) → IsUtf8 bs → Walked d bs walk.now → AreCounted walk.now → HasCome d bs result }
     ensures few { result.count ≤ limit }
 {
     match walk {

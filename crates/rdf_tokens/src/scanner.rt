@@ -339,7 +339,13 @@ impl<A: Allocator + Copy> Scanner<A> {
         ensures same { self.new ≡ self.old }
     {
         let rest = &self.text.as_str()[self.start..];
-        if let Some(look) = first_look(self.dialect, rest, self.limit, &self.walk, &self.no_names) {
+        if let Some(look) = first_look(
+            self.dialect,
+            rest,
+            self.limit,
+            &mut self.walk,
+            &self.no_names,
+        ) {
             return look;
         }
         let tail = self.tail();

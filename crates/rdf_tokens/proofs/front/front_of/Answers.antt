@@ -7,7 +7,7 @@ use Rattle.rdf_tokens.specs.Front.{front_by, state_of}
 use Rattle.rdf_tokens.specs.Machine.{goes_on}
 use Rattle.rdf_tokens.specs.Walk.{Walked}
 use Rattle.rdf_tokens.proofs.StateLemmas.{front-bytes, live-bytes, open-live}
-use Rattle.rdf_tokens.proofs.WalkLemmas.{counted-walk, walked-kept, walked_if}
+use Rattle.rdf_tokens.proofs.WalkLemmas.{within-walk, walked-kept, walked_if}
 use Rattle.rdf_tokens.proofs.front.front_of.Goals as goal
 
 pub returns-then-is_some-clause-best : goal.returns-then-is_some-clause-best
@@ -28,8 +28,8 @@ pub returns-then-is_some-clause-walked : goal.returns-then-is_some-clause-walked
 returns-then-is_some-clause-walked c =
     let shaped = c.shaped_front-shaped in
     subst (Walked c.args.dialect c.args.text.now) (sym c.keep.ensures)
-    (walked_if c.args.dialect c.args.text.now c.args.more _ _
-    (walked-kept c.args.dialect c.args.text.now _ _ _ shaped.result.len shaped.result.kind shaped.result.state c.utf8.text c.requires.walked refl refl shaped.ensures.best shaped.ensures.state)
+    (walked_if c.args.dialect c.args.text.now _ _ _
+    (walked-kept c.args.dialect c.args.text.now _ _ shaped.result.len shaped.result.kind shaped.result.state c.utf8.text c.requires.walked refl shaped.ensures.best shaped.ensures.state)
     c.requires.walked)
 
 pub returns-else-is_some-clause-best : goal.returns-else-is_some-clause-best
@@ -46,5 +46,5 @@ returns-else-is_some-clause-live c =
     let whole = sym (ap (λ t. t || live_by (rows_of d fixed) bs) goes) ∙ live-bytes d bs c.utf8.text in
     c.is_fixed_live.ensures ∙ (ap (live_by (rows_of d fixed)) c.as_bytes-else-is_some.ensures.value ∙ whole)
 
-pub keep-requires : goal.keep-requires
-keep-requires c = counted-walk c.args.dialect c.args.text.now _ c.requires.walked
+pub moves_on-requires : goal.moves_on-requires
+moves_on-requires c = within-walk c.args.dialect c.args.text.now _ c.requires.walked

@@ -1,10 +1,11 @@
 -- The states have come to the place where the inside of the reference ends.
-use Rattle.std.proofs.Common.{◌≡◌, ◌+◌, true, sym, ◌∙◌, subst, None, IsUtf8}
+use Rattle.std.proofs.Common.{◌≡◌, ◌+◌, ◌≤◌, arith, true, sym, ◌∙◌, subst, None, IsUtf8}
 use Rattle.rdf_terms.specs.declared.kind.Kind.TheVariants.{IriRef}
 use Rattle.rdf_tokens.specs.declared.states.iri.Iri.TheVariants.{Inside}
 use Rattle.rdf_tokens.specs.declared.states.machine.State.TheVariants.{Iri}
 use Rattle.rdf_tokens.specs.Front.{Reached}
 use Rattle.rdf_tokens.specs.Quick.{IsToken, begins_iri}
+use Rattle.rdf_tokens.specs.Walk.{counted_bytes}
 use Rattle.rdf_tokens.proofs.PlainQuick.{iri_reached, iri_whole}
 use Rattle.rdf_tokens.proofs.iris.enclosed_len.Goals as goal
 
@@ -17,11 +18,13 @@ returns-then-stands_at-clause-token c =
     subst (λ b. IsToken d b (e.result + 1) IriRef) v
     (iri_whole d bs (subst IsUtf8 (sym v) c.utf8.text) (subst (λ b. begins_iri b ≡ true) (sym v) c.requires.opens) e.result e.ensures.rests e.ensures.fits (sym c.stands_at.ensures ∙ c.if-stands_at.true))
 
-pub walk_to-requires-clause-reached : goal.walk_to-requires-clause-reached
-walk_to-requires-clause-reached c =
+pub returns-then-end-ge3-clause-walked : goal.returns-then-end-ge3-clause-walked
+returns-then-end-ge3-clause-walked c =
     let bs = c.as_bytes-bytes.result.now in
     let v = c.as_bytes-bytes.ensures.value in
     let d = c.args.dialect in
     let e = c.iri_end-end in
-    subst (λ b. Reached d b e.result (Iri Inside) None) v
-    (iri_reached d bs (subst IsUtf8 (sym v) c.utf8.text) (subst (λ b. begins_iri b ≡ true) (sym v) c.requires.opens) e.result e.ensures.rests)
+    let some = c.if-end-ge3.true in
+    c.walk_to.ensures d c.args.text.now c.utf8.text c.requires.walked (subst (λ o. counted_bytes o ≤ e.result) (sym c.requires.none) (omega arith)) (omega arith)
+    (subst (λ b. Reached d b e.result (Iri Inside) None) v
+    (iri_reached d bs (subst IsUtf8 (sym v) c.utf8.text) (subst (λ b. begins_iri b ≡ true) (sym v) c.requires.opens) e.result e.ensures.rests)) tt

@@ -6,17 +6,17 @@ use Rattle.rdf_tokens.specs.Over.{fixed_over}
 use Rattle.rdf_tokens.proofs.OverLemmas.{over-bytes, over-short}
 use Rattle.rdf_tokens.proofs.over.is_over.Goals as goal
 
-pub returns-then-text-limit : goal.returns-then-text-limit
-returns-then-text-limit c = sym (over-short c.args.dialect c.args.limit c.args.text.now c.utf8.text (omega arith))
+pub returns-then-text-limit-clause-over : goal.returns-then-text-limit-clause-over
+returns-then-text-limit-clause-over c = sym (over-short c.args.dialect c.args.limit c.args.text.now c.utf8.text (omega arith))
 
-pub returns-then-is_shaped_over : goal.returns-then-is_shaped_over
-returns-then-is_shaped_over c =
+pub returns-then-is_shaped_over-clause-over : goal.returns-then-is_shaped_over-clause-over
+returns-then-is_shaped_over-clause-over c =
     c.if-is_shaped_over.true
     ∙ sym (over-bytes c.args.dialect c.args.limit c.args.text.now c.utf8.text
-    ∙ ap (λ b. b || fixed_over (rows_of c.args.dialect fixed) c.args.limit c.args.text.now) (sym c.is_shaped_over.ensures ∙ c.if-is_shaped_over.true))
+    ∙ ap (λ b. b || fixed_over (rows_of c.args.dialect fixed) c.args.limit c.args.text.now) (sym c.is_shaped_over.ensures.over ∙ c.if-is_shaped_over.true))
 
-pub returns-else-is_shaped_over : goal.returns-else-is_shaped_over
-returns-else-is_shaped_over c =
+pub returns-else-is_shaped_over-clause-over : goal.returns-else-is_shaped_over-clause-over
+returns-else-is_shaped_over-clause-over c =
     c.is_fixed_over.ensures ∙ (ap (fixed_over (rows_of c.args.dialect fixed) c.args.limit) c.as_bytes.ensures.value
     ∙ sym (over-bytes c.args.dialect c.args.limit c.args.text.now c.utf8.text
-    ∙ ap (λ b. b || fixed_over (rows_of c.args.dialect fixed) c.args.limit c.args.text.now) (sym c.is_shaped_over.ensures ∙ c.if-is_shaped_over.false)))
+    ∙ ap (λ b. b || fixed_over (rows_of c.args.dialect fixed) c.args.limit c.args.text.now) (sym c.is_shaped_over.ensures.over ∙ c.if-is_shaped_over.false)))

@@ -3,7 +3,7 @@ use Rattle.std.proofs.Math.Seq.{drop-length, take-length}
 use Rattle.std.proofs.lemmas.Str.{utf8_valid_len-IsUtf8}
 use Rattle.std.specs.Str.Lossy.{utf8_valid_len, utf8_error_len}
 use Rattle.rdf_tokens.proofs.GoodLemmas.{utf8_error_len-nil}
-use Rattle.rdf_tokens.proofs.good.good_front.Goals as goal
+use Rattle.rdf_tokens.proofs.good.tested_front.Goals as goal
 
 pub returns-in-Ok-clause-text : goal.returns-in-Ok-clause-text
 returns-in-Ok-clause-text c =
