@@ -5,7 +5,8 @@ use Rattle.std.proofs.lemmas.Bool.Decides.{nat_tests}
 use Rattle.std.proofs.lemmas.List.{drop_more, drop_all}
 use Rattle.rdf_terms.specs.declared.kind.Dialect.{Dialect}
 use Rattle.rdf_terms.specs.declared.kind.Dialect.TheVariants.{Lines, Turtle}
-use Rattle.rdf_terms.specs.Runs.{IsRun, PassBetween, is_space as is_space_byte}
+use Rattle.memchr.specs.Find.{IsFirstByte, is_byte2}
+use Rattle.rdf_terms.specs.Runs.{IsRun, PassBetween, is_comment_byte, is_space as is_space_byte}
 use Rattle.rdf_tokens.specs.Tokens.{is_line_end, is_space, blank}
 use Rattle.rdf_tokens.specs.Blank.{comment_after, comment_step, goes_on, is_bare, is_cut, is_hash}
 use Rattle.rdf_tokens.specs.Quick.{stands_at}
@@ -152,6 +153,48 @@ hash_opens d bs at e =
     opens Lines w = let len : blank Lines false (35 ∷ w) ≡ blank Lines true (35 ∷ w) = refl in record { len = omega (arith, len); comment = refl }
     opens Turtle w = let len : blank Turtle false (35 ∷ w) ≡ blank Turtle true (35 ∷ w) = refl in record { len = omega (arith, len); comment = refl }
 
+-- bytes of which none is a line feed have none
+no_feeds : (p : ℕ → Bool) → ((c : ℕ) → p c ≡ true → (c == 10) ≡ false) → (bs : List ℕ) (n at : ℕ) → at + n ≤ length bs → PassBetween p bs at (at + n) →
+    count_by (λ b. b == 10) (take n (drop at bs)) ≡ 0
+no_feeds p flat bs zero at l pass = refl
+no_feeds p flat bs (suc n) at l pass =
+    let c = get_or bs at 0 in
+    let f = flat c (pass at (omega arith) (omega arith)) in
+    let rest = no_feeds p flat bs n (at + 1) (omega arith) (λ k x y. pass k (omega arith) (omega arith)) in
+    let all = feeds-append (c ∷ []) (take n (drop (at + 1) bs)) in
+    let one : count_by (λ b. b == 10) (c ∷ []) ≡ 0 = ap (λ b. 0 + cond b 1 0) f in
+    let same = ap (λ w. count_by (λ b. b == 10) (take (suc n) w)) (drop_more bs at 0 (omega arith)) in
+    omega (arith, rest, all, one, same)
+
+-- where no byte ends a line, a comment goes over all
+pub no_line_end : (bs : List ℕ) (r : Option ℕ) (b : Bool) → IsFirstByte (is_byte2 10 13) bs r → is_some r ≡ not b → b ≡ true → IsRun is_comment_byte bs 0 (length bs)
+no_line_end bs None b h s e = record {
+  from = omega arith;
+  within = omega arith;
+  pass = λ k l m. not_true (is_byte2 10 13 (get_or bs k 0)) (h k l m);
+  stops = λ l. absurd (omega (arith, l));
+}
+  where
+    not_true : (t : Bool) → ¬ (t ≡ true) → not t ≡ true
+    not_true true n = absurd (n refl)
+    not_true false n = refl
+no_line_end bs (Some k) b h s e = absurd (false≢true (sym (s ∙ ap not e)))
+
+-- what such a text is to an open comment
+module _ (bs : List ℕ) (r : IsRun is_comment_byte bs 0 (length bs)) where
+  pub in_comment : (d : Dialect) → (blank d true bs ≡ length bs) × (comment_after d true bs ≡ true)
+  in_comment d =
+      let same : is_cut true bs (length bs) ≡ true = grind (arith, nat_tests) in
+      let c = cut_on d true bs 0 (length bs) (record { from = r.from; within = r.within; pass = r.pass; stops = r.stops }) same in
+      let len = c.0 in
+      (omega (arith, len), c.1)
+
+  pub flat_comment : count_by (λ b. b == 10) (take (length bs) bs) ≡ 0
+  flat_comment = no_feeds is_comment_byte flat bs (length bs) 0 (omega arith) (λ k l m. r.pass k l (omega arith))
+    where
+      flat : (c : ℕ) → is_comment_byte c ≡ true → (c == 10) ≡ false
+      flat c e = grind (arith, nat_tests)
+
 -- A line feed, a run of spaces and tabs, and no more white space: so much comes first, and no comment is open.
 module _ (bs : List ℕ) (end : ℕ) (z : stands_at 10 bs 0 ≡ true) (r : IsRun is_space_byte bs 1 end) (b : is_bare bs end ≡ true) where
   feed : (0 < length bs) × (get_or bs 0 0 ≡ 10)
@@ -196,20 +239,11 @@ module _ (bs : List ℕ) (end : ℕ) (z : stands_at 10 bs 0 ≡ true) (r : IsRun
       let n : suc (end - 1) ≡ end = omega arith in
       let cut : take end bs ≡ 10 ∷ take (end - 1) (drop 1 bs) =
       ap (λ k. take k bs) (sym n) ∙ (ap (take (suc (end - 1))) (drop_more bs 0 0 feed.0) ∙ ap (λ c. c ∷ take (end - 1) (drop 1 bs)) feed.1) in
-      let rest = no_feeds (end - 1) 1 (omega arith) (λ k l m. r.pass k l (omega arith)) in
+      let rest = no_feeds is_space_byte flat bs (end - 1) 1 (omega arith) (λ k l m. r.pass k l (omega arith)) in
       let all = feeds-append (10 ∷ []) (take (end - 1) (drop 1 bs)) in
       let one : count_by (λ b. b == 10) (10 ∷ []) ≡ 1 = refl in
       let same = ap (count_by (λ b. b == 10)) cut in
       omega (arith, rest, all, one, same)
     where
-      no_feeds : (n at : ℕ) → at + n ≤ length bs → PassBetween is_space_byte bs at (at + n) → count_by (λ b. b == 10) (take n (drop at bs)) ≡ 0
-      no_feeds zero at l p = refl
-      no_feeds (suc n) at l p =
-          let c = get_or bs at 0 in
-          let e : is_space_byte c ≡ true = p at (omega arith) (omega arith) in
-          let f : (c == 10) ≡ false = grind (arith, nat_tests) in
-          let rest = no_feeds n (at + 1) (omega arith) (λ k x y. p k (omega arith) (omega arith)) in
-          let all = feeds-append (c ∷ []) (take n (drop (at + 1) bs)) in
-          let one : count_by (λ b. b == 10) (c ∷ []) ≡ 0 = ap (λ b. 0 + cond b 1 0) f in
-          let same = ap (λ w. count_by (λ b. b == 10) (take (suc n) w)) (drop_more bs at 0 (omega arith)) in
-          omega (arith, rest, all, one, same)
+      flat : (c : ℕ) → is_space_byte c ≡ true → (c == 10) ≡ false
+      flat c e = grind (arith, nat_tests)

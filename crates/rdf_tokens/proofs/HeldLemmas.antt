@@ -155,11 +155,11 @@ module _ (text : List ℕ) (start n len : ℕ) (pending : List ℕ) (place taken
           last = h.last;
         }
 
--- the line feeds in white space of so many bytes
-pub blank_feeds : {n : ℕ} (d : Dialect) (bs : List ℕ) → IsUtf8 bs → blank d false bs ≡ n →
-    count_by (λ c. c == 10) (take (blank d false (chars bs)) (chars bs)) ≡ count_by (λ b. b == 10) (take n bs)
-blank_feeds {n} d bs u e =
-    let c = cut bs (blank d false (chars bs)) n u (sym e ∙ blank-bytes d false bs u) in
+-- the line feeds in white space and comments of so many bytes
+pub blank_feeds : {n : ℕ} (d : Dialect) (b : Bool) (bs : List ℕ) → IsUtf8 bs → blank d b bs ≡ n →
+    count_by (λ c. c == 10) (take (blank d b (chars bs)) (chars bs)) ≡ count_by (λ b. b == 10) (take n bs)
+blank_feeds {n} d b bs u e =
+    let c = cut bs (blank d b (chars bs)) n u (sym e ∙ blank-bytes d b bs u) in
     sym (feeds-chars (take n bs) c.front_utf8 ∙ ap (count_by (λ b. b == 10)) c.front)
 
 -- the place after all of the text

@@ -125,9 +125,9 @@ bared_is v new rest len comment h r b l k =
     ∙ (ap (λ b. moved v (past v.place (take n v.text)) b comment (drop n v.text)) b
     ∙ ap (λ k. moved v (past v.place (take n v.text)) true k (drop n v.text)) (k ∙ ap (comment_after v.dialect v.comment) r))
 
--- the same where so many bytes of it stand there, and no comment is open
-pub one_bared : {len : ℕ} (v new : Unread) (rest : List ℕ) → MovesBytes v len new → rest ≡ v.text →
-    v.begun ≡ true → v.comment ≡ false → bytes_of (blank v.dialect false rest) rest ≡ len → comment_after v.dialect false rest ≡ false → new ≡ bared v
+-- the same where so many bytes of it stand there, and a comment is open as it was, or none
+pub one_bared : {len : ℕ} {open_as : Bool} (v new : Unread) (rest : List ℕ) → MovesBytes v len new → rest ≡ v.text →
+    v.begun ≡ true → v.comment ≡ open_as → bytes_of (blank v.dialect open_as rest) rest ≡ len → comment_after v.dialect open_as rest ≡ open_as → new ≡ bared v
 one_bared {len} v new rest h r b c l k =
     bared_is v new rest len v.comment h r b (sym l ∙ ap (λ k. bytes_of (blank v.dialect k rest) rest) (sym c)) (c ∙ (sym k ∙ ap (λ k. comment_after v.dialect k rest) (sym c)))
 

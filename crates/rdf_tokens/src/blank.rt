@@ -4,11 +4,13 @@ ghost use Rattle.std.specs.Prelude.{◌≡◌, ◌==◌, ◌<◌, ◌≤◌, tru
 ghost use Rattle.std.specs.Str.{chars};
 ghost use Rattle.rdf_tokens.specs.Tokens.{blank, is_line_end as ends_line, is_space as spaces};
 ghost use Rattle.rdf_tokens.specs.Blank.{comment_step, comment_after, goes_on, is_bare, is_cut, is_hash};
-ghost use Rattle.rdf_terms.specs.Runs.{IsRun};
+ghost use Rattle.rdf_terms.specs.Runs.{IsRun, is_comment_byte};
 ghost use Rattle.rdf_tokens.specs.Front.{bytes_of};
+ghost use Rattle.rdf_terms.specs.declared.kind.Dialect.{Dialect};
 ghost use Rattle.rdf_terms.specs.declared.kind.Dialect.TheVariants.{Turtle};
 
 use crate::quick::stands_at;
+use memchr::memchr2;
 use rdf_terms::Dialect;
 use rdf_terms::runs::{Run, run_end};
 
@@ -96,6 +98,21 @@ fn is_hash(bytes: &[u8], at: usize) -> bool
     ensures { result ≡ is_hash bytes.now at }
 {
     at < bytes.len() && bytes[at] == b'#'
+}
+
+/// Whether an open comment goes over a whole text. Then it has no line feed.
+pub(crate) fn is_in_comment(text: &str) -> bool
+    ensures len { (dialect : Dialect) → result ≡ true → bytes_of (blank dialect true (chars text.now)) (chars text.now) ≡ length text.now }
+    ensures comment { (dialect : Dialect) → result ≡ true → comment_after dialect true (chars text.now) ≡ true }
+    ensures feeds { (dialect : Dialect) → result ≡ true → count_by (λ c. c == 10) (take (blank dialect true (chars text.now)) (chars text.now)) ≡ 0 }
+{
+    has_no_line_end(text.as_bytes())
+}
+
+fn has_no_line_end(bytes: &[u8]) -> bool
+    ensures { result ≡ true → IsRun is_comment_byte bytes.now 0 (length bytes.now) }
+{
+    memchr2(b'\n', b'\r', bytes).is_none()
 }
 
 /// Whether this byte of white space stands before a character that is neither white space nor the beginning of a comment.

@@ -14,7 +14,7 @@ ghost use Rattle.rdf_tokens.specs.Passing.{is_idle, passed};
 ghost use Rattle.rdf_tokens.specs.Front.{bytes_of};
 ghost use Rattle.rdf_tokens.specs.Peek.{IsPeeked, MayPeek, TakesSeen, is_plain};
 
-use crate::blank::{blank_run, indented_len, is_one};
+use crate::blank::{blank_run, indented_len, is_in_comment, is_one};
 use crate::front::{NoNames, Walk};
 use crate::good::{few_line_feeds, good_front, line_feeds, mark_len};
 use crate::look::{Look, Tail, first_look, look_at};
@@ -493,6 +493,14 @@ impl<A: Allocator + Copy> Scanner<A> {
         if !self.comment && is_one(b' ', self.dialect, self.rest()) {
             self.move_on(1, 0);
             return;
+        }
+        if self.comment {
+            let rest = self.rest();
+            if is_in_comment(rest) {
+                let len = rest.len();
+                self.move_on(len, 0);
+                return;
+            }
         }
         let blank = blank_run(self.dialect, self.comment, self.rest());
         self.comment = blank.in_comment;

@@ -19,5 +19,5 @@ pub returns-clause-feeds : goal.returns-clause-feeds
 returns-clause-feeds c = λ e.
     let v = c.as_bytes.ensures.value in
     let n = c.indented_bytes.result in
-    blank_feeds Turtle c.args.text.now c.utf8.text (ap (blank Turtle false) (sym v) ∙ c.indented_bytes.ensures.len e)
+    blank_feeds Turtle false c.args.text.now c.utf8.text (ap (blank Turtle false) (sym v) ∙ c.indented_bytes.ensures.len e)
     ∙ (ap (λ b. count_by (λ x. x == 10) (take n b)) (sym v) ∙ c.indented_bytes.ensures.feeds e)

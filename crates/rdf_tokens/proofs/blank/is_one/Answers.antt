@@ -17,5 +17,5 @@ returns-clause-comment c = λ e.
 pub returns-clause-feeds : goal.returns-clause-feeds
 returns-clause-feeds c = λ e.
     let v = c.as_bytes.ensures.value in
-    blank_feeds c.args.dialect c.args.text.now c.utf8.text (ap (blank c.args.dialect false) (sym v) ∙ c.is_one_byte.ensures.len e)
+    blank_feeds c.args.dialect false c.args.text.now c.utf8.text (ap (blank c.args.dialect false) (sym v) ∙ c.is_one_byte.ensures.len e)
     ∙ (ap (λ b. count_by (λ x. x == 10) (take 1 b)) (sym v) ∙ c.is_one_byte.ensures.feeds e)

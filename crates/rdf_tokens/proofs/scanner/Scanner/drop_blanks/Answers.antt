@@ -1,4 +1,4 @@
-use Rattle.std.proofs.Common.{[], sym, ap, ◌∙◌, subst, ◌==◌, false, take, count_by}
+use Rattle.std.proofs.Common.{[], sym, ap, ◌∙◌, subst, ◌==◌, false, true, take, count_by}
 use Rattle.std.specs.Str.{chars}
 use Rattle.rdf_tokens.specs.Blank.{comment_after}
 use Rattle.rdf_tokens.specs.Front.{bytes_of}
@@ -50,4 +50,30 @@ returns-then-is_one-clause-stands g c =
     let is = c.if-is_one.true in
     let new = one_bared c.args.self.now c.move_on.new.self w c.move_on.ensures c.rest.ensures c.requires (ap (λ v. v.comment) (sym v) ∙ c.if-not-self.true)
     (ap (λ v. bytes_of (blank v.dialect false w) w) (sym v) ∙ one.len is) (ap (λ v. comment_after v.dialect false w) (sym v) ∙ one.comment is) in
+    subst Stands (sym new) (stands_bared c.args.self.now)
+
+pub move_on-requires-then-is_in_comment : goal.move_on-requires-then-is_in_comment
+move_on-requires-then-is_in_comment g c =
+    let d = c.self.inside.dialect in
+    let w = chars c.rest-rest.result.now in
+    let r = c.rest-rest.ensures in
+    let n = blank d true w in
+    let all = c.is_in_comment.ensures in
+    let is = c.if-is_in_comment.true in
+    (n, sym (ap (bytes_of n) (sym r) ∙ all.len d is), sym (ap (λ w. count_by (λ c. c == 10) (take n w)) (sym r) ∙ all.feeds d is))
+
+pub returns-then-is_in_comment-clause-moves : goal.returns-then-is_in_comment-clause-moves
+returns-then-is_in_comment-clause-moves g c =
+    let d = c.args.self.now.dialect in
+    let is = c.if-is_in_comment.true in
+    let new = one_bared c.args.self.now c.move_on-then-is_in_comment.new.self (chars c.rest-rest.result.now) c.move_on-then-is_in_comment.ensures c.rest-rest.ensures c.requires
+    (ap (λ v. v.comment) (sym c.self.view_is) ∙ c.if-self.true) (c.is_in_comment.ensures.len d is) (c.is_in_comment.ensures.comment d is) in
+    subst (Moves c.args.self.now []) (sym new) (moves_bared c.args.self.now c.requires)
+
+pub returns-then-is_in_comment-clause-stands : goal.returns-then-is_in_comment-clause-stands
+returns-then-is_in_comment-clause-stands g c =
+    let d = c.args.self.now.dialect in
+    let is = c.if-is_in_comment.true in
+    let new = one_bared c.args.self.now c.move_on-then-is_in_comment.new.self (chars c.rest-rest.result.now) c.move_on-then-is_in_comment.ensures c.rest-rest.ensures c.requires
+    (ap (λ v. v.comment) (sym c.self.view_is) ∙ c.if-self.true) (c.is_in_comment.ensures.len d is) (c.is_in_comment.ensures.comment d is) in
     subst Stands (sym new) (stands_bared c.args.self.now)
