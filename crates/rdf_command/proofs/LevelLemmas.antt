@@ -3,6 +3,7 @@ use Rattle.std.proofs.Common.{◌≡◌, ◌∙◌, ◌<◌, ◌&&◌, ◌||◌,
 use Rattle.std.specs.List.{list_any}
 use Rattle.std.specs.Option.{option_map_or}
 use Rattle.std.proofs.lemmas.Slice.Eq.{bytes_eq-Decides}
+use Rattle.std.proofs.lemmas.Bool.{or_right}
 use Rattle.clap.specs.Facts.{explicit_source}
 use Rattle.clap.specs.Walk.{Row, Rule, Text, action_of, answers_to, arg_by_id, finished, has_row, is_empty, nothing_held, reading_by, default_rows, rows_after, settled, stronger, walk, walk_from, with_default, with_values}
 use Rattle.clap.specs.Simple.{App, Shape, entered, label_of, names_of, rows_at}
@@ -16,11 +17,6 @@ use Rattle.rdf_command.proofs.RowLemmas.{Each, IsRead, RowsPass, found_holds, no
 use Rattle.rdf_command.proofs.WalkLemmas.{StopsNamed, settled-passes, walk-named, walk-passes}
 
 -- ---- rows that stay
-
--- one of two tests is enough
-either_true : (a b : Bool) → b ≡ true → (a || b) ≡ true
-either_true true b e = refl
-either_true false b e = e
 
 -- values that are added for one argument keep the rows of all others
 with_values-keeps : (id key : Text) (how : Reading) (s : ValueSource) (values : List Text) (rows : List Row) → has_row id rows ≡ true → has_row id (with_values key how s values rows) ≡ true
@@ -44,7 +40,7 @@ with_values-adds key how s values (r ∷ rs) = go (bytes_eq r.id key) refl (with
     go : (b : Bool) → bytes_eq r.id key ≡ b → has_row key (with_values key how s values rs) ≡ true
         → has_row key (cond b (record r { values = r.values ++ values; source = Some (stronger r.source s) } ∷ rs) (r ∷ with_values key how s values rs)) ≡ true
     go true e rest = rw e refl
-    go false e rest = either_true (bytes_eq r.id key) _ rest
+    go false e rest = or_right (bytes_eq r.id key) _ rest
 
 -- ---- defaults
 

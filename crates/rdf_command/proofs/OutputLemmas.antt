@@ -1,5 +1,5 @@
 -- How a task ends whose lines go to a file: what its steps say of it, taken together.
-use Rattle.std.proofs.Common.{◌≡◌, ◌≢◌, ◌⊎◌, ◌∙◌, ℕ, zero, suc, true, List, Option, Some, None, arith, inl, inr, refl, sym, subst}
+use Rattle.std.proofs.Common.{◌≡◌, ◌≢◌, ◌∙◌, ℕ, zero, suc, true, List, Option, Some, None, arith, inl, inr, refl, sym, subst}
 use Rattle.clap.specs.Words.{Text}
 use Rattle.rdf_stream.specs.Devices.{Reading, Written}
 use Rattle.rdf_stream.specs.Messages.{report_text}
@@ -7,33 +7,35 @@ use Rattle.rdf_stream.specs.declared.fault.LoadFault.{LoadFault}
 use Rattle.rdf_stream.specs.declared.fault.LoadFault.TheVariants.{Bad, Memory, Read}
 use Rattle.rdf_stream.specs.declared.fault.StreamFault.TheVariants.{Write}
 use Rattle.rdf_command.specs.declared.task.Task.{Task}
-use Rattle.rdf_command.specs.Outputs.{EndsInto, EndsTo, IsDiscarded, IsEmpty, IsKept, IsUnnamed, Outputs, RunsInto, into, output_of}
+use Rattle.rdf_command.specs.Outputs.{EndsInto, EndsTo, IsEmpty, IsFiled, Outputs, RunsInto, into, output_of}
 use Rattle.rdf_command.specs.Reasons.{Devices, ReportsFailed, device, standard_output}
-use Rattle.rdf_command.specs.Runs.{FilesRead, RunEnds, RunStops}
+use Rattle.rdf_command.specs.Runs.{Ending, FilesRead, RunEnds, RunStops, ending}
 use Rattle.rdf_command.specs.Statuses.{load_status}
 
 module _ (says : Outputs) (source : Reading → Option Text → Type 0) (name : Text) (t : Task) (prefixes : Option (Option (List ℕ))) (known : Option (List ℕ)) (left : FilesRead) (first : Option (List ℕ)) (output : Written)
     (err_old : Option (List ℕ)) (err_then err : Written) (empty : IsEmpty first) where
   -- what became of the output of a run that ended so
   abbrev pub Fate : ℕ → Type 0
-  Fate status = IsKept says source name t prefixes known left status err_old err
-      ⊎ (IsDiscarded says source name t prefixes known left status err_old err ⊎ IsUnnamed says source name t prefixes known left status err_old err)
+  Fate status = IsFiled says source name t prefixes known left status err_old err
 
-  pub fate : (own status : ℕ) → RunEnds (into says source) name t prefixes known left own first output err_old err_then → (own ≢ 0 → (status ≡ own) × (err ≡ err_then))
+  -- the run ended with this status, and the error output then
+  abbrev pub Ran : ℕ → Written → Type 0
+  Ran own told = RunEnds (into says source) name t prefixes known left (ending own first output err_old told)
+
+  pub fate : (own status : ℕ) → Ran own err_then → (own ≢ 0 → (status ≡ own) × (err ≡ err_then))
       → (status ≡ 0 → (own ≡ 0) × (err ≡ err_then) × says.has name output.contents) → (status ≢ 0 → says.is_left name)
       → (own ≡ 0 → status ≢ 0 → (status ≡ 3) × ReportsFailed t.explain (report_text Write) (device name (says.tells name)) err_then.contents err.contents err.has_failed) → Fate status
   fate zero zero ends stopped kept is_left unnamed =
       let k = kept refl in
-      inl (record { output = output; ends = (first, empty, subst (λ e. RunEnds (into says source) name t prefixes known left 0 first output err_old e) (sym k.1) ends); status_is = refl; has = k.2 })
+      inl (record { output = output; ends = (first, empty, subst (Ran 0) (sym k.1) ends); status_is = refl; has = k.2 })
   fate zero (suc n) ends stopped kept is_left unnamed =
       let some : suc n ≢ 0 = λ e. omega (arith, e) in
       let u = unnamed refl some in
-      inr (inr (record { output = output; err_then = err_then; ends = (first, empty, ends); status_is = u.0; is_left = is_left some; reported = u.1 }))
+      inr (inr (record { output = output; err_then = err_then; ends = (first, empty, ends); unnamed = record { status_is = u.0; is_left = is_left some; reported = u.1 } }))
   fate (suc n) status ends stopped kept is_left unnamed =
       let some : suc n ≢ 0 = λ e. omega (arith, e) in
       let s = stopped some in
-      let runs : RunEnds (into says source) name t prefixes known left status first output err_old err =
-      subst (λ e. RunEnds (into says source) name t prefixes known left status first output err_old e) (sym s.1) (subst (λ n. RunEnds (into says source) name t prefixes known left n first output err_old err_then) (sym s.0) ends) in
+      let runs = subst (Ran status) (sym s.1) (subst (λ n. Ran n err_then) (sym s.0) ends) in
       let goes : status ≢ 0 = λ e. some (sym s.0 ∙ e) in
       inr (inl (record { output = output; ends = (first, empty, runs); stopped = goes; is_left = is_left goes }))
 
@@ -43,17 +45,15 @@ module _ (t other : Task) (prefixes : Option (Option (List ℕ))) (known : Optio
   abbrev So : Task
   So = record t { output = other.output; skip = other.skip }
 
-  of_stop : (devices : Devices) (name : Text) (bindings : List (List ℕ × List ℕ)) (source : Reading) (status : ℕ) (out_old : Option (List ℕ)) (out : Written) (err_old : Option (List ℕ)) (err : Written)
-      → RunStops devices name So bindings status known source out_old out err_old err → RunStops devices name t bindings status known source out_old out err_old err
-  of_stop devices name bindings source status out_old out err_old err s =
+  of_stop : (devices : Devices) (name : Text) (bindings : List (List ℕ × List ℕ)) (source : Reading) (e : Ending)
+      → RunStops devices name So bindings known source e → RunStops devices name t bindings known source e
+  of_stop devices name bindings source e s =
       record { fault = s.fault; status_is = s.status_is; stops = s.stops; sent = s.sent; evidence = s.evidence; expected = s.expected; reported = s.reported }
 
-  run_of : (devices : Devices) (name : Text) (left : FilesRead) (status : ℕ) (out_old : Option (List ℕ)) (out : Written) (err_old : Option (List ℕ)) (err : Written)
-      → RunEnds devices name So prefixes known left status out_old out err_old err → RunEnds devices name t prefixes known left status out_old out err_old err
-  run_of devices name left status out_old out err_old err (inl (bindings, starts, (done, stops, prompt))) =
-      inl (bindings, starts, (done, (λ n. of_stop devices name bindings left.document status out_old out err_old err (stops n)), prompt))
-  run_of devices name left status out_old out err_old err (inr p) =
-      inr (record { fault = p.fault; stops = p.stops; status_is = p.status_is; unwritten = p.unwritten; reported = p.reported })
+  run_of : (devices : Devices) (name : Text) (left : FilesRead) (e : Ending) → RunEnds devices name So prefixes known left e → RunEnds devices name t prefixes known left e
+  run_of devices name left e (inl (bindings, starts, (done, stops, prompt))) =
+      inl (bindings, starts, (done, (λ n. of_stop devices name bindings left.document e (stops n)), prompt))
+  run_of devices name left e (inr p) = inr (record { fault = p.fault; stops = p.stops; status_is = p.status_is; unwritten = p.unwritten; reported = p.reported })
 
   -- so is what becomes of a file
   into_of : (says : Outputs) (source : Reading → Option Text → Type 0) (name : Text) (files : Option FilesRead) (status : ℕ) (err_old : Option (List ℕ)) (err : Written)
@@ -62,29 +62,26 @@ module _ (t other : Task) (prefixes : Option (Option (List ℕ))) (known : Optio
   into_of says source name files status err_old err (inl (left, given, fate)) = inl (left, given, go fate)
     where
       runs : (own : ℕ) (output then : Written) → RunsInto (into says source) name So prefixes known left own output err_old then → RunsInto (into says source) name t prefixes known left own output err_old then
-      runs own output then r = (r.0, r.1, run_of (into says source) name left own r.0 output err_old then r.2)
+      runs own output then r = (r.0, r.1, run_of (into says source) name left (ending own r.0 output err_old then) r.2)
 
-      go : IsKept says source name So prefixes known left status err_old err
-          ⊎ (IsDiscarded says source name So prefixes known left status err_old err ⊎ IsUnnamed says source name So prefixes known left status err_old err)
-          → IsKept says source name t prefixes known left status err_old err
-          ⊎ (IsDiscarded says source name t prefixes known left status err_old err ⊎ IsUnnamed says source name t prefixes known left status err_old err)
+      go : IsFiled says source name So prefixes known left status err_old err → IsFiled says source name t prefixes known left status err_old err
       go (inl k) = inl (record { output = k.output; ends = runs 0 k.output err k.ends; status_is = k.status_is; has = k.has })
       go (inr (inl d)) = inr (inl (record { output = d.output; ends = runs status d.output err d.ends; stopped = d.stopped; is_left = d.is_left }))
       go (inr (inr u)) =
-          inr (inr (record { output = u.output; err_then = u.err_then; ends = runs 0 u.output u.err_then u.ends; status_is = u.status_is; is_left = u.is_left; reported = u.reported }))
+          inr (inr (record { output = u.output; err_then = u.err_then; ends = runs 0 u.output u.err_then u.ends; unnamed = u.unnamed }))
 
   -- so is the end of a task that writes the file of a name, or none
-  pub ends_to : (says : Outputs) (devices : Devices) (files : Option FilesRead) (status : ℕ) (out_old : Option (List ℕ)) (out : Written) (err_old : Option (List ℕ)) (err : Written)
-      (name : Option Text) → EndsTo name says devices So prefixes known files status out_old out err_old err → EndsTo name says devices t prefixes known files status out_old out err_old err
-  ends_to says devices files status out_old out err_old err None (left, given, ends) = (left, given, run_of devices standard_output left status out_old out err_old err ends)
-  ends_to says devices files status out_old out err_old err (Some name) (ends, unwritten) = (into_of says devices.source name files status err_old err ends, unwritten)
+  pub ends_to : (says : Outputs) (devices : Devices) (files : Option FilesRead) (e : Ending) (name : Option Text) → EndsTo name says devices So prefixes known files e
+      → EndsTo name says devices t prefixes known files e
+  ends_to says devices files e None (left, given, ends) = (left, given, run_of devices standard_output left e ends)
+  ends_to says devices files e (Some name) (ends, unwritten) = (into_of says devices.source name files e.status e.err_old e.err ends, unwritten)
 
   -- the end of a task that writes the file of this name
-  pub ends_into : (says : Outputs) (devices : Devices) (files : Option FilesRead) (status : ℕ) (out_old : Option (List ℕ)) (out : Written) (err_old : Option (List ℕ)) (err : Written)
-      (name : Text) → output_of t ≡ Some name → EndsInto says devices.source name So prefixes known files status err_old err → out.contents ≡ out_old
-      → EndsTo (output_of t) says devices t prefixes known files status out_old out err_old err
-  ends_into says devices files status out_old out err_old err name some ends unwritten =
-      subst (λ o. EndsTo o says devices t prefixes known files status out_old out err_old err) (sym some) (into_of says devices.source name files status err_old err ends, unwritten)
+  pub ends_into : (says : Outputs) (devices : Devices) (files : Option FilesRead) (e : Ending) (name : Text) → output_of t ≡ Some name
+      → EndsInto says devices.source name So prefixes known files e.status e.err_old e.err → e.out.contents ≡ e.out_old
+      → EndsTo (output_of t) says devices t prefixes known files e
+  ends_into says devices files e name some ends unwritten =
+      subst (λ o. EndsTo o says devices t prefixes known files e) (sym some) (into_of says devices.source name files e.status e.err_old e.err ends, unwritten)
 
 -- ---- a run with status 0
 
@@ -95,7 +92,7 @@ some_load_status Read e = omega (arith, e)
 some_load_status Memory e = omega (arith, e)
 
 -- what was written is flushed then
-pub flushed_then : (devices : Devices) (name : Text) (t : Task) (prefixes : Option (Option (List ℕ))) (known : Option (List ℕ)) (left : FilesRead) (status : ℕ) (out_old : Option (List ℕ)) (out : Written)
-    (err_old : Option (List ℕ)) (err : Written) → RunEnds devices name t prefixes known left status out_old out err_old err → status ≡ 0 → out.is_flushed ≡ true
-flushed_then devices name t prefixes known left status out_old out err_old err (inl (bindings, starts, (done, stops, prompt))) e = (done e).1
-flushed_then devices name t prefixes known left status out_old out err_old err (inr p) e = absurd (some_load_status p.fault (sym p.status_is ∙ e))
+pub flushed_then : (devices : Devices) (name : Text) (t : Task) (prefixes : Option (Option (List ℕ))) (known : Option (List ℕ)) (left : FilesRead) (e : Ending)
+    → RunEnds devices name t prefixes known left e → e.status ≡ 0 → e.out.is_flushed ≡ true
+flushed_then devices name t prefixes known left e (inl (bindings, starts, (done, stops, prompt))) none = (done none).1
+flushed_then devices name t prefixes known left e (inr p) none = absurd (some_load_status p.fault (sym p.status_is ∙ none))

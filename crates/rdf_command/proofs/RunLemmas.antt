@@ -12,7 +12,7 @@ use Rattle.rdf_stream.specs.declared.fault.StreamFault.{StreamFault}
 use Rattle.rdf_stream.specs.declared.fault.StreamFault.TheVariants.{Refused, Read, Write, Memory}
 use Rattle.rdf_command.specs.declared.task.Task.{Task}
 use Rattle.rdf_command.specs.Reasons.{Devices, ReportsStop, device}
-use Rattle.rdf_command.specs.Runs.{Does, HandsOver, RunEnds, SendsOn, StartsWith, StopsAction, TellsEvidence, accepted_text, job_of}
+use Rattle.rdf_command.specs.Runs.{Does, HandsOver, RunEnds, SendsOn, StartsWith, StopsAction, TellsEvidence, accepted_text, ending, job_of}
 use Rattle.rdf_command.specs.Statuses.{status_of}
 use Rattle.rdf_command.specs.Words.{name_of}
 
@@ -25,18 +25,22 @@ some_status Memory e = omega (arith, e)
 module _ (devices : Devices) (name : Text) (t : Task) (prefixes : Option (Option (List ℕ))) (left : Option Reading) (bindings : List (List ℕ × List ℕ)) (starts : StartsWith t.limits prefixes left bindings)
     (job : JobRead) (is : job ≡ job_of t bindings) (known : Option (List ℕ)) (source : Reading) (out_old : Option (List ℕ)) (out : Written)
     (err_old : Option (List ℕ)) (err : Written) (prompt : HandsOver t.action job known source out_old out.contents) where
+  -- the run ended with this status
+  abbrev pub Ends : ℕ → Type 0
+  Ends status = RunEnds devices name t prefixes known (record { prefixes = left; document = source }) (ending status out_old out err_old err)
+
   -- by the task's job
   prompt_so : HandsOver t.action (job_of t bindings) known source out_old out.contents
   prompt_so = subst (λ j. HandsOver t.action j known source out_old out.contents) is prompt
 
-  pub run_done : IfSome known (λ bytes. Does t.action job bytes out_old out.contents) → out.is_flushed ≡ true → RunEnds devices name t prefixes known (record { prefixes = left; document = source }) 0 out_old out err_old err
+  pub run_done : IfSome known (λ bytes. Does t.action job bytes out_old out.contents) → out.is_flushed ≡ true → Ends 0
   run_done done flushed =
       inl (bindings, starts, ((λ e. (subst (λ j. IfSome known (λ bytes. Does t.action j bytes out_old out.contents)) is done, flushed)), (λ n. absurd (n refl)), prompt_so))
 
   pub run_stopped : (fault : StreamFault) (status : ℕ) → status ≡ status_of fault → StopsAction t.action fault job known source out_old out.contents out.has_failed
       → SendsOn t.action fault out.is_flushed → (evidence : Evidence NearRead) → TellsEvidence t.explain t.action fault job known source evidence
       → ReportsStop t.explain (device (name_of t) (devices.source source)) (device name (devices.output out)) fault evidence err_old err.contents err.has_failed
-      → RunEnds devices name t prefixes known (record { prefixes = left; document = source }) status out_old out err_old err
+      → Ends status
   run_stopped fault status same stops sent evidence expected reported =
       inl (
         bindings,

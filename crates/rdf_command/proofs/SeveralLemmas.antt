@@ -13,7 +13,7 @@ use Rattle.rdf_command.specs.Outputs.{Outputs}
 use Rattle.rdf_command.specs.Addresses.{Folders}
 use Rattle.rdf_command.specs.Programs.{EndsBy, OneEndsAt, SeveralEnd}
 use Rattle.rdf_command.specs.Reasons.{Shut}
-use Rattle.rdf_command.specs.Runs.{FilesRead}
+use Rattle.rdf_command.specs.Runs.{Ending, FilesRead, ending}
 use Rattle.rdf_command.specs.Several.{Either, EndsAt, EndsEach, EndsLeft, Shared, has_failed_output, status_after}
 
 module _ (has_document : Option (List ℕ) → Option (List ℕ) → Type 0) (shut : Shut) (shared : Shared) (whole : List (Form × List ℕ))
@@ -23,11 +23,11 @@ module _ (has_document : Option (List ℕ) → Option (List ℕ) → Type 0) (sh
   Completes left failed so_far out_now err_now =
       (status : ℕ) (out err : Written)
       → Either failed ((status ≡ so_far) × (out ≡ out_now) × (err ≡ err_now)) (EndsLeft has_document shut shared left so_far status out_now out err_now err)
-      → EndsEach has_document shut shared whole status out_old out err_old err
+      → EndsEach has_document shut shared whole (ending status out_old out err_old err)
 
   -- a document more
   pub next_completes : (d : Form × List ℕ) (left : List (Form × List ℕ)) (so_far own : ℕ) (failed : Bool) (out_now err_now out_next err_next : Written)
-      → Completes (d ∷ left) false so_far out_now err_now → EndsAt shared.folder has_document shut shared d own out_now.contents out_next err_now.contents err_next
+      → Completes (d ∷ left) false so_far out_now err_now → EndsAt shared.folder has_document shut shared d (ending own out_now.contents out_next err_now.contents err_next)
       → failed ≡ has_failed_output out_next err_next → Completes left failed (status_after so_far own failed) out_next err_next
   next_completes d left so_far own failed out_now err_now out_next err_next before one is status out err rest =
       before status out err (own, out_next, err_next, one, subst (λ b. Either b Stops Goes) is (go failed rest))
@@ -47,12 +47,12 @@ module _ (has_document : Option (List ℕ) → Option (List ℕ) → Type 0) (sh
 
   -- no document is left, or an output has failed
   pub completed : (so_far : ℕ) (failed : Bool) (out_now err_now : Written) → Completes [] failed so_far out_now err_now
-      → EndsEach has_document shut shared whole so_far out_old out_now err_old err_now
+      → EndsEach has_document shut shared whole (ending so_far out_old out_now err_old err_now)
   completed so_far true out_now err_now c = c so_far out_now err_now (refl, refl, refl)
   completed so_far false out_now err_now c = c so_far out_now err_now (refl, refl, refl)
 
   pub stopped : (left : List (Form × List ℕ)) (so_far : ℕ) (failed : Bool) (out_now err_now : Written) → failed ≡ true → Completes left failed so_far out_now err_now
-      → EndsEach has_document shut shared whole so_far out_old out_now err_old err_now
+      → EndsEach has_document shut shared whole (ending so_far out_old out_now err_old err_now)
   stopped left so_far true out_now err_now e c = c so_far out_now err_now (refl, refl, refl)
   stopped left so_far false out_now err_now e c = absurd (false≢true e)
 
@@ -84,16 +84,14 @@ none_by_bytes Memory sizes known left bytes h r = record { bytes = bytes; consum
 -- ---- a task
 
 -- A task with further documents ends as a check of several does.
-pub several_end : (more : List Document) (folders : Folders) (has_document : Option (List ℕ) → Option (List ℕ) → Type 0) (shut : Shut) (says : Outputs) (t : Task) (status : ℕ)
-    (out_old : Option (List ℕ)) (out : Written) (err_old : Option (List ℕ)) (err : Written) → (length more == 0) ≡ false
-    → SeveralEnd folders has_document shut t status out_old out err_old err → EndsBy more folders has_document shut says t None status out_old out err_old err
-several_end [] folders has_document shut says t status out_old out err_old err some ends = absurd (true≢false some)
-several_end (d ∷ ds) folders has_document shut says t status out_old out err_old err some ends = (refl, ends)
+pub several_end : (more : List Document) (folders : Folders) (has_document : Option (List ℕ) → Option (List ℕ) → Type 0) (shut : Shut) (says : Outputs) (t : Task) (e : Ending)
+    → (length more == 0) ≡ false → SeveralEnd folders has_document shut t e → EndsBy more folders has_document shut says t None e
+several_end [] folders has_document shut says t e some ends = absurd (true≢false some)
+several_end (d ∷ ds) folders has_document shut says t e some ends = (refl, ends)
 
 -- one without ends as its run does
-pub one_ends : (more : List Document) (folders : Folders) (has_document : Option (List ℕ) → Option (List ℕ) → Type 0) (shut : Shut) (says : Outputs) (t : Task) (files : Option FilesRead) (status : ℕ)
-    (out_old : Option (List ℕ)) (out : Written) (err_old : Option (List ℕ)) (err : Written) → (length more == 0) ≡ true
-    → OneEndsAt t.addressed folders has_document shut says t files status out_old out err_old err → EndsBy more folders has_document shut says t files status out_old out err_old err
-one_ends [] folders has_document shut says t files status out_old out err_old err none ends = ends
-one_ends (d ∷ ds) folders has_document shut says t files status out_old out err_old err none ends =
+pub one_ends : (more : List Document) (folders : Folders) (has_document : Option (List ℕ) → Option (List ℕ) → Type 0) (shut : Shut) (says : Outputs) (t : Task) (files : Option FilesRead)
+    (e : Ending) → (length more == 0) ≡ true → OneEndsAt t.addressed folders has_document shut says t files e → EndsBy more folders has_document shut says t files e
+one_ends [] folders has_document shut says t files e none ends = ends
+one_ends (d ∷ ds) folders has_document shut says t files e none ends =
     let same : length (d ∷ ds) ≡ 0 = eqb-true _ _ none in absurd (omega arith)

@@ -5,7 +5,6 @@ use Rattle.clap.specs.Words.{Text}
 use Rattle.clap.specs.declared.builder.value_parser.ValueParser.{ValueParser}
 use Rattle.clap.specs.declared.error.kind.ErrorKind.TheVariants.{InvalidValue}
 use Rattle.rdf_stream.specs.Devices.{Reading, Written}
-use Rattle.rdf_stream.specs.declared.fault.LoadFault.{LoadFault}
 use Rattle.rdf_stream.specs.declared.form.Form.{Form}
 use Rattle.rdf_options.specs.Options.{rdfconv}
 use Rattle.rdf_terms.specs.declared.fault.TermFault.{TermFault}
@@ -18,10 +17,10 @@ use Rattle.rdf_command.specs.declared.task.WordsFault.TheVariants.{Memory}
 use Rattle.rdf_command.specs.Addresses.{Folders, IsAddress, IsFolderFor, LacksAddress}
 use Rattle.rdf_command.specs.Asides.{EndsBySkip, skip_of}
 use Rattle.rdf_command.specs.Outputs.{Outputs}
-use Rattle.rdf_command.specs.Reasons.{Devices, ReportsBindings, ReportsShut, Shut}
-use Rattle.rdf_command.specs.Runs.{FilesRead, StartsNot, bindings_device}
+use Rattle.rdf_command.specs.Reasons.{Devices, ReportsShut, Shut}
+use Rattle.rdf_command.specs.Runs.{Ending, FilesRead, PrefixesStop}
 use Rattle.rdf_command.specs.Several.{EndsEach, GivesBindings}
-use Rattle.rdf_command.specs.Statuses.{GoesTo, RefusesWords, Reports, address_status, address_text, load_status}
+use Rattle.rdf_command.specs.Statuses.{GoesTo, RefusesWords, Reports, address_status, address_text}
 use Rattle.rdf_command.specs.Words.{GivesNone, GivesTask, IsUsageOf, TakesFormats, further_of, name_of}
 
 -- These words give the task, as the command line of the program defines it.
@@ -55,124 +54,87 @@ prefixes_of t = option_map string_bytes t.prefixes
 -- the file of bindings of this name has these bytes, where there is a name and the bytes are known
 abbrev pub HasPrefixes : (Option Text → Option (List ℕ) → Type 0) → Option Text → Option (Option (List ℕ)) → Type 0
 HasPrefixes has_document None None = ⊤
-HasPrefixes has_document None (Some known) = ⊥
-HasPrefixes has_document (Some path) None = ⊥
 HasPrefixes has_document (Some path) (Some known) = has_document (Some path) known
+HasPrefixes has_document name known = ⊥
 
--- A file of the task did not open, which the status and the text on the error output say, and nothing was written.
-pub record IsNotOpen (shut : Shut) (t : Task) (status : ℕ) (out_old : Option (List ℕ)) (out : Written)
-    (err_old : Option (List ℕ)) (err : Written) : Type 0 where
+-- A file that the task names so did not open, which the status and the text on the error output say, and nothing was written.
+pub record IsNotOpen (shut : Shut) (t : Task) (Names : Text → Type 0) (e : Ending) : Type 0 where
   pub path : Text
-  pub named : (prefixes_of t ≡ Some path) ⊎ (file_of t ≡ Some path)
+  pub named : Names path
   pub does_not : shut.is path
-  pub status_is : status ≡ 3
-  pub unwritten : out.contents ≡ out_old
-  pub reported : ReportsShut shut.tells t.explain path err_old err.contents err.has_failed
+  pub status_is : e.status ≡ 3
+  pub unwritten : e.out.contents ≡ e.out_old
+  pub reported : ReportsShut shut.tells t.explain path e.err_old e.err.contents e.err.has_failed
 
 -- What the task names was opened, the file of bindings where there is one, and the document, its file or else standard input; and the run of the
 -- task over these ended so, with the files given back, whose lines went to the output or to a file, and bad ones to a file where that is asked for. Or a
 -- file did not open.
-abbrev pub OneEnds : (Option Text → Option (List ℕ) → Type 0) → Shut → Outputs → Task → Option FilesRead → ℕ
-    → Option (List ℕ) → Written → Option (List ℕ) → Written → Type 0
-OneEnds has_document shut says t files status out_old out err_old err =
+abbrev pub OneEnds : (Option Text → Option (List ℕ) → Type 0) → Shut → Outputs → Task → Option FilesRead → Ending → Type 0
+OneEnds has_document shut says t files e =
     ((prefixes : Option (Option (List ℕ))) × (known : Option (List ℕ)) × HasPrefixes has_document (prefixes_of t) prefixes
-    × has_document (file_of t) known × EndsBySkip (skip_of t) says shut.devices t prefixes known files status out_old out err_old err)
-    ⊎ IsNotOpen shut t status out_old out err_old err
+    × has_document (file_of t) known × EndsBySkip (skip_of t) says shut.devices t prefixes known files e)
+    ⊎ IsNotOpen shut t (λ path. (prefixes_of t ≡ Some path) ⊎ (file_of t ≡ Some path)) e
 
--- The document has no address to be its base, which the status and the text on the error output say, and nothing was read.
-pub record HasNoBase (folders : Folders) (t : Task) (files : Option FilesRead) (status : ℕ) (out_old : Option (List ℕ)) (out : Written)
-    (err_old : Option (List ℕ)) (err : Written) : Type 0 where
+-- A base was asked for and there is none, for this cause or for want of memory, which the status and the text on the error output say, and nothing was written.
+pub record HasNoBase (Cause : Type 0) (e : Ending) : Type 0 where
   pub fault : TermFault
-  pub why : fault ≡ BadTerm → LacksAddress folders t.limits.iri (file_of t)
-  pub unread : files ≡ None
-  pub status_is : status ≡ address_status fault
-  pub unwritten : out.contents ≡ out_old
-  pub reported : Reports (address_text fault) err_old err.contents err.has_failed
+  pub why : fault ≡ BadTerm → Cause
+  pub status_is : e.status ≡ address_status fault
+  pub unwritten : e.out.contents ≡ e.out_old
+  pub reported : Reports (address_text fault) e.err_old e.err.contents e.err.has_failed
 
--- By whether the base is to be the document's address: if so, it ended as the same task with this base does, or there is no such base.
-abbrev pub OneEndsAt : Bool → Folders → (Option Text → Option (List ℕ) → Type 0) → Shut → Outputs → Task → Option FilesRead → ℕ
-    → Option (List ℕ) → Written → Option (List ℕ) → Written → Type 0
-OneEndsAt false folders has_document shut says t files status out_old out err_old err = OneEnds has_document shut says t files status out_old out err_old err
-OneEndsAt true folders has_document shut says t files status out_old out err_old err =
+-- By whether the base is to be the document's address: if so, it ended as the same task with this base does, or there is no such base and nothing was read.
+abbrev pub OneEndsAt : Bool → Folders → (Option Text → Option (List ℕ) → Type 0) → Shut → Outputs → Task → Option FilesRead → Ending → Type 0
+OneEndsAt false folders has_document shut says t files e = OneEnds has_document shut says t files e
+OneEndsAt true folders has_document shut says t files e =
     ((folder : Text) × (base : List ℕ) × folders.is folder × IsAddress t.limits.iri folder (file_of t) base
-    × OneEnds has_document shut says (record t { base = Some base }) files status out_old out err_old err)
-    ⊎ HasNoBase folders t files status out_old out err_old err
+    × OneEnds has_document shut says (record t { base = Some base }) files e)
+    ⊎ ((files ≡ None) × HasNoBase (LacksAddress folders t.limits.iri (file_of t)) e)
 
 -- all documents of a task, each with its format and its name
 abbrev pub documents_of : Task → List (Form × Text)
 documents_of t = (t.form, name_of t) ∷ further_of t.more.items
 
 -- The file of bindings was read, where there is one, and the documents were checked in turn, from the folder where addresses are asked for.
-pub record ChecksEach (folders : Folders) (has_document : Option Text → Option (List ℕ) → Type 0) (shut : Shut) (t : Task) (status : ℕ)
-    (out_old : Option (List ℕ)) (out : Written) (err_old : Option (List ℕ)) (err : Written) : Type 0 where
+pub record ChecksEach (folders : Folders) (has_document : Option Text → Option (List ℕ) → Type 0) (shut : Shut) (t : Task) (e : Ending) : Type 0 where
   pub prefixes : Option (Option (List ℕ))
   pub opened : HasPrefixes has_document (prefixes_of t) prefixes
   pub bytes : Option (List ℕ)
   pub given : GivesBindings t.limits prefixes bytes
   pub folder : Option Text
   pub found : IsFolderFor folders t.addressed folder
-  pub ends : EndsEach has_document shut (record { base = t.base; folder = folder; limits = t.limits; explain = t.explain; prefixes = bytes }) (documents_of t)
-      status out_old out err_old err
+  pub ends : EndsEach has_document shut (record { base = t.base; folder = folder; limits = t.limits; explain = t.explain; prefixes = bytes }) (documents_of t) e
 
--- The file of bindings gave none, which the status and the text on the error output say, and no document was read.
-pub record ChecksNone (has_document : Option Text → Option (List ℕ) → Type 0) (shut : Shut) (t : Task) (status : ℕ) (out_old : Option (List ℕ)) (out : Written)
-    (err_old : Option (List ℕ)) (err : Written) : Type 0 where
+-- The file of bindings was opened and gave none, and no document was read.
+pub record ChecksNone (has_document : Option Text → Option (List ℕ) → Type 0) (shut : Shut) (t : Task) (e : Ending) : Type 0 where
   pub prefixes : Option (Option (List ℕ))
   pub opened : HasPrefixes has_document (prefixes_of t) prefixes
-  pub fault : LoadFault
   pub left : Option Reading
-  pub none : StartsNot fault t.limits prefixes left
-  pub status_is : status ≡ load_status fault
-  pub unwritten : out.contents ≡ out_old
-  pub reported : ReportsBindings t.explain (bindings_device shut.devices t left) fault err_old err.contents err.has_failed
+  pub none : PrefixesStop shut.devices t prefixes left e
 
--- The file of bindings did not open, which the status and the text on the error output say, and no document was read.
-pub record OpensNoBindings (shut : Shut) (t : Task) (status : ℕ) (out_old : Option (List ℕ)) (out : Written)
-    (err_old : Option (List ℕ)) (err : Written) : Type 0 where
-  pub path : Text
-  pub named : prefixes_of t ≡ Some path
-  pub does_not : shut.is path
-  pub status_is : status ≡ 3
-  pub unwritten : out.contents ≡ out_old
-  pub reported : ReportsShut shut.tells t.explain path err_old err.contents err.has_failed
-
--- Addresses are asked for, but there is no folder that names start from, which the status and the text on the error output say, and no document was read.
-pub record HasNoFolder (folders : Folders) (t : Task) (status : ℕ) (out_old : Option (List ℕ)) (out : Written)
-    (err_old : Option (List ℕ)) (err : Written) : Type 0 where
-  pub asked : t.addressed ≡ true
-  pub fault : TermFault
-  pub why : fault ≡ BadTerm → folders.is_untold
-  pub status_is : status ≡ address_status fault
-  pub unwritten : out.contents ≡ out_old
-  pub reported : Reports (address_text fault) err_old err.contents err.has_failed
-
--- how a check of several documents ends
-abbrev pub SeveralEnd : Folders → (Option Text → Option (List ℕ) → Type 0) → Shut → Task → ℕ
-    → Option (List ℕ) → Written → Option (List ℕ) → Written → Type 0
-SeveralEnd folders has_document shut t status out_old out err_old err =
-    ChecksEach folders has_document shut t status out_old out err_old err
-    ⊎ (ChecksNone has_document shut t status out_old out err_old err
-    ⊎ (OpensNoBindings shut t status out_old out err_old err ⊎ HasNoFolder folders t status out_old out err_old err))
+-- How a check of several documents ends: each was checked, or there are no bindings, their file did not open, or addresses are asked for and there is no
+-- folder that names start from.
+abbrev pub SeveralEnd : Folders → (Option Text → Option (List ℕ) → Type 0) → Shut → Task → Ending → Type 0
+SeveralEnd folders has_document shut t e =
+    ChecksEach folders has_document shut t e
+    ⊎ (ChecksNone has_document shut t e
+    ⊎ (IsNotOpen shut t (λ path. prefixes_of t ≡ Some path) e ⊎ ((t.addressed ≡ true) × HasNoBase folders.is_untold e)))
 
 -- By the documents after the first: without any the task is run over its document, and else each is checked, and no file is given back.
-abbrev pub EndsBy : List Document → Folders → (Option Text → Option (List ℕ) → Type 0) → Shut → Outputs → Task → Option FilesRead → ℕ
-    → Option (List ℕ) → Written → Option (List ℕ) → Written → Type 0
-EndsBy [] folders has_document shut says t files status out_old out err_old err = OneEndsAt t.addressed folders has_document shut says t files status out_old out err_old err
-EndsBy (d ∷ ds) folders has_document shut says t files status out_old out err_old err =
-    (files ≡ None) × SeveralEnd folders has_document shut t status out_old out err_old err
+abbrev pub EndsBy : List Document → Folders → (Option Text → Option (List ℕ) → Type 0) → Shut → Outputs → Task → Option FilesRead → Ending → Type 0
+EndsBy [] folders has_document shut says t files e = OneEndsAt t.addressed folders has_document shut says t files e
+EndsBy (d ∷ ds) folders has_document shut says t files e = (files ≡ None) × SeveralEnd folders has_document shut t e
 
 -- how a task ends
-abbrev pub TaskEnds : Folders → (Option Text → Option (List ℕ) → Type 0) → Shut → Outputs → Task → Option FilesRead → ℕ
-    → Option (List ℕ) → Written → Option (List ℕ) → Written → Type 0
+abbrev pub TaskEnds : Folders → (Option Text → Option (List ℕ) → Type 0) → Shut → Outputs → Task → Option FilesRead → Ending → Type 0
 TaskEnds folders has_document shut says t = EndsBy t.more.items folders has_document shut says t
 
 -- The words give a task, which ended so; or they give none, which the status and the text on an output say.
-abbrev pub ProgramEnds : (List Text → Type 0) → Type 0 → Folders → (Option Text → Option (List ℕ) → Type 0) → Shut → Outputs → Option FilesRead → ℕ
-    → Option (List ℕ) → Written → Option (List ℕ) → Written → Type 0
-ProgramEnds has_words has_bad_word folders has_document shut says files status out_old out err_old err =
-    ((task : Task) × IsGiven has_words task × TaskEnds folders has_document shut says task files status out_old out err_old err)
+abbrev pub ProgramEnds : (List Text → Type 0) → Type 0 → Folders → (Option Text → Option (List ℕ) → Type 0) → Shut → Outputs → Option FilesRead → Ending → Type 0
+ProgramEnds has_words has_bad_word folders has_document shut says files e =
+    ((task : Task) × IsGiven has_words task × TaskEnds folders has_document shut says task files e)
     ⊎ ((fault : WordsFault) × IsNotGiven has_words has_bad_word fault
-    × RefusesWords fault status err_old err.contents err.has_failed × GoesTo fault out_old out.contents err_old err.contents)
+    × RefusesWords fault e.status e.err_old e.err.contents e.err.has_failed × GoesTo fault e.out_old e.out.contents e.err_old e.err.contents)
 
 -- what a host tells of files that are to be written
 abbrev pub outputs_of : {H I O : Type 0} → host.Ghosts H I O → H → (Written → Option Text → Type 0) → Outputs
@@ -189,7 +151,6 @@ folders_of host h = record { is = host.has_folder h; is_untold = host.has_no_fol
 
 -- The program ended so over what its host starts it with: the words, the documents, the files that do not open, and those that it writes. These devices, and
 -- these files that are written, tell the reasons of their failures.
-abbrev pub HostEnds : {H I O : Type 0} → host.Ghosts H I O → H → Devices → (Written → Option Text → Type 0) → Option FilesRead → ℕ → Option (List ℕ) → Written → Option (List ℕ) → Written → Type 0
-HostEnds says h devices output files status out_old out err_old err =
-    ProgramEnds (says.has_words h) (says.has_bad_word h) (folders_of says h) (says.has_document h) (shut_of says h devices) (outputs_of says h output) files status
-    out_old out err_old err
+abbrev pub HostEnds : {H I O : Type 0} → host.Ghosts H I O → H → Devices → (Written → Option Text → Type 0) → Option FilesRead → Ending → Type 0
+HostEnds says h devices output files =
+    ProgramEnds (says.has_words h) (says.has_bad_word h) (folders_of says h) (says.has_document h) (shut_of says h devices) (outputs_of says h output) files

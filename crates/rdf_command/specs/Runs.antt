@@ -18,7 +18,6 @@ use Rattle.rdf_stream.specs.Devices.{AppendsFront, Reading, Written}
 use Rattle.rdf_stream.specs.Expected.{ExpectsFor, NoDetails, trees_of}
 use Rattle.rdf_stream.specs.Faults.{IsSentOn}
 use Rattle.rdf_stream.specs.Told.{told, written}
-use Rattle.rdf_iri.specs.Limits.{Sizes}
 use Rattle.rdf_iri.specs.Bindings.{BindingMap}
 use Rattle.rdf_stream.specs.Jobs.{JobRead, word_of}
 use Rattle.rdf_stream.specs.Loads.{LoadStops, Loads}
@@ -39,10 +38,21 @@ use Rattle.rdf_command.specs.Words.{name_by, name_of}
 abbrev pub job_of : Task → List (List ℕ × List ℕ) → JobRead
 job_of t bindings = record { form = t.form; base = t.base; bindings = bindings; escapes = t.escapes; node_prefix = word_of t.node_prefix; graph = t.graph; limits = t.limits }
 
--- The claim holds of the bytes that the output held and of what it tells now, and of the same of the error output.
-abbrev pub AsWritten : {O E : Type 0} → (Option (List ℕ) → Written → Option (List ℕ) → Written → Type 0)
-    → drain.Ghosts O → drain.Ghosts E → O → O → E → E → Type 0
-AsWritten claim out err out_old out_new err_old err_new = claim (out.contents out_old) (written out out_new) (err.contents err_old) (written err err_new)
+-- How a run ended: its status, the bytes that the output held before and what it tells now, and the same of the error output.
+pub record Ending : Type 0 where
+  pub status : ℕ
+  pub out_old : Option (List ℕ)
+  pub out : Written
+  pub err_old : Option (List ℕ)
+  pub err : Written
+
+abbrev pub ending : ℕ → Option (List ℕ) → Written → Option (List ℕ) → Written → Ending
+ending status out_old out err_old err = record { status = status; out_old = out_old; out = out; err_old = err_old; err = err }
+
+-- The claim holds of the ending with this status and these outputs, as they were and as they are now.
+abbrev pub AsWritten : {O E : Type 0} → (Ending → Type 0) → ℕ → drain.Ghosts O → drain.Ghosts E → O → O → E → E → Type 0
+AsWritten claim status out err out_old out_new err_old err_new =
+    claim (ending status (out.contents out_old) (written out out_new) (err.contents err_old) (written err err_new))
 
 -- what sources that were read tell of themselves: that of the bindings, where there is one, and that of the document
 pub record FilesRead : Type 0 where
@@ -72,10 +82,6 @@ front_of (Some name) = name ++ codes ": "
 abbrev pub IsCheckedAs : Option (List ℕ) → JobRead → List ℕ → Option (List ℕ) → Option (List ℕ) → Type 0
 IsCheckedAs name job bytes old new = (s : Summary) × IsAccepted (language_of job) bytes s × Appends old new (front_of name ++ accepted_text s)
 
--- the same without a name
-abbrev pub IsChecked : JobRead → List ℕ → Option (List ℕ) → Option (List ℕ) → Type 0
-IsChecked = IsCheckedAs None
-
 -- Memory was refused: while the document was read, or for the line that counts what is in it.
 abbrev pub LacksMemory : JobRead → Option (List ℕ) → Reading → Type 0
 LacksMemory job known left =
@@ -88,33 +94,27 @@ StopsCheckAs name Write job known left old new write_failed =
 StopsCheckAs name Memory job known left old new write_failed = LacksMemory job known left × (new ≡ old)
 StopsCheckAs name fault job known left old new write_failed = CheckStops fault (language_of job) known left × (new ≡ old)
 
--- the same of the line without a name
-abbrev pub StopsCheck : StreamFault → JobRead → Option (List ℕ) → Reading → Option (List ℕ) → Option (List ℕ) → Bool → Type 0
-StopsCheck = StopsCheckAs None
-
 -- what an accepted document brings
 abbrev pub Does : Action → JobRead → List ℕ → Option (List ℕ) → Option (List ℕ) → Type 0
-Does Check job bytes old new = IsChecked job bytes old new
+Does Check job bytes old new = IsCheckedAs None job bytes old new
 Does Show job bytes old new = (s : Summary) × Shows job bytes old new s
 Does Convert job bytes old new = IsConverted (conversion_of job) bytes old new
 
 -- why a run stopped, and what it had written
 abbrev pub StopsAction : Action → StreamFault → JobRead → Option (List ℕ) → Reading → Option (List ℕ) → Option (List ℕ) → Bool → Type 0
-StopsAction Check fault job known left old new write_failed = StopsCheck fault job known left old new write_failed
+StopsAction Check fault job known left old new write_failed = StopsCheckAs None fault job known left old new write_failed
 StopsAction Show fault job known left old new write_failed = ShowStops fault job known left old new write_failed
 StopsAction Convert fault job known left old new write_failed = StopsFor fault (conversion_of job) known left old new write_failed
 
 -- a conversion hands over each line before it asks for more
 abbrev pub HandsOver : Action → JobRead → Option (List ℕ) → Reading → Option (List ℕ) → Option (List ℕ) → Type 0
-HandsOver Check job known left old new = Unit
-HandsOver Show job known left old new = Unit
 HandsOver Convert job known left old new = IsPrompt (conversion_of job) known left old new
+HandsOver action job known left old new = Unit
 
 -- after a refusal what was written has been flushed; a check has written nothing
 abbrev pub SendsOn : Action → StreamFault → Bool → Type 0
 SendsOn Check fault flushed = Unit
-SendsOn Show fault flushed = IsSentOn fault flushed
-SendsOn Convert fault flushed = IsSentOn fault flushed
+SendsOn action fault flushed = IsSentOn fault flushed
 
 -- the place of a refusal, which is asked for with an explanation
 abbrev pub asked_near : Bool → Nearby NearRead
@@ -144,24 +144,22 @@ IsDone t bindings known out_old out = IfSome known (λ bytes. Does t.action (job
 
 -- The run stopped for a fault, which its status and the text on the error output say, with what is known of its place and of an unexpected token, or the reason of the device
 -- that failed, where the task asks for an explanation. The output has this name.
-pub record RunStops (devices : Devices) (name : Text) (t : Task) (bindings : List (List ℕ × List ℕ)) (status : ℕ) (known : Option (List ℕ)) (source : Reading)
-    (out_old : Option (List ℕ)) (out : Written) (err_old : Option (List ℕ)) (err : Written) : Type 0 where
+pub record RunStops (devices : Devices) (name : Text) (t : Task) (bindings : List (List ℕ × List ℕ)) (known : Option (List ℕ)) (source : Reading) (e : Ending) : Type 0 where
   pub fault : StreamFault
-  pub status_is : status ≡ status_of fault
-  pub stops : StopsAction t.action fault (job_of t bindings) known source out_old out.contents out.has_failed
-  pub sent : SendsOn t.action fault out.is_flushed
+  pub status_is : e.status ≡ status_of fault
+  pub stops : StopsAction t.action fault (job_of t bindings) known source e.out_old e.out.contents e.out.has_failed
+  pub sent : SendsOn t.action fault e.out.is_flushed
   pub evidence : Evidence NearRead
   pub expected : TellsEvidence t.explain t.action fault (job_of t bindings) known source evidence
-  pub reported : ReportsStop t.explain (device (name_of t) (devices.source source)) (device name (devices.output out)) fault evidence
-      err_old err.contents err.has_failed
+  pub reported : ReportsStop t.explain (device (name_of t) (devices.source source)) (device name (devices.output e.out)) fault evidence
+      e.err_old e.err.contents e.err.has_failed
 
 -- A run with these bindings, over a source of these bytes, left the source and the two outputs like this: it is done at 0, and else it stopped.
 -- In either case no line waited while more was asked for.
-abbrev pub DocumentEnds : Devices → Text → Task → List (List ℕ × List ℕ) → ℕ → Option (List ℕ) → Reading
-    → Option (List ℕ) → Written → Option (List ℕ) → Written → Type 0
-DocumentEnds devices name t bindings status known source out_old out err_old err =
-    (status ≡ 0 → IsDone t bindings known out_old out) × (status ≢ 0 → RunStops devices name t bindings status known source out_old out err_old err)
-    × HandsOver t.action (job_of t bindings) known source out_old out.contents
+abbrev pub DocumentEnds : Devices → Text → Task → List (List ℕ × List ℕ) → Option (List ℕ) → Reading → Ending → Type 0
+DocumentEnds devices name t bindings known source e =
+    (e.status ≡ 0 → IsDone t bindings known e.out_old e.out) × (e.status ≢ 0 → RunStops devices name t bindings known source e)
+    × HandsOver t.action (job_of t bindings) known source e.out_old e.out.contents
 
 -- The bindings that a document starts with: none, or those of a file of these bytes, whose source tells this then.
 abbrev pub StartsWith : Sizes → Option (Option (List ℕ)) → Option Reading → List (List ℕ × List ℕ) → Type 0
@@ -175,27 +173,23 @@ IsJobOf t prefixes left job = (bindings : List (List ℕ × List ℕ)) × Starts
 
 -- Why there are no bindings to start with: the file of these bytes was not loaded, and its source tells this then.
 abbrev pub StartsNot : LoadFault → Sizes → Option (Option (List ℕ)) → Option Reading → Type 0
-StartsNot fault sizes None left = ⊥
-StartsNot fault sizes (Some known) None = ⊥
 StartsNot fault sizes (Some known) (Some left) = LoadStops fault sizes known left
+StartsNot fault sizes prefixes left = ⊥
 
 -- the file of bindings of a task, and the reason that its source gives, which tells this of itself
 abbrev pub bindings_device : Devices → Task → Option Reading → Device
 bindings_device devices t left = device (name_by (option_map string_bytes t.prefixes)) (OneTells devices.source left)
 
 -- The file of bindings was not loaded, which the status and the text on the error output say, and nothing was written.
-pub record PrefixesStop (devices : Devices) (t : Task) (prefixes : Option (Option (List ℕ))) (left : Option Reading) (status : ℕ) (out_old : Option (List ℕ)) (out : Written)
-    (err_old : Option (List ℕ)) (err : Written) : Type 0 where
+pub record PrefixesStop (devices : Devices) (t : Task) (prefixes : Option (Option (List ℕ))) (left : Option Reading) (e : Ending) : Type 0 where
   pub fault : LoadFault
   pub stops : StartsNot fault t.limits prefixes left
-  pub status_is : status ≡ load_status fault
-  pub unwritten : out.contents ≡ out_old
-  pub reported : ReportsBindings t.explain (bindings_device devices t left) fault err_old err.contents err.has_failed
+  pub status_is : e.status ≡ load_status fault
+  pub unwritten : e.out.contents ≡ e.out_old
+  pub reported : ReportsBindings t.explain (bindings_device devices t left) fault e.err_old e.err.contents e.err.has_failed
 
 -- The document was read with the bindings to start with, and the run ended so; or there are none to start with. The files tell this then.
-abbrev pub RunEnds : Devices → Text → Task → Option (Option (List ℕ)) → Option (List ℕ) → FilesRead → ℕ
-    → Option (List ℕ) → Written → Option (List ℕ) → Written → Type 0
-RunEnds devices name t prefixes known left status out_old out err_old err =
-    ((bindings : List (List ℕ × List ℕ)) × StartsWith t.limits prefixes left.prefixes bindings
-    × DocumentEnds devices name t bindings status known left.document out_old out err_old err)
-    ⊎ PrefixesStop devices t prefixes left.prefixes status out_old out err_old err
+abbrev pub RunEnds : Devices → Text → Task → Option (Option (List ℕ)) → Option (List ℕ) → FilesRead → Ending → Type 0
+RunEnds devices name t prefixes known left e =
+    ((bindings : List (List ℕ × List ℕ)) × StartsWith t.limits prefixes left.prefixes bindings × DocumentEnds devices name t bindings known left.document e)
+    ⊎ PrefixesStop devices t prefixes left.prefixes e

@@ -17,7 +17,7 @@ use Rattle.rdf_terms.specs.declared.fault.TermFault.TheVariants.{BadTerm}
 use Rattle.rdf_command.specs.declared.several.Plan.{Plan}
 use Rattle.rdf_command.specs.Addresses.{HasNoAddress, IsAddress}
 use Rattle.rdf_command.specs.Reasons.{Devices, ReportsShutOf, ReportsStopOf, Shut, device, standard_output}
-use Rattle.rdf_command.specs.Runs.{IsCheckedAs, StopsCheckAs, TellsOf}
+use Rattle.rdf_command.specs.Runs.{Ending, IsCheckedAs, StopsCheckAs, TellsOf, ending}
 use Rattle.rdf_command.specs.Statuses.{ReportsLoad, ReportsNoAddressOf, address_status, load_status, status_of}
 use Rattle.rdf_command.specs.Words.{file_by}
 
@@ -58,77 +58,67 @@ IsCheckJob shared form job =
     (bindings : List (List ℕ × List ℕ)) × BindsFrom shared.limits shared.prefixes bindings × (job ≡ check_job shared form bindings)
 
 -- The document was accepted, and its line written and flushed.
-pub record AcceptsOne (job : JobRead) (name : List ℕ) (known : Option (List ℕ)) (status : ℕ) (out_old : Option (List ℕ)) (out : Written)
-    (err_old : Option (List ℕ)) (err : Written) : Type 0 where
-  pub status_is : status ≡ 0
-  pub checked : IfSome known (λ bytes. IsCheckedAs (Some name) job bytes out_old out.contents)
-  pub flushed : out.is_flushed ≡ true
-  pub untold : err.contents ≡ err_old
+pub record AcceptsOne (job : JobRead) (name : List ℕ) (known : Option (List ℕ)) (e : Ending) : Type 0 where
+  pub status_is : e.status ≡ 0
+  pub checked : IfSome known (λ bytes. IsCheckedAs (Some name) job bytes e.out_old e.out.contents)
+  pub flushed : e.out.is_flushed ≡ true
+  pub untold : e.err.contents ≡ e.err_old
 
 -- The document was not accepted, for a fault that the status and the line about it say, with what is known of its place and of an unexpected token where an explanation
 -- is asked for.
-pub record StopsOne (devices : Devices) (asked : Bool) (job : JobRead) (name : List ℕ) (known : Option (List ℕ)) (left : Reading) (status : ℕ)
-    (out_old : Option (List ℕ)) (out : Written) (err_old : Option (List ℕ)) (err : Written) : Type 0 where
+pub record StopsOne (devices : Devices) (asked : Bool) (job : JobRead) (name : List ℕ) (known : Option (List ℕ)) (left : Reading) (e : Ending) : Type 0 where
   pub fault : StreamFault
-  pub status_is : status ≡ status_of fault
-  pub stops : StopsCheckAs (Some name) fault job known left out_old out.contents out.has_failed
+  pub status_is : e.status ≡ status_of fault
+  pub stops : StopsCheckAs (Some name) fault job known left e.out_old e.out.contents e.out.has_failed
   pub evidence : Evidence NearRead
   pub expected : TellsOf asked fault job known left evidence
-  pub reported : ReportsStopOf asked (device name (devices.source left)) (device standard_output (devices.output out)) fault evidence
-      err_old err.contents err.has_failed
+  pub reported : ReportsStopOf asked (device name (devices.source left)) (device standard_output (devices.output e.out)) fault evidence
+      e.err_old e.err.contents e.err.has_failed
 
 -- The document of this format and name was opened and read.
-pub record ReadsOne (has_document : Option (List ℕ) → Option (List ℕ) → Type 0) (devices : Devices) (shared : Shared) (d : Form × List ℕ) (status : ℕ)
-    (out_old : Option (List ℕ)) (out : Written) (err_old : Option (List ℕ)) (err : Written) : Type 0 where
+pub record ReadsOne (has_document : Option (List ℕ) → Option (List ℕ) → Type 0) (devices : Devices) (shared : Shared) (d : Form × List ℕ) (e : Ending) : Type 0 where
   pub job : JobRead
   pub is_job : IsCheckJob shared d.0 job
   pub known : Option (List ℕ)
   pub opened : has_document (file_by (Some d.1)) known
   pub left : Reading
-  pub ends : AcceptsOne job d.1 known status out_old out err_old err ⊎ StopsOne devices shared.explain job d.1 known left status out_old out err_old err
+  pub ends : AcceptsOne job d.1 known e ⊎ StopsOne devices shared.explain job d.1 known left e
 
 -- The file of this name did not open.
-pub record OpensNone (asked : Bool) (shut : Shut) (d : Form × List ℕ) (status : ℕ) (out_old : Option (List ℕ)) (out : Written)
-    (err_old : Option (List ℕ)) (err : Written) : Type 0 where
+pub record OpensNone (asked : Bool) (shut : Shut) (d : Form × List ℕ) (e : Ending) : Type 0 where
   pub path : List ℕ
   pub named : file_by (Some d.1) ≡ Some path
   pub does_not : shut.is path
-  pub status_is : status ≡ 3
-  pub unwritten : out.contents ≡ out_old
-  pub reported : ReportsShutOf shut.tells asked d.1 err_old err.contents err.has_failed
+  pub status_is : e.status ≡ 3
+  pub unwritten : e.out.contents ≡ e.out_old
+  pub reported : ReportsShutOf shut.tells asked d.1 e.err_old e.err.contents e.err.has_failed
 
 -- There was nothing to read it with.
-pub record BindsNone (shared : Shared) (status : ℕ) (out_old : Option (List ℕ)) (out : Written) (err_old : Option (List ℕ)) (err : Written) : Type 0 where
+pub record BindsNone (shared : Shared) (e : Ending) : Type 0 where
   pub fault : LoadFault
   pub binds_not : BindsNotFrom fault shared.limits shared.prefixes
-  pub status_is : status ≡ load_status fault
-  pub unwritten : out.contents ≡ out_old
-  pub reported : ReportsLoad fault err_old err.contents err.has_failed
+  pub status_is : e.status ≡ load_status fault
+  pub unwritten : e.out.contents ≡ e.out_old
+  pub reported : ReportsLoad fault e.err_old e.err.contents e.err.has_failed
 
 -- how one of several documents ends
-abbrev pub EndsOne : (Option (List ℕ) → Option (List ℕ) → Type 0) → Shut → Shared → Form × List ℕ → ℕ
-    → Option (List ℕ) → Written → Option (List ℕ) → Written → Type 0
-EndsOne has_document shut shared d status out_old out err_old err =
-    ReadsOne has_document shut.devices shared d status out_old out err_old err
-    ⊎ (OpensNone shared.explain shut d status out_old out err_old err ⊎ BindsNone shared status out_old out err_old err)
+abbrev pub EndsOne : (Option (List ℕ) → Option (List ℕ) → Type 0) → Shut → Shared → Form × List ℕ → Ending → Type 0
+EndsOne has_document shut shared d e = ReadsOne has_document shut.devices shared d e ⊎ (OpensNone shared.explain shut d e ⊎ BindsNone shared e)
 
 -- The document has no address to be its base, which the status and its line on the error output say, and it was not opened.
-pub record AddressesNone (folder : List ℕ) (shared : Shared) (d : Form × List ℕ) (status : ℕ) (out_old : Option (List ℕ)) (out : Written)
-    (err_old : Option (List ℕ)) (err : Written) : Type 0 where
+pub record AddressesNone (folder : List ℕ) (shared : Shared) (d : Form × List ℕ) (e : Ending) : Type 0 where
   pub fault : TermFault
   pub why : fault ≡ BadTerm → HasNoAddress shared.limits.iri folder (file_by (Some d.1))
-  pub status_is : status ≡ address_status fault
-  pub unwritten : out.contents ≡ out_old
-  pub reported : ReportsNoAddressOf d.1 fault err_old err.contents err.has_failed
+  pub status_is : e.status ≡ address_status fault
+  pub unwritten : e.out.contents ≡ e.out_old
+  pub reported : ReportsNoAddressOf d.1 fault e.err_old e.err.contents e.err.has_failed
 
 -- By the folder: without one the document ended so with the base of all, and else with its address in the folder as its base; or it has none.
-abbrev pub EndsAt : Option (List ℕ) → (Option (List ℕ) → Option (List ℕ) → Type 0) → Shut → Shared → Form × List ℕ → ℕ
-    → Option (List ℕ) → Written → Option (List ℕ) → Written → Type 0
-EndsAt None has_document shut shared d status out_old out err_old err = EndsOne has_document shut shared d status out_old out err_old err
-EndsAt (Some folder) has_document shut shared d status out_old out err_old err =
-    ((base : List ℕ) × IsAddress shared.limits.iri folder (file_by (Some d.1)) base
-    × EndsOne has_document shut (record shared { base = Some base }) d status out_old out err_old err)
-    ⊎ AddressesNone folder shared d status out_old out err_old err
+abbrev pub EndsAt : Option (List ℕ) → (Option (List ℕ) → Option (List ℕ) → Type 0) → Shut → Shared → Form × List ℕ → Ending → Type 0
+EndsAt None has_document shut shared d e = EndsOne has_document shut shared d e
+EndsAt (Some folder) has_document shut shared d e =
+    ((base : List ℕ) × IsAddress shared.limits.iri folder (file_by (Some d.1)) base × EndsOne has_document shut (record shared { base = Some base }) d e)
+    ⊎ AddressesNone folder shared d e
 
 -- one of the outputs has failed
 abbrev pub has_failed_output : Written → Written → Bool
@@ -149,21 +139,20 @@ abbrev pub EndsLeft : (Option (List ℕ) → Option (List ℕ) → Type 0) → S
     → Written → Written → Written → Written → Type 0
 EndsLeft has_document shut shared [] so_far status out_now out err_now err = (status ≡ so_far) × (out ≡ out_now) × (err ≡ err_now)
 EndsLeft has_document shut shared (d ∷ ds) so_far status out_now out err_now err =
-    (own : ℕ) × (out_next : Written) × (err_next : Written) × EndsAt shared.folder has_document shut shared d own out_now.contents out_next err_now.contents err_next
+    (own : ℕ) × (out_next : Written) × (err_next : Written)
+    × EndsAt shared.folder has_document shut shared d (ending own out_now.contents out_next err_now.contents err_next)
     × Either (has_failed_output out_next err_next)
     ((status ≡ status_after so_far own true) × (out ≡ out_next) × (err ≡ err_next))
     (EndsLeft has_document shut shared ds (status_after so_far own false) status out_next out err_next err)
 
 -- the same of all documents, from outputs with these contents
-abbrev pub EndsEach : (Option (List ℕ) → Option (List ℕ) → Type 0) → Shut → Shared → List (Form × List ℕ) → ℕ
-    → Option (List ℕ) → Written → Option (List ℕ) → Written → Type 0
-EndsEach has_document shut shared ds status out_old out err_old err =
-    (out_first : Written) × (err_first : Written) × (out_first.contents ≡ out_old) × (err_first.contents ≡ err_old)
-    × EndsLeft has_document shut shared ds 0 status out_first out err_first err
+abbrev pub EndsEach : (Option (List ℕ) → Option (List ℕ) → Type 0) → Shut → Shared → List (Form × List ℕ) → Ending → Type 0
+EndsEach has_document shut shared ds e =
+    (out_first : Written) × (err_first : Written) × (out_first.contents ≡ e.out_old) × (err_first.contents ≡ e.err_old)
+    × EndsLeft has_document shut shared ds 0 e.status out_first e.out err_first e.err
 
 -- The file of bindings, where there is one, had these bytes, and they are bindings.
 abbrev pub GivesBindings : Sizes → Option (Option (List ℕ)) → Option (List ℕ) → Type 0
 GivesBindings sizes None None = ⊤
-GivesBindings sizes None (Some bytes) = ⊥
-GivesBindings sizes (Some known) None = ⊥
 GivesBindings sizes (Some known) (Some bytes) = ((left : Reading) × HasGivenAll known left bytes) × ((b : BindingMap) × IsReadFrom sizes bytes b)
+GivesBindings sizes prefixes given = ⊥

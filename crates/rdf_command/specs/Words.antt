@@ -238,63 +238,39 @@ pub record HasFormless (p : Entered) (name : Text) : Type 0 where
 
 -- why a document of this name has no format
 abbrev pub NoFormOf : Text → Text → WordsFault → Type 0
-NoFormOf word name (Usage e) = ⊥
-NoFormOf word name BadBase = ⊥
-NoFormOf word name BadNodePrefix = ⊥
-NoFormOf word name BadGraph = ⊥
-NoFormOf word name BadSkip = ⊥
 NoFormOf word name (NoFormat at) = (string_bytes at ≡ name) × IsFormless word name
 NoFormOf word name Memory = Unit
+NoFormOf word name fault = ⊥
 
 -- why one of the documents of these names has no format
 abbrev pub NoFormsOf : Text → List Text → WordsFault → Type 0
-NoFormsOf word names (Usage e) = ⊥
-NoFormsOf word names BadBase = ⊥
-NoFormsOf word names BadNodePrefix = ⊥
-NoFormsOf word names BadGraph = ⊥
-NoFormsOf word names BadSkip = ⊥
 NoFormsOf word names (NoFormat at) = IsFormless word (string_bytes at) × ((front rest : List Text) × (names ≡ front ++ string_bytes at ∷ rest))
 NoFormsOf word names Memory = Unit
+NoFormsOf word names fault = ⊥
 
 -- why a text gives no base
 abbrev pub NoBaseOf : ℕ → Option Text → WordsFault → Type 0
-NoBaseOf most base (Usage e) = ⊥
 NoBaseOf most base BadBase = (text : Text) × (base ≡ Some text) × (IsBase most text → ⊥)
-NoBaseOf most base BadNodePrefix = ⊥
-NoBaseOf most base BadGraph = ⊥
-NoBaseOf most base BadSkip = ⊥
-NoBaseOf most base (NoFormat at) = ⊥
 NoBaseOf most base Memory = Unit
+NoBaseOf most base fault = ⊥
 
 -- why a text gives no word
 abbrev pub NoWordOf : Option Text → WordsFault → Type 0
-NoWordOf word (Usage e) = ⊥
-NoWordOf word BadBase = ⊥
 NoWordOf word BadNodePrefix = (text : Text) × (word ≡ Some text) × (IsWord text → ⊥)
-NoWordOf word BadGraph = ⊥
-NoWordOf word BadSkip = ⊥
-NoWordOf word (NoFormat at) = ⊥
 NoWordOf word Memory = Unit
+NoWordOf word fault = ⊥
 
 -- why a text gives no graph
 abbrev pub NoGraphOf : ℕ → Option Text → WordsFault → Type 0
-NoGraphOf most graph (Usage e) = ⊥
-NoGraphOf most graph BadBase = ⊥
-NoGraphOf most graph BadNodePrefix = ⊥
 NoGraphOf most graph BadGraph = (text : Text) × (graph ≡ Some text) × (IsBase most text → ⊥)
-NoGraphOf most graph BadSkip = ⊥
-NoGraphOf most graph (NoFormat at) = ⊥
 NoGraphOf most graph Memory = Unit
+NoGraphOf most graph fault = ⊥
 
 -- why a file for bad lines is none, where the document has this format and these are the names of those after it
 abbrev pub NoSkipOf : Form → List Text → Option Text → WordsFault → Type 0
-NoSkipOf f further skip (Usage e) = ⊥
-NoSkipOf f further skip BadBase = ⊥
-NoSkipOf f further skip BadNodePrefix = ⊥
-NoSkipOf f further skip BadGraph = ⊥
 NoSkipOf f further skip BadSkip = ((text : Text) × (skip ≡ Some text)) × (CanSkip f further → ⊥)
-NoSkipOf f further skip (NoFormat at) = ⊥
 NoSkipOf f further skip Memory = Unit
+NoSkipOf f further skip fault = ⊥
 
 -- why matches give no task
 abbrev pub NoTaskBy : Entered → WordsFault → Type 0
@@ -340,9 +316,5 @@ fault_by kind e = Usage e
 -- a fault of clap's of this kind, or want of memory
 abbrev pub IsUsageOf : ErrorKind → WordsFault → Type 0
 IsUsageOf kind (Usage e) = kind_of e ≡ kind
-IsUsageOf kind BadBase = ⊥
-IsUsageOf kind BadNodePrefix = ⊥
-IsUsageOf kind BadGraph = ⊥
-IsUsageOf kind BadSkip = ⊥
-IsUsageOf kind (NoFormat name) = ⊥
 IsUsageOf kind Memory = Unit
+IsUsageOf kind fault = ⊥

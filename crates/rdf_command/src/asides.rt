@@ -92,7 +92,7 @@ pub fn run_skipping<H: Host, O: Drain + Explains, E: Drain>(
     requires err { E.has_failed err.old ≡ false }
     ensures { AsWritten (EndsBySkip (Some bad.now) (outputs_of H.Host host.now (drain_tells H.Output.Drain H.Output.Explains))
         (devices_of H.Input.Source H.Input.Explains O.Drain O.Explains) task (option_map H.Input.remaining files.prefixes)
-        (H.Input.remaining files.document) (option_map (files_told H.Input.Source) result.files) result.status)
+        (H.Input.remaining files.document) (option_map (files_told H.Input.Source) result.files)) result.status
         O.Drain E.Drain out.old out.new err.old err.new }
 {
     let mut files = files;
@@ -118,7 +118,7 @@ fn skip_over<H: Host, I: Source + Explains, O: Drain + Explains, E: Drain>(
     requires out { O.has_failed out.old ≡ false }
     requires err { E.has_failed err.old ≡ false }
     ensures { AsWritten (AsideEnds (outputs_of H.Host host.now (drain_tells H.Output.Drain H.Output.Explains)) (devices_of I.Source I.Explains O.Drain O.Explains) bad.now task (option_map I.remaining files.old.prefixes) (I.remaining files.old.document)
-        (files_told I.Source files.new) result) O.Drain E.Drain out.old out.new err.old err.new }
+        (files_told I.Source files.new)) result O.Drain E.Drain out.old out.new err.old err.new }
 {
     let mut task = task;
     let action = task.action;
@@ -169,7 +169,7 @@ fn skip_to<H: Host, S: Source + Explains, O: Drain + Explains, E: Drain>(
     requires out { O.has_failed out.old ≡ false }
     requires err { E.has_failed err.old ≡ false }
     ensures { AsWritten (AsideBy (option_map (λ s. s.now) output.entry) (outputs_of H.Host host.now (drain_tells H.Output.Drain H.Output.Explains))
-        (devices_of S.Source S.Explains O.Drain O.Explains) (told_by how.now) job (S.remaining source.old) (told S.Source source.new) result)
+        (devices_of S.Source S.Explains O.Drain O.Explains) (told_by how.now) job (S.remaining source.old) (told S.Source source.new)) result
         O.Drain E.Drain out.old out.new err.old err.new }
 {
     match how.action {
@@ -194,7 +194,7 @@ fn skip_and_write<H: Host, S: Source + Explains, O: Drain + Explains, E: Drain>(
     requires out { O.has_failed out.old ≡ false }
     requires err { E.has_failed err.old ≡ false }
     ensures { AsWritten (AsideOut (option_map (λ s. s.now) output.entry) (outputs_of H.Host host.now (drain_tells H.Output.Drain H.Output.Explains))
-        (devices_of S.Source S.Explains O.Drain O.Explains) (told_by how.now) job (S.remaining source.old) (told S.Source source.new) result)
+        (devices_of S.Source S.Explains O.Drain O.Explains) (told_by how.now) job (S.remaining source.old) (told S.Source source.new)) result
         O.Drain E.Drain out.old out.new err.old err.new }
 {
     match output {
@@ -237,7 +237,7 @@ fn skip_onto<H: Host, S: Source + Explains, O: Drain + Explains, E: Drain>(
     requires out { O.has_failed out.old ≡ false }
     requires err { E.has_failed err.old ≡ false }
     ensures { AsWritten (AsideOnto (outputs_of H.Host host.now (drain_tells H.Output.Drain H.Output.Explains))
-        (devices_of S.Source S.Explains O.Drain O.Explains) (told_by how.now) job (S.remaining source.old) (told S.Source source.new) result)
+        (devices_of S.Source S.Explains O.Drain O.Explains) (told_by how.now) job (S.remaining source.old) (told S.Source source.new)) result
         O.Drain E.Drain out.old out.new err.old err.new }
 {
     match put_aside(how, job, host, source, out, err) {
@@ -295,7 +295,7 @@ fn put_aside<H: Host, S: Source + Explains, D: Drain + Explains, E: Drain>(
     ensures put { IfOk result (IsPutAside (outputs_of H.Host host.now (drain_tells H.Output.Drain H.Output.Explains)) (told_by how.now) job (S.remaining source.old) (D.contents drain.old) (written D.Drain drain.new)) }
     ensures untold { OnOk result (err.new ≡ err.old) }
     ensures none { IfErr result (λ status. AsWritten (NotPutAside (outputs_of H.Host host.now (drain_tells H.Output.Drain H.Output.Explains)) (devices_of S.Source S.Explains D.Drain D.Explains) (told_by how.now) job (S.remaining source.old)
-        (told S.Source source.new) status) D.Drain E.Drain drain.old drain.new err.old err.new) }
+        (told S.Source source.new)) status D.Drain E.Drain drain.old drain.new err.old err.new) }
 {
     let mut bad = match host.create(how.alloc, how.bad) {
         Ok(bad) => bad,

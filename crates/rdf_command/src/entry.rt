@@ -43,7 +43,7 @@ pub fn start<H: Host, O: Drain + Explains, E: Drain>(
     requires out { O.has_failed out.old ≡ false }
     requires err { E.has_failed err.old ≡ false }
     ensures { AsWritten (HostEnds H.Host host.now (devices_of H.Input.Source H.Input.Explains O.Drain O.Explains)
-        (drain_tells H.Output.Drain H.Output.Explains) (option_map (files_told H.Input.Source) result.files) result.status)
+        (drain_tells H.Output.Drain H.Output.Explains) (option_map (files_told H.Input.Source) result.files)) result.status
         O.Drain E.Drain out.old out.new err.old err.new }
 {
     match task_of(alloc, host) {
@@ -89,7 +89,7 @@ fn run_task<H: Host, O: Drain + Explains, E: Drain>(
     requires out { O.has_failed out.old ≡ false }
     requires err { E.has_failed err.old ≡ false }
     ensures { AsWritten (TaskEnds (folders_of H.Host host.now) (H.has_document host.now) (shut_of H.Host host.now (devices_of H.Input.Source H.Input.Explains O.Drain O.Explains))
-        (outputs_of H.Host host.now (drain_tells H.Output.Drain H.Output.Explains)) task (option_map (files_told H.Input.Source) result.files) result.status)
+        (outputs_of H.Host host.now (drain_tells H.Output.Drain H.Output.Explains)) task (option_map (files_told H.Input.Source) result.files)) result.status
         O.Drain E.Drain out.old out.new err.old err.new }
 {
     if task.more.as_slice().is_empty() {
@@ -115,7 +115,7 @@ fn run_alone<H: Host, O: Drain + Explains, E: Drain>(
     requires err { E.has_failed err.old ≡ false }
     ensures { AsWritten (OneEndsAt task.addressed (folders_of H.Host host.now) (H.has_document host.now) (shut_of H.Host host.now (devices_of H.Input.Source H.Input.Explains O.Drain O.Explains))
         (outputs_of H.Host host.now (drain_tells H.Output.Drain H.Output.Explains))
-        task (option_map (files_told H.Input.Source) result.files) result.status)
+        task (option_map (files_told H.Input.Source) result.files)) result.status
         O.Drain E.Drain out.old out.new err.old err.new }
 {
     if !task.addressed {
@@ -174,7 +174,7 @@ fn run_one<H: Host, O: Drain + Explains, E: Drain>(
     requires out { O.has_failed out.old ≡ false }
     requires err { E.has_failed err.old ≡ false }
     ensures { AsWritten (OneEnds (H.has_document host.now) (shut_of H.Host host.now (devices_of H.Input.Source H.Input.Explains O.Drain O.Explains))
-        (outputs_of H.Host host.now (drain_tells H.Output.Drain H.Output.Explains)) task (option_map (files_told H.Input.Source) result.files) result.status)
+        (outputs_of H.Host host.now (drain_tells H.Output.Drain H.Output.Explains)) task (option_map (files_told H.Input.Source) result.files)) result.status
         O.Drain E.Drain out.old out.new err.old err.new }
 {
     match open_files(host, &task) {

@@ -38,7 +38,7 @@ pub fn run_over<H: Host, O: Drain + Explains, E: Drain>(
     requires err { E.has_failed err.old ≡ false }
     ensures { AsWritten (EndsBySkip (skip_of task) (outputs_of H.Host host.now (drain_tells H.Output.Drain H.Output.Explains))
         (devices_of H.Input.Source H.Input.Explains O.Drain O.Explains) task (option_map H.Input.remaining files.prefixes)
-        (H.Input.remaining files.document) (option_map (files_told H.Input.Source) result.files) result.status)
+        (H.Input.remaining files.document) (option_map (files_told H.Input.Source) result.files)) result.status
         O.Drain E.Drain out.old out.new err.old err.new }
 {
     let mut task = task;
@@ -63,7 +63,7 @@ fn run_to<H: Host, O: Drain + Explains, E: Drain>(
     requires err { E.has_failed err.old ≡ false }
     ensures { AsWritten (EndsTo (output_of task) (outputs_of H.Host host.now (drain_tells H.Output.Drain H.Output.Explains))
         (devices_of H.Input.Source H.Input.Explains O.Drain O.Explains) task (option_map H.Input.remaining files.prefixes)
-        (H.Input.remaining files.document) (option_map (files_told H.Input.Source) result.files) result.status)
+        (H.Input.remaining files.document) (option_map (files_told H.Input.Source) result.files)) result.status
         O.Drain E.Drain out.old out.new err.old err.new }
 {
     let mut task = task;
@@ -85,7 +85,7 @@ fn run_onto<I: Source + Explains + Drop, O: Drain + Explains, E: Drain>(
     requires fresh { AreFresh I.has_ended I.has_failed files }
     requires out { O.has_failed out.old ≡ false }
     requires err { E.has_failed err.old ≡ false }
-    ensures { AsWritten (EndsOnto (devices_of I.Source I.Explains O.Drain O.Explains) task (option_map I.remaining files.prefixes) (I.remaining files.document) (option_map (files_told I.Source) result.files) result.status)
+    ensures { AsWritten (EndsOnto (devices_of I.Source I.Explains O.Drain O.Explains) task (option_map I.remaining files.prefixes) (I.remaining files.document) (option_map (files_told I.Source) result.files)) result.status
         O.Drain E.Drain out.old out.new err.old err.new }
 {
     let mut files = files;

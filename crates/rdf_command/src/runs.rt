@@ -48,7 +48,7 @@ pub fn run<I: Source + Explains, O: Drain + Explains, E: Drain>(
     requires out { O.has_failed out.old ≡ false }
     requires err { E.has_failed err.old ≡ false }
     ensures ends { AsWritten (RunEnds (devices_of I.Source I.Explains O.Drain O.Explains) standard_output task (option_map I.remaining files.old.prefixes)
-        (I.remaining files.old.document) (files_told I.Source files.new) result)
+        (I.remaining files.old.document) (files_told I.Source files.new)) result
         O.Drain E.Drain out.old out.new err.old err.new }
     ensures untold { result ≡ 0 → err.new ≡ err.old }
 {
@@ -68,7 +68,7 @@ pub fn run_to_output<I: Source + Explains, O: Drain + Explains, E: Drain>(
     requires fresh { AreFresh I.has_ended I.has_failed files.old }
     requires out { O.has_failed out.old ≡ false }
     requires err { E.has_failed err.old ≡ false }
-    ensures ends { AsWritten (RunEnds (devices_of I.Source I.Explains O.Drain O.Explains) name.now task (option_map I.remaining files.old.prefixes) (I.remaining files.old.document) (files_told I.Source files.new) result)
+    ensures ends { AsWritten (RunEnds (devices_of I.Source I.Explains O.Drain O.Explains) name.now task (option_map I.remaining files.old.prefixes) (I.remaining files.old.document) (files_told I.Source files.new)) result
         O.Drain E.Drain out.old out.new err.old err.new }
     ensures untold { result ≡ 0 → err.new ≡ err.old }
 {

@@ -78,7 +78,7 @@ pub fn check_each<H: Host, O: Drain + Explains, E: Drain>(
     requires base { BaseFits task.now.base task.now.limits }
     requires out { O.has_failed out.old ≡ false }
     requires err { E.has_failed err.old ≡ false }
-    ensures { AsWritten (SeveralEnd (folders_of H.Host host.now) (H.has_document host.now) (shut_of H.Host host.now (devices_of H.Input.Source H.Input.Explains O.Drain O.Explains)) task.now result)
+    ensures { AsWritten (SeveralEnd (folders_of H.Host host.now) (H.has_document host.now) (shut_of H.Host host.now (devices_of H.Input.Source H.Input.Explains O.Drain O.Explains)) task.now) result
         O.Drain E.Drain out.old out.new err.old err.new }
 {
     let folder = match folder_for(alloc, host, task.addressed) {
@@ -163,7 +163,7 @@ fn check_with<H: Host, O: Drain + Explains, E: Drain>(
     requires base { BaseFits (shared_of plan.now).base plan.now.limits }
     requires out { O.has_failed out.old ≡ false }
     requires err { E.has_failed err.old ≡ false }
-    ensures { AsWritten (EndsEach (H.has_document host.now) (shut_of H.Host host.now (devices_of H.Input.Source H.Input.Explains O.Drain O.Explains)) (shared_of plan.now) (documents_of task.now) result)
+    ensures { AsWritten (EndsEach (H.has_document host.now) (shut_of H.Host host.now (devices_of H.Input.Source H.Input.Explains O.Drain O.Explains)) (shared_of plan.now) (documents_of task.now)) result
         O.Drain E.Drain out.old out.new err.old err.new }
 {
     let first = (task.form, name_by(task.file.as_deref()));
@@ -197,7 +197,7 @@ fn check_next<H: Host, O: Drain + Explains, E: Drain>(
     requires base { BaseFits (shared_of plan.now).base plan.now.limits }
     requires out { O.has_failed out.old ≡ false }
     requires err { E.has_failed err.old ≡ false }
-    ensures ends { AsWritten (EndsAt (shared_of plan.now).folder (H.has_document host.now) (shut_of H.Host host.now (devices_of H.Input.Source H.Input.Explains O.Drain O.Explains)) (shared_of plan.now) (document.entry.0, document.entry.1.now) result.status)
+    ensures ends { AsWritten (EndsAt (shared_of plan.now).folder (H.has_document host.now) (shut_of H.Host host.now (devices_of H.Input.Source H.Input.Explains O.Drain O.Explains)) (shared_of plan.now) (document.entry.0, document.entry.1.now)) result.status
         O.Drain E.Drain out.old out.new err.old err.new }
     ensures failed { result.has_failed ≡ has_failed_output (written O.Drain out.new) (written E.Drain err.new) }
 {
@@ -219,7 +219,7 @@ fn check_one<H: Host, O: Drain + Explains, E: Drain>(
     requires base { BaseFits (shared_of plan.now).base plan.now.limits }
     requires out { O.has_failed out.old ≡ false }
     requires err { E.has_failed err.old ≡ false }
-    ensures { AsWritten (EndsAt (shared_of plan.now).folder (H.has_document host.now) (shut_of H.Host host.now (devices_of H.Input.Source H.Input.Explains O.Drain O.Explains)) (shared_of plan.now) (document.entry.0, document.entry.1.now) result)
+    ensures { AsWritten (EndsAt (shared_of plan.now).folder (H.has_document host.now) (shut_of H.Host host.now (devices_of H.Input.Source H.Input.Explains O.Drain O.Explains)) (shared_of plan.now) (document.entry.0, document.entry.1.now)) result
         O.Drain E.Drain out.old out.new err.old err.new }
 {
     match plan.folder {
@@ -239,7 +239,7 @@ fn check_at<H: Host, O: Drain + Explains, E: Drain>(
 ) -> u8
     requires out { O.has_failed out.old ≡ false }
     requires err { E.has_failed err.old ≡ false }
-    ensures { AsWritten (EndsAt (Some folder.now) (H.has_document host.now) (shut_of H.Host host.now (devices_of H.Input.Source H.Input.Explains O.Drain O.Explains)) (shared_of plan.now) (document.entry.0, document.entry.1.now) result)
+    ensures { AsWritten (EndsAt (Some folder.now) (H.has_document host.now) (shut_of H.Host host.now (devices_of H.Input.Source H.Input.Explains O.Drain O.Explains)) (shared_of plan.now) (document.entry.0, document.entry.1.now)) result
         O.Drain E.Drain out.old out.new err.old err.new }
 {
     let (_, name) = document;
@@ -260,7 +260,7 @@ fn check_based<H: Host, O: Drain + Explains, E: Drain>(
     requires base { BaseFits (shared_of plan.now).base plan.now.limits }
     requires out { O.has_failed out.old ≡ false }
     requires err { E.has_failed err.old ≡ false }
-    ensures { AsWritten (EndsOne (H.has_document host.now) (shut_of H.Host host.now (devices_of H.Input.Source H.Input.Explains O.Drain O.Explains)) (shared_of plan.now) (document.entry.0, document.entry.1.now) result)
+    ensures { AsWritten (EndsOne (H.has_document host.now) (shut_of H.Host host.now (devices_of H.Input.Source H.Input.Explains O.Drain O.Explains)) (shared_of plan.now) (document.entry.0, document.entry.1.now)) result
         O.Drain E.Drain out.old out.new err.old err.new }
 {
     let (form, name) = document;
@@ -286,8 +286,8 @@ fn check_source<I: Source + Explains + Drop, O: Drain + Explains, E: Drain>(
     requires source { I.has_failed source ≡ false }
     requires out { O.has_failed out.old ≡ false }
     requires err { E.has_failed err.old ≡ false }
-    ensures { (left : Reading) × (AsWritten (AcceptsOne document.entry.0 document.entry.1.now (I.remaining source) result) O.Drain E.Drain out.old out.new err.old err.new
-        ⊎ AsWritten (StopsOne (devices_of I.Source I.Explains O.Drain O.Explains) plan.now.explain document.entry.0 document.entry.1.now (I.remaining source) left result) O.Drain E.Drain out.old out.new err.old err.new) }
+    ensures { (left : Reading) × (AsWritten (AcceptsOne document.entry.0 document.entry.1.now (I.remaining source)) result O.Drain E.Drain out.old out.new err.old err.new
+        ⊎ AsWritten (StopsOne (devices_of I.Source I.Explains O.Drain O.Explains) plan.now.explain document.entry.0 document.entry.1.now (I.remaining source) left) result O.Drain E.Drain out.old out.new err.old err.new) }
 {
     let (job, name) = document;
     let mut source = source;

@@ -10,7 +10,6 @@ use Rattle.std.proofs.lemmas.Str.{IsUtf8-take, IsUtf8-drop, IsUtf8-append, IsUtf
 use Rattle.rdf_terms.specs.declared.kind.Dialect.TheVariants.{Lines}
 use Rattle.rdf_terms.specs.declared.kind.Kind.{Kind}
 use Rattle.rdf_terms.specs.declared.kind.Kind.TheVariants.{IriRef, LabelNode, ShortString, LangTag, Carets, Dot, LineEnd, End}
-use Rattle.rdf_terms.specs.declared.reason.Reason.TheVariants.{Unexpected}
 use Rattle.rdf_terms.specs.Terms.{Subject, Term, Literal, Typed, Quad, xsd_string, has_scheme}
 use Rattle.rdf_tokens.specs.Tokens.{Place, past, Tail, Outcome, Token, Reading, Step, step, rest_of, place_of, tokens, with_tokens, end_tokens}
 use Rattle.rdf_tokens.specs.Tokens.Tail.{ended, broken}
@@ -28,8 +27,9 @@ use Rattle.rdf_lines.specs.declared.form.LineForm.TheVariants.{NTriples, NQuads}
 use Rattle.rdf_lines.specs.Machine.{Mode, Begin, AfterSubject, AfterPredicate, AfterString, AfterCarets, AfterObject, AfterGraph, AfterDot, Finished, Answer, goes, gives, refuses, is_taken, object_then, accept, Run, ran, refused, with_quad, go_on, run}
 use Rattle.rdf_lines.specs.Documents.{in_lines, Passes}
 use Rattle.rdf_lines.specs.SplitLines.{IsDocumentWithin}
+use Rattle.rdf_lines.proofs.EndLemmas.{LeadsInto, leads_into}
 use Rattle.rdf_lines.proofs.LineEnds.{IsEnd, at_end, step_complete, Through, line_read, end_read, mark_stops}
-use Rattle.rdf_lines.proofs.Runs.{with_quads, then, run_append, run_one, then_ran, run_document}
+use Rattle.rdf_lines.proofs.Runs.{with_quads, then, run_append, then_ran, run_document}
 use Rattle.rdf_lines.proofs.Sound.{sound, quad_first}
 use Rattle.rdf_lines.proofs.LinesLemmas.{document_marked, without_marks}
 use Rattle.rdf_lines.proofs.Refusals.{Tested, tested, absolute_goes, absolute_refuses, in_documents, ran_none}
@@ -122,7 +122,7 @@ run_alike test f m (t ∷ ts) (u ∷ us) a =
     more h (refuses r) = refl
 
 -- A line end leads back between two lines, or is refused.
-accept_line_end : (test : List ℕ → Bool) (f : LineForm) (m : Mode) (l : Leaf) → (accept test f m LineEnd l ≡ goes Begin) ⊎ (accept test f m LineEnd l ≡ refuses Unexpected)
+accept_line_end : LeadsInto LineEnd Begin
 accept_line_end test f Begin l = inl refl
 accept_line_end test f AfterDot l = inl refl
 accept_line_end test NTriples (AfterString s p w) l = inr refl
@@ -130,22 +130,6 @@ accept_line_end test NQuads (AfterString s p w) l = inr refl
 accept_line_end test NTriples (AfterObject s p o) l = inr refl
 accept_line_end test NQuads (AfterObject s p o) l = inr refl
 accept_line_end test f m l = inr refl
-
--- a run over a line end is between two lines
-ends_begin : (test : List ℕ → Bool) (f : LineForm) (ts : List Token) (t : Token) (m n : Mode) (qs : List Quad) → run test f m (ts ++ t ∷ []) ≡ ran n qs → t.kind ≡ LineEnd → n ≡ Begin
-ends_begin test f ts t m n qs e k =
-    let before = then_ran (run test f m ts) (λ x. run test f x (t ∷ [])) n qs (sym (run_append test f ts (t ∷ []) m) ∙ e) in
-    let one = run_one test f ts t m before.0 before.1 before.2 in
-    by before.0 before.1 (sym one ∙ e)
-  where
-    by : (x : Mode) (rs : List Quad) → with_quads rs (go_on (accept test f x t.kind (leaf_of t)) (λ j. ran j [])) ≡ ran n qs → n ≡ Begin
-    by x rs h =
-        let h : with_quads rs (go_on (accept test f x LineEnd (leaf_of t)) (λ j. ran j [])) ≡ ran n qs =
-        subst (λ k. with_quads rs (go_on (accept test f x k (leaf_of t)) (λ j. ran j [])) ≡ ran n qs) k h in
-        ⊎_elim
-        (λ a. let z : ran Begin (rs ++ []) ≡ ran n qs = sym (ap (λ y. with_quads rs (go_on y (λ j. ran j []))) a) ∙ h in cc)
-        (λ a. absurd (let z : refused Unexpected ≡ ran n qs = sym (ap (λ y. with_quads rs (go_on y (λ j. ran j []))) a) ∙ h in cc))
-        (accept_line_end test f x (leaf_of t))
 
 -- A run in two parts: over tokens of which the last is a line end, and from the beginning of a line on.
 record TwoRuns (test : List ℕ → Bool) (f : LineForm) (ts us : List Token) (qs : List Quad) : Type 0 where
@@ -166,7 +150,7 @@ in_two : (test : List ℕ → Bool) (f : LineForm) (ts us : List Token) (t : Tok
 in_two test f ts us t qs k e =
     let whole : then (run test f Begin (ts ++ t ∷ [])) (λ n. run test f n us) ≡ ran Finished qs = sym (run_append test f (ts ++ t ∷ []) us Begin) ∙ e in
     let (n, ps, one) = then_ran (run test f Begin (ts ++ t ∷ [])) (λ n. run test f n us) Finished qs whole in
-    let b : n ≡ Begin = ends_begin test f ts t Begin n ps one k in
+    let b : n ≡ Begin = leads_into LineEnd Begin accept_line_end test f ts t Begin n ps one k in
     let r = rest_ran ps (run test f n us) Finished qs (sym (ap (λ r. then r (λ n. run test f n us)) one) ∙ whole) in
     let named : run test f Begin us ≡ run test f n us = ap (λ m. run test f m us) (sym b) in
     let two : run test f Begin us ≡ ran Finished r.0 = named ∙ r.1 in

@@ -30,10 +30,6 @@ use Rattle.rdf_lines.specs.WrittenBytes.{IsNamed, iri_bytes, node_bytes, subject
 pub low : (c : ℕ) (w : List ℕ) → c < 128 → encodes (c ∷ w) ≡ c ∷ encodes w
 low c w l = ap (λ x. x ++ encodes w) (encode_ascii c l)
 
--- the characters of a str encode to it
-text : (w : List ℕ) → IsUtf8 w → encodes (chars w) ≡ w
-text w u = encodes-chars w u
-
 -- the bytes of a character from U+0080 on are from 128 on, so none of them is escaped
 pub high_bytes : (c : ℕ) → 128 ≤ c → AllByRecursion (λ b. 128 ≤ b) (encode c)
 high_bytes c l =
@@ -75,12 +71,12 @@ number n = encoded_digits 64 n [] refl
 
 -- the label that the style gives a node, its bytes known
 pub encoded_label : (s : Style) (n : NodeRef) (w : List ℕ) → IsNamed s n w → (x : List ℕ) × (rename_node s (node_of n) ≡ Label x) × (encodes x ≡ w)
-encoded_label Kept (node_ref.Label v) w e = let z : v.text.now ≡ w = cc in (chars v.text.now, refl, text v.text.now (IsUtf8-had _ v.utf8) ∙ z)
+encoded_label Kept (node_ref.Label v) w e = let z : v.text.now ≡ w = cc in (chars v.text.now, refl, encodes-chars v.text.now (IsUtf8-had _ v.utf8) ∙ z)
 encoded_label Kept (node_ref.Anon n) w e = absurd (let z : Anon n ≡ Label w = e in cc)
 encoded_label Kept (node_ref.Cell n) w e = absurd (let z : Cell n ≡ Label w = e in cc)
 encoded_label Tagged (node_ref.Label v) w e =
     let z : 110 ∷ v.text.now ≡ w = cc in
-    (110 ∷ chars v.text.now, refl, after 110 (chars v.text.now) v.text.now (omega arith) (text v.text.now (IsUtf8-had _ v.utf8)) ∙ z)
+    (110 ∷ chars v.text.now, refl, after 110 (chars v.text.now) v.text.now (omega arith) (encodes-chars v.text.now (IsUtf8-had _ v.utf8)) ∙ z)
 encoded_label Tagged (node_ref.Anon n) w e = let z : 97 ∷ decimal n ≡ w = cc in (97 ∷ decimal n, refl, after 97 (decimal n) (decimal n) (omega arith) (number n) ∙ z)
 encoded_label Tagged (node_ref.Cell n) w e = let z : 99 ∷ decimal n ≡ w = cc in (99 ∷ decimal n, refl, after 99 (decimal n) (decimal n) (omega arith) (number n) ∙ z)
 
@@ -97,7 +93,7 @@ encoded_node f n p w h e =
 
 -- a word is its own bytes
 pub encoded_prefix : (v : NodePrefixView) → encodes (prefix_chars v) ≡ v.word.now
-encoded_prefix v = text v.word.now (IsUtf8-had _ v.utf8)
+encoded_prefix v = encodes-chars v.word.now (IsUtf8-had _ v.utf8)
 
 -- a node that the style can't write has no text
 pub encoded_none : (f : Form) (n : NodeRef) → (CanWriteNode f.style (node_of n) → ⊥) → node_bytes f n ≡ []
@@ -111,7 +107,7 @@ encoded_none f n h = ap encodes (by f.style (node_of n) h)
 
 -- a tag
 pub encoded_tag : (v : TagView) → encode_utf8_all (64 ∷ chars v.text.now) ≡ 64 ∷ v.text.now
-encoded_tag v = after 64 (chars v.text.now) v.text.now (omega arith) (text v.text.now (IsUtf8-had _ v.utf8))
+encoded_tag v = after 64 (chars v.text.now) v.text.now (omega arith) (encodes-chars v.text.now (IsUtf8-had _ v.utf8))
 
 -- a type
 pub xsd : encodes xsd_string ≡ xsd_string
@@ -124,8 +120,8 @@ same_type w u =
     let D = bytes_eq-Decides (chars w) xsd_string in
     let E = bytes_eq-Decides w xsd_string in
     ⊎_elim
-    (λ t. t ∙ sym (E.1 (sym (text w u) ∙ (ap encodes (D.0 t) ∙ xsd))))
-    (λ f. f ∙ sym (false_from_ne_true _ (λ t. false≢true (sym f ∙ D.1 (encodes_same (chars w) xsd_string (text w u ∙ (E.0 t ∙ sym xsd)))))))
+    (λ t. t ∙ sym (E.1 (sym (encodes-chars w u) ∙ (ap encodes (D.0 t) ∙ xsd))))
+    (λ f. f ∙ sym (false_from_ne_true _ (λ t. false≢true (sym f ∙ D.1 (encodes_same (chars w) xsd_string (encodes-chars w u ∙ (E.0 t ∙ sym xsd)))))))
     (cases_Bool (bytes_eq (chars w) xsd_string))
 
 -- a datatype's two carets are their own bytes

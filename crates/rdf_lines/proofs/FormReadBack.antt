@@ -1,5 +1,5 @@
 -- What is written with a word in front of the names reads back, with a token limit that is higher by the word's length.
-use Rattle.std.proofs.Common.{◌≡◌, ℕ, ◌≤◌, ◌<◌, ◌+◌, List, [], ◌∷◌, ◌++◌, length, refl, sym, ap, ◌∙◌, subst, Option, Some, None, option_map, arith, length-append}
+use Rattle.std.proofs.Common.{◌≡◌, ℕ, ◌≤◌, ◌<◌, ◌+◌, List, [], ◌∷◌, ◌++◌, length, refl, sym, ap, ◌∙◌, subst, Option, Some, None, arith, length-append}
 use Rattle.std.specs.Prelude.{map, encode_utf8_all}
 use Rattle.std.specs.List.{AllByRecursion}
 use Rattle.std.proofs.lemmas.List.Concat.{flat_map-append}
@@ -11,7 +11,7 @@ use Rattle.rdf_lines.specs.declared.form.Escapes.{Escapes}
 use Rattle.rdf_lines.specs.declared.form.Escapes.TheVariants.{Ascii}
 use Rattle.rdf_lines.specs.declared.form.Style.TheVariants.{Kept}
 use Rattle.rdf_lines.specs.Documents.{in_lines}
-use Rattle.rdf_lines.specs.Writing.{Writable, rename_subject, rename_term, rename, subject_text, quad_text, line, text, SubjectHasAsciiLabel, TermHasAsciiLabel, GraphHasAsciiLabel, HasAsciiLabels}
+use Rattle.rdf_lines.specs.Writing.{Writable, rename, subject_text, quad_text, line, text, SubjectHasAsciiLabel, TermHasAsciiLabel, GraphHasAsciiLabel, HasAsciiLabels}
 use Rattle.rdf_lines.specs.NodePrefixes.{IsNodePrefix, prefix_subject, prefix_term, prefix_graph, put_prefix, Form, name_subject, name_term, name_graph, named, text_in}
 use Rattle.rdf_lines.specs.Laws.{SubjectWithin, TermWithin, GraphWithin, IrisWithin, TailShort, TermShort, GraphShort, TokensWithin, PrefixedTextReadsBack, PrefixedTextIsRead, PrefixedAsciiIsWritten, JoinedTextsReadBack}
 use Rattle.rdf_lines.proofs.Renamed.{renamed}
@@ -19,28 +19,7 @@ use Rattle.rdf_lines.proofs.NodePrefixLemmas.{prefixed, named_low}
 use Rattle.rdf_lines.proofs.AsciiLemmas.{ascii_written}
 use Rattle.rdf_lines.proofs.ReadBack.{bytes_read_back}
 use Rattle.rdf_lines.proofs.AcceptedLemmas.{text_read}
-
--- Labels that are kept stay as they are.
-subject_kept : (s : Subject) → rename_subject Kept s ≡ s
-subject_kept (Iri i) = refl
-subject_kept (Blank n) = refl
-
--- an object is as it was
-term_kept : (t : Term) → rename_term Kept t ≡ t
-term_kept (Resource s) = ap Resource (subject_kept s)
-term_kept (Literal w t) = refl
-
--- and so is a graph label
-graph_kept : (g : Option Subject) → option_map (rename_subject Kept) g ≡ g
-graph_kept None = refl
-graph_kept (Some g) = ap Some (subject_kept g)
-
--- and so is a quad, so the law for kept labels serves the named quads
-kept : (q : Quad) → rename Kept q ≡ q
-kept q =
-    ap (λ s. record { subject = s; predicate = q.predicate; object = rename_term Kept q.object; graph = option_map (rename_subject Kept) q.graph }) (subject_kept q.subject)
-    ∙ (ap (λ t. record { subject = q.subject; predicate = q.predicate; object = t; graph = option_map (rename_subject Kept) q.graph }) (term_kept q.object)
-    ∙ ap (λ (g : Option Subject). record { subject = q.subject; predicate = q.predicate; object = q.object; graph = g }) (graph_kept q.graph))
+use Rattle.rdf_lines.proofs.CanonicalLines.{kept}
 
 -- and so is a list of quads
 all_kept : (qs : List Quad) → map (rename Kept) qs ≡ qs

@@ -12,6 +12,7 @@ use Rattle.rdf_lines.specs.Writing.{written, escaped, iri_text, subject_text, st
 use Rattle.rdf_lines.specs.NodePrefixes.{Form, named, line_in}
 use Rattle.rdf_lines.specs.Laws.{FormsAgreeOnAscii}
 use Rattle.rdf_lines.proofs.EncodedLine.{high_bytes}
+use Rattle.rdf_lines.proofs.PlainRuns.{plain_high}
 
 abbrev AllLow : List ℕ → Type 0
 AllLow w = AllByRecursion (λ c. c < 128) w
@@ -50,16 +51,12 @@ written_same c l = grind (arith, nat_tests)
 escaped_low : (c : ℕ) → c < 128 → escaped Ascii c ≡ escaped Plain c
 escaped_low c l = grind (arith, nat_tests)
 
--- from 128 on the plain form writes the character itself, which is no ASCII
-escaped_high : (c : ℕ) → 128 ≤ c → escaped Plain c ≡ c ∷ []
-escaped_high c l = grind (arith, nat_tests)
-
 -- so where the plain form is ASCII the other one writes the same
 escaped_same : (c : ℕ) → AllLow (escaped Plain c) → escaped Ascii c ≡ escaped Plain c
 escaped_same c a =
     ⊎_elim
     (λ l. escaped_low c l)
-    (λ (l : 128 ≤ c). absurd (let (high, none) = subst AllLow (escaped_high c l) a in omega (arith, high, l)))
+    (λ (l : 128 ≤ c). absurd (let (high, none) = subst AllLow (plain_high c l) a in omega (arith, high, l)))
     (cases_lt c 128)
 
 -- texts whose characters are written alike are

@@ -1,7 +1,7 @@
 -- What stands at the front of some bytes, put together from its parts.
 use Rattle.std.proofs.Common.{◌≡◌, ℕ, ◌+◌, ◌-◌, ◌<◌, ◌≤◌, ◌⊎◌, Bool, true, false, List, [], ◌∷◌, ◌++◌, refl, sym, ap, ◌∙◌, subst, ⊎_elim, length, take, get_or, append_assoc, Option, Some, None, arith, length-append}
 use Rattle.std.specs.Prelude.{flat_map, IfSome, bytes_eq, encode_utf8_all, chars, IsUtf8}
-use Rattle.std.specs.List.{slice_range, AllByRecursion}
+use Rattle.std.specs.List.{AllByRecursion}
 use Rattle.std.proofs.Math.Seq.{take-append_seam}
 use Rattle.std.proofs.lemmas.List.{append-nil, length-take-le, get_or-take}
 use Rattle.std.proofs.lemmas.List.Concat.{flat_map-append}
@@ -14,6 +14,8 @@ use Rattle.std.proofs.Math.Utf8.{scalars}
 use Rattle.rdf_terms.specs.Classes.{has, scalar}
 use Rattle.rdf_terms.specs.Classes.Class.{iri_char}
 use Rattle.rdf_terms.specs.Terms.{Label, Tail, Lang, Typed, Subject, Iri, Blank, Term, Resource, Literal, Quad, xsd_string, all_have, has_scheme, IsIri, IsLabel, IsTag}
+pub use Rattle.rdf_iri.proofs.RootLemmas.{front-slice as front_slice}
+pub use Rattle.rdf_iri.proofs.IriKept.{all_have-append as have_both}
 use Rattle.rdf_lines.specs.declared.form.LineForm.{LineForm}
 use Rattle.rdf_lines.specs.declared.form.LineForm.TheVariants.{NTriples, NQuads}
 use Rattle.rdf_lines.specs.declared.form.LineEnding.{LineEnding}
@@ -34,10 +36,6 @@ use Rattle.rdf_lines.proofs.EncodedLine.{low, xsd, same_type}
 pub if_some : {A : Type 0} (o : Option A) (P Q : A → Type 0) → ((x : A) → P x → Q x) → IfSome o P → IfSome o Q
 if_some None P Q f h = h
 if_some (Some x) P Q f h = f x h
-
--- the slice from the beginning is the front
-pub front_slice : (bs : List ℕ) (end : ℕ) → slice_range bs 0 end ≡ take end bs
-front_slice bs end = ap (λ n. take n bs) (let e : end - 0 ≡ end = omega arith in e)
 
 -- the bytes of a run have its test
 pub run_taken : (p : ℕ → Bool) (bs : List ℕ) (end : ℕ) → IsRun p bs 0 end → all_have p (take end bs) ≡ true
@@ -94,11 +92,6 @@ scalar_same c e = grind (arith, nat_tests)
 all_scalar : (w : List ℕ) → scalars w ≡ true → all_have scalar w ≡ true
 all_scalar [] e = refl
 all_scalar (c ∷ w) e = let p = and_parts (Utf8.scalar c) (scalars w) e in and_from (scalar c) (all_have scalar w) (scalar_same c p.0) (all_scalar w p.1)
-
--- characters of a string, one text after another
-pub have_both : (p : ℕ → Bool) (u v : List ℕ) → all_have p u ≡ true → all_have p v ≡ true → all_have p (u ++ v) ≡ true
-have_both p [] v a b = b
-have_both p (c ∷ u) v a b = let h = and_parts (p c) (all_have p u) a in and_from (p c) (all_have p (u ++ v)) h.0 (have_both p u v h.1 b)
 
 -- where a loop over the parts of a string begins
 pub no_characters : (a : List ℕ) → CharactersStand a a

@@ -139,11 +139,6 @@ pub record Stuck (limit : ℕ) (b : Bool) (p : Place) (w : List ℕ) : Type 0 wh
   pub short : outcome ≢ complete
   pub on : (t : Tail) (v : List ℕ) → (tokens Lines limit t b p (w ++ v)).outcome ≡ outcome
 
--- a text of no characters is empty
-empty_nil : (w : List ℕ) → length w ≡ 0 → w ≡ []
-empty_nil [] e = refl
-empty_nil (c ∷ w) e = absurd (omega arith)
-
 -- the matching text of a kind
 shape_matches : (k : Kind) (w : List ℕ) → Shape Lines k w → Matches (shape Lines k) w
 shape_matches LangTag w h = h.0

@@ -35,7 +35,7 @@ pub run_plain : (c : ℕ) → is_short_byte 34 c ≡ true → is_escaped c ≡ f
 run_plain c e = grind (arith, nat_tests)
 
 -- no character from U+0080 on is escaped
-plain_high : (c : ℕ) → 128 ≤ c → escaped Plain c ≡ c ∷ []
+pub plain_high : (c : ℕ) → 128 ≤ c → escaped Plain c ≡ c ∷ []
 plain_high c l = grind (arith, nat_tests)
 
 -- no byte of such a character is escaped

@@ -31,6 +31,7 @@ use Rattle.rdf_terms.proofs.UsedCharacters.{uses}
 use Rattle.rdf_terms.proofs.ShapesLemmas.{live-matches}
 use Rattle.rdf_lines.proofs.NextToken.{Cut, cut_dead, shape_at, kind_at, cut_by_other, cut_by_shape, cut_by_dead, next_token, skip_space}
 use Rattle.rdf_lines.proofs.WritingLemmas.{begins_iri, begins_label, begins_string, begins_tag, iri_shape, iri_fit, iri_meant, string_shape, string_ends, string_fit, string_meant, inside_one}
+use Rattle.rdf_lines.proofs.LineEnds.{past-append}
 
 -- no token of the list has more characters
 abbrev pub AllShort : ℕ → List Token → Type 0
@@ -73,11 +74,6 @@ leaf w p = record { text = w; at = p }
 -- a text that is one token
 abbrev pub alone : Kind → List ℕ → Place → List Token
 alone k w p = token k (leaf w p) ∷ []
-
--- the place after two texts is that after the second, counted from after the first
-past-append : (u w : List ℕ) (p : Place) → past p (u ++ w) ≡ past (past p u) w
-past-append [] w p = refl
-past-append (c ∷ u) w p = past-append u w _
 
 -- the empty text has no tokens
 pub spells_nothing : (limit : ℕ) → Spells limit [] (λ p. [])

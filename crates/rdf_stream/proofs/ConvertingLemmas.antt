@@ -41,7 +41,7 @@ use Rattle.rdf_stream.specs.Graphs.{all_in_graph, in_graph, or_graph}
 use Rattle.rdf_stream.proofs.OutputLemmas.{no_graph}
 use Rattle.rdf_stream.specs.Outputs.{lines_by, output_of}
 use Rattle.rdf_stream.specs.Converting.{HandedOver, HaltsFor, HasPut, IsConverting, IsPutting, RunEnds, RunHalts, IsConvertible, Reports, ReportsFault, ReportsWrite}
-use Rattle.rdf_stream.specs.Converts.{Accepts, IsAscii, RefusesDocument, WritesDue, WritesFront, WritesSome, lines_of}
+use Rattle.rdf_stream.specs.Converts.{Accepts, IsAscii, RefusesDocument, WritesDue, WritesSome, lines_of}
 use Rattle.rdf_stream.specs.Devices.{AppendsFront}
 use Rattle.rdf_stream.specs.Faults.{fault_by}
 use Rattle.rdf_stream.specs.LineOut.{Leaves, Moves, PutHalts, SameOut, Takes, Writes}
@@ -193,7 +193,7 @@ module _ {G X D A : Type 0} (contents : D → Option (List ℕ)) (failed : D →
 
   -- a beginning of the lines was written
   written_front : (after : LineOut D A) (ts : List Token) (qs : List Quad) (rest : List ℕ) → Writable lines.form.lines.style qs → Behind after qs rest → Begun l ts (o.quads ++ qs) →
-      WritesFront job ts (contents first.drain.now) (contents after.drain.now)
+      WritesSome AppendsFront job ts (contents first.drain.now) (contents after.drain.now)
   written_front after ts qs rest able m d = record {
     quads = o.quads ++ qs;
     due = d;
@@ -246,10 +246,10 @@ module _ {G X D A : Type 0} (contents : D → Option (List ℕ)) (failed : D →
       let d = h.due x bytes o.quads o.read in record { more = h.more; tries = tried contents failed h.more lines mid h.puts; due = d }
 
   -- the drain failed, before or when it was handed what waited
-  tells_write : (ts : List Token) (mid after : LineOut D A) → LeftOff ts mid → ReportsWrite contents failed mid after → WritesFront job ts (contents first.drain.now) (contents after.drain.now)
+  tells_write : (ts : List Token) (mid after : LineOut D A) → LeftOff ts mid → ReportsWrite contents failed mid after → WritesSome AppendsFront job ts (contents first.drain.now) (contents after.drain.now)
   tells_write ts mid after h t = by (failed mid.drain.now) refl
     where
-      by : (b : Bool) → failed mid.drain.now ≡ b → WritesFront job ts (contents first.drain.now) (contents after.drain.now)
+      by : (b : Bool) → failed mid.drain.now ≡ b → WritesSome AppendsFront job ts (contents first.drain.now) (contents after.drain.now)
       by true e =
           written_front after ts h.more h.tries.rest (left_able ts mid h)
           (subst (λ k. Moves (contents lines.drain.now) k (lines.buffer.now ++ bytes_of lines.form h.more) h.tries.rest) (sym (t.before_it e)) h.tries.moves) h.due
@@ -260,7 +260,7 @@ module _ {G X D A : Type 0} (contents : D → Option (List ℕ)) (failed : D →
           written_front after ts h.more (rest ++ bytes_of lines.form later) (left_able ts mid h) (subst (λ qs. Behind after qs (rest ++ bytes_of lines.form later)) (sym split) m) h.due
 
   -- the drain has all whole lines
-  tells_some : (ts : List Token) (mid after : LineOut D A) → LeftOff ts mid → ReportsFault contents failed mid after → WritesSome job ts (contents first.drain.now) (contents after.drain.now)
+  tells_some : (ts : List Token) (mid after : LineOut D A) → LeftOff ts mid → ReportsFault contents failed mid after → WritesSome Appends job ts (contents first.drain.now) (contents after.drain.now)
   tells_some ts mid after h t =
       let (done, later, split, writes) = h.tries.whole t.live in
       record {

@@ -1,5 +1,6 @@
 -- A whole conversion, from what its run has done.
 use Rattle.std.proofs.Common.{◌≡◌, ℕ, Bool, true, false, List, [], ◌∷◌, ◌++◌, Option, IfSome, refl, sym, ap, subst, ◌∙◌, ⊎_elim, arith}
+use Rattle.std.specs.Io.KnownBytes.{Appends}
 use Rattle.std.proofs.KnownBytes.{Appends-nil, Consumes-nil, Consumes-whole}
 use Rattle.rdf_terms.specs.declared.reason.Reason.{Reason}
 use Rattle.rdf_terms.specs.declared.reason.Reason.TheVariants as reason
@@ -42,7 +43,7 @@ use Rattle.rdf_stream.proofs.GrowthLemmas.{grows_none}
 use Rattle.rdf_stream.proofs.PiecesLemmas.{all_given, none_given, same_front, too_long_more}
 
 -- what was written of what is due is due with more bytes
-some_more : (job : Conversion) → EndsAtBlame job.language → (bytes more : List ℕ) (e : Bool) (old new : Option (List ℕ)) → WritesSome job (reading_of job.language bytes false).tokens old new → WritesSome job (reading_of job.language (bytes ++ more) e).tokens old new
+some_more : (job : Conversion) → EndsAtBlame job.language → (bytes more : List ℕ) (e : Bool) (old new : Option (List ℕ)) → WritesSome Appends job (reading_of job.language bytes false).tokens old new → WritesSome Appends job (reading_of job.language (bytes ++ more) e).tokens old new
 some_more job ends bytes more e old new h = record { quads = h.quads; due = due_more job.language ends bytes more e h.quads h.due; written = h.written; ascii = h.ascii }
 
 -- what is refused stays refused, with more bytes or with all of them

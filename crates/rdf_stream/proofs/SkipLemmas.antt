@@ -32,7 +32,7 @@ use Rattle.rdf_stream.specs.declared.sieve.Sieve.{Sieve}
 use Rattle.rdf_stream.specs.declared.skips.Held.{Held}
 use Rattle.rdf_stream.specs.declared.skips.SkipSummary.{SkipSummary}
 use Rattle.rdf_stream.specs.Converts.{IsConverted, lines_of}
-use Rattle.rdf_stream.specs.Devices.{HasGiven, Reading}
+use Rattle.rdf_stream.specs.Devices.{AppendsFront, HasGiven, Reading}
 use Rattle.rdf_stream.specs.Jobs.{JobRead}
 use Rattle.rdf_stream.specs.Kinds.{kind_of}
 use Rattle.rdf_stream.specs.declared.form.Kind.TheVariants.{Line}
@@ -40,7 +40,7 @@ use Rattle.rdf_stream.specs.Languages.{Conversion, conversion_of, output, put_qu
 use Rattle.rdf_stream.specs.Pieces.{ReadStops, ReadsAll, SourceFails}
 use Rattle.rdf_stream.specs.Outputs.{output_of}
 use Rattle.rdf_stream.specs.Sieves.{Begins, HasRoom, HasSifted, Holds, IsEndedFront, IsSkipping, RefusesPiece, SiftFails, SiftFrontFails, SiftsFront, SkipEnds, SkipHalts, job_of, place_past, start_of}
-use Rattle.rdf_stream.specs.Skips.{IsAside, PutsAside, PutsFrontAside, SkipStops, Skips, SkipsAll, SkipsEnded, counted_up, place_after}
+use Rattle.rdf_stream.specs.Skips.{IsAside, PutsAside, SkipStops, Skips, SkipsAll, SkipsEnded, counted_up, place_after}
 use Rattle.rdf_stream.proofs.ConvertingLemmas.{graph_had, placed_ascii, placed_writable}
 use Rattle.rdf_stream.proofs.ConvertsLemmas.{lines_job}
 use Rattle.rdf_stream.proofs.LineCuts.{split_append}
@@ -240,8 +240,8 @@ module _ {A D B : Type 0} (takes : drain.Ghosts D) (sets : drain.Ghosts B) where
 
   module _ (first : Held A × D × B) (bytes : List ℕ) (old : Held A) (d : D) (b : B) (i : IsSkipping takes sets first bytes (old, d, b)) where
     -- what was sifted from the first line on
-    from_first : (lines : List (List ℕ)) (s t : Option (List ℕ)) (u v : Option (List ℕ)) → PutsAside (job_of first.0.sieve) first.0.sieve.is_first first_place lines s t u v → PutsAside (job_of first.0.sieve) true first_place lines s t u v
-    from_first lines s t u v h = subst (λ f. PutsAside (job_of first.0.sieve) f first_place lines s t u v) i.begins.fresh h
+    from_first : (lines : List (List ℕ)) (s t : Option (List ℕ)) (u v : Option (List ℕ)) → PutsAside Appends (job_of first.0.sieve) first.0.sieve.is_first first_place lines s t u v → PutsAside Appends (job_of first.0.sieve) true first_place lines s t u v
+    from_first lines s t u v h = subst (λ f. PutsAside Appends (job_of first.0.sieve) f first_place lines s t u v) i.begins.fresh h
 
     -- where not all lines of some bytes were sifted, the run halts
     halts_of : (f : StreamFault) (all : List ℕ) (e : Bool) (lines later : List (List ℕ)) (new : Held A) (d' : D) (b' : B) → split_lines all ≡ lines ++ later →
@@ -252,7 +252,7 @@ module _ {A D B : Type 0} (takes : drain.Ghosts D) (sets : drain.Ghosts B) where
         ahead = ahead;
         later = more ++ later;
         lines = s ∙ (ap (λ z. z ++ later) split ∙ append_assoc ahead more later);
-        aside = subst (λ f. PutsFrontAside (job_of first.0.sieve) f first_place ahead (takes.contents first.1) (takes.contents d') (sets.contents first.2) (sets.contents b')) i.begins.fresh q;
+        aside = subst (λ f. PutsAside AppendsFront (job_of first.0.sieve) f first_place ahead (takes.contents first.1) (takes.contents d') (sets.contents first.2) (sets.contents b')) i.begins.fresh q;
       },
     )
     halts_of fault.Memory all e lines later new d' b' s (ahead, more, split, h) = (
@@ -421,7 +421,7 @@ module _ {A D B : Type 0} (takes : drain.Ghosts D) (sets : drain.Ghosts B) where
             ahead = i.ahead ++ split_lines old.part.items;
             later = [];
             lines = all_lines ∙ sym (append-nil (i.ahead ++ split_lines old.part.items));
-            aside = subst (λ f. PutsFrontAside (job_of first.0.sieve) f first_place (i.ahead ++ split_lines old.part.items) (takes.contents first.1) (takes.contents d2) (sets.contents first.2) (sets.contents b2)) i.begins.fresh
+            aside = subst (λ f. PutsAside AppendsFront (job_of first.0.sieve) f first_place (i.ahead ++ split_lines old.part.items) (takes.contents first.1) (takes.contents d2) (sets.contents first.2) (sets.contents b2)) i.begins.fresh
                 (record {
                   kept = every.aside.kept;
                   bad = every.aside.bad;

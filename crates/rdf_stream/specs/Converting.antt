@@ -19,7 +19,8 @@ use Rattle.rdf_stream.specs.declared.line_out.LineOut.{LineOut}
 use Rattle.rdf_stream.specs.declared.devices.Source as source
 use Rattle.rdf_stream.specs.declared.devices.Drain as drain
 use Rattle.rdf_stream.specs.Pieces.{at_end}
-use Rattle.rdf_stream.specs.Converts.{Accepts, AcceptsAll, IsPrompt, RefusesDocument, StopsFor, WritesFront, WritesSome}
+use Rattle.rdf_stream.specs.Devices.{AppendsFront}
+use Rattle.rdf_stream.specs.Converts.{Accepts, AcceptsAll, IsPrompt, RefusesDocument, StopsFor, WritesSome}
 use Rattle.rdf_stream.specs.Told.{told}
 use Rattle.rdf_stream.specs.Faults.{fault_by}
 use Rattle.rdf_stream.specs.LineOut.{Moves, SameOut}
@@ -84,8 +85,8 @@ pub record IsConverting {G X D A : Type 0} (contents : D → Option (List ℕ)) 
 abbrev pub HaltsFor : StreamFault → Conversion → List ℕ → Bool → Option (List ℕ) → Option (List ℕ) → Bool → Type 0
 HaltsFor (fault.Refused f) job bytes is_end old new failed = (failed ≡ false) × RefusesDocument f.reason job bytes is_end (place_of f) old new
 HaltsFor fault.Read job bytes is_end old new failed = ⊥
-HaltsFor fault.Write job bytes is_end old new failed = (failed ≡ true) × WritesFront job (reading_of job.language bytes is_end).tokens old new
-HaltsFor fault.Memory job bytes is_end old new failed = (failed ≡ false) × WritesSome job (reading_of job.language bytes is_end).tokens old new
+HaltsFor fault.Write job bytes is_end old new failed = (failed ≡ true) × WritesSome AppendsFront job (reading_of job.language bytes is_end).tokens old new
+HaltsFor fault.Memory job bytes is_end old new failed = (failed ≡ false) × WritesSome Appends job (reading_of job.language bytes is_end).tokens old new
 
 -- Since the run began these bytes came, and are not read on.
 pub record RunHalts {G X D A : Type 0} (contents : D → Option (List ℕ)) (failed : D → Bool) (w : Words G X Quad) (reported : StreamFault)

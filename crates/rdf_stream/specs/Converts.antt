@@ -59,18 +59,11 @@ pub record WritesDue (job : Conversion) (ahead : List Token) (old new : Option (
   pub written : Appends old new (lines_of job.form (put_quads job quads))
   pub ascii : IsAscii job.form (put_quads job quads)
 
--- whole lines were written, of the first of the quads that are due in the front of these tokens
-pub record WritesSome (job : Conversion) (tokens : List Token) (old new : Option (List ℕ)) : Type 0 where
+-- The lines of the first of the quads that are due in the front of these tokens were written: by Appends all of them, by AppendsFront a beginning.
+pub record WritesSome (Puts : Option (List ℕ) → Option (List ℕ) → List ℕ → Type 0) (job : Conversion) (tokens : List Token) (old new : Option (List ℕ)) : Type 0 where
   pub quads : List Quad
   pub due : BeginsDue job.language.documents job.language.passes tokens quads
-  pub written : Appends old new (lines_of job.form (put_quads job quads))
-  pub ascii : IsAscii job.form (put_quads job quads)
-
--- a beginning of the lines of the quads that are due in the front of these tokens was written
-pub record WritesFront (job : Conversion) (tokens : List Token) (old new : Option (List ℕ)) : Type 0 where
-  pub quads : List Quad
-  pub due : BeginsDue job.language.documents job.language.passes tokens quads
-  pub written : AppendsFront old new (lines_of job.form (put_quads job quads))
+  pub written : Puts old new (lines_of job.form (put_quads job quads))
   pub ascii : IsAscii job.form (put_quads job quads)
 
 -- The bytes are refused at the place, so they are no document within the limits, and the lines of the quads that are due before it were
@@ -110,6 +103,6 @@ StopsFor (Refused f) job known left old new write_failed =
     × (given : HasGiven known left) × RefusesDocument f.reason job given.bytes left.has_ended (place_of f) old new
 StopsFor Read job known left old new write_failed = (write_failed ≡ false) × HasBroken left × BreaksOff job known left.remaining old new
 StopsFor Write job known left old new write_failed =
-    (write_failed ≡ true) × (given : HasGiven known left) × WritesFront job (reading_of job.language given.bytes left.has_ended).tokens old new
+    (write_failed ≡ true) × (given : HasGiven known left) × WritesSome AppendsFront job (reading_of job.language given.bytes left.has_ended).tokens old new
 StopsFor Memory job known left old new write_failed =
-    (write_failed ≡ false) × (given : HasGiven known left) × WritesSome job (reading_of job.language given.bytes left.has_ended).tokens old new
+    (write_failed ≡ false) × (given : HasGiven known left) × WritesSome Appends job (reading_of job.language given.bytes left.has_ended).tokens old new

@@ -26,7 +26,7 @@ use Rattle.rdf_stream.specs.Converts.{lines_of}
 use Rattle.rdf_stream.specs.Devices.{AppendsFront}
 use Rattle.rdf_stream.specs.Languages.{Conversion, put_quads}
 use Rattle.rdf_stream.specs.Outputs.{output_of}
-use Rattle.rdf_stream.specs.Skips.{IsBadFor, PutsAside, PutsFrontAside, Skips, SkipsFront, SkipsSome, comment_text, counted_up, place_after}
+use Rattle.rdf_stream.specs.Skips.{IsBadFor, PutsAside, Skips, SkipsSome, comment_text, counted_up, place_after}
 
 -- what a sieve converts its lines by
 abbrev pub job_of : {A : Type 0} → Sieve A → Conversion
@@ -158,7 +158,7 @@ PutBadFails sets reported old b f line new b' = ⊥
 module _ {A D B : Type 0} (takes : drain.Ghosts D) (sets : drain.Ghosts B) where
   -- These lines were sifted, of which the first begins at this place.
   pub record HasSifted (start : Place) (old : Sieve A) (d : D) (b : B) (lines : List (List ℕ)) (new : Sieve A) (d' : D) (b' : B) : Type 0 where
-    pub aside : PutsAside (job_of old) old.is_first start lines (takes.contents d) (takes.contents d') (sets.contents b) (sets.contents b')
+    pub aside : PutsAside Appends (job_of old) old.is_first start lines (takes.contents d) (takes.contents d') (sets.contents b) (sets.contents b')
     pub counts : Counts old new (length aside.quads) (length aside.bad)
     pub first : new.is_first ≡ first_after old.is_first lines
     pub same : SameSieve old new
@@ -169,7 +169,7 @@ module _ {A D B : Type 0} (takes : drain.Ghosts D) (sets : drain.Ghosts B) where
   abbrev pub SiftFails : StreamFault → Place → Sieve A → D → B → List (List ℕ) → Sieve A → D → B → Type 0
   SiftFails fault.Write start old d b lines new d' b' =
       ((takes.has_failed d' ≡ true) ⊎ (sets.has_failed b' ≡ true)) × (ahead later : List (List ℕ)) × (lines ≡ ahead ++ later)
-      × PutsFrontAside (job_of old) old.is_first start ahead (takes.contents d) (takes.contents d') (sets.contents b) (sets.contents b')
+      × PutsAside AppendsFront (job_of old) old.is_first start ahead (takes.contents d) (takes.contents d') (sets.contents b) (sets.contents b')
   SiftFails fault.Memory start old d b lines new d' b' = (ahead later : List (List ℕ)) × (lines ≡ ahead ++ later) × HasSifted start old d b ahead new d' b'
   SiftFails reported start old d b lines new d' b' = ⊥
 
@@ -211,14 +211,14 @@ module _ {A D B : Type 0} (takes : drain.Ghosts D) (sets : drain.Ghosts B) where
   abbrev pub SkipHalts : StreamFault → Held A × D × B → List ℕ → Bool → Held A × D × B → Type 0
   SkipHalts (fault.Refused f) first bytes e now =
       (takes.has_failed now.1 ≡ false) × (sets.has_failed now.2 ≡ false) × (f.reason ≡ DocumentTooLong) × IsTooLong bytes (place_of f)
-      × SkipsSome (job_of first.0.sieve) bytes (takes.contents first.1) (takes.contents now.1) (sets.contents first.2) (sets.contents now.2)
+      × SkipsSome Appends (job_of first.0.sieve) bytes (takes.contents first.1) (takes.contents now.1) (sets.contents first.2) (sets.contents now.2)
   SkipHalts fault.Read first bytes e now = ⊥
   SkipHalts fault.Write first bytes e now =
       ((takes.has_failed now.1 ≡ true) ⊎ (sets.has_failed now.2 ≡ true))
-      × SkipsFront (job_of first.0.sieve) bytes (takes.contents first.1) (takes.contents now.1) (sets.contents first.2) (sets.contents now.2)
+      × SkipsSome AppendsFront (job_of first.0.sieve) bytes (takes.contents first.1) (takes.contents now.1) (sets.contents first.2) (sets.contents now.2)
   SkipHalts fault.Memory first bytes e now =
       (takes.has_failed now.1 ≡ false) × (sets.has_failed now.2 ≡ false)
-      × SkipsSome (job_of first.0.sieve) bytes (takes.contents first.1) (takes.contents now.1) (sets.contents first.2) (sets.contents now.2)
+      × SkipsSome Appends (job_of first.0.sieve) bytes (takes.contents first.1) (takes.contents now.1) (sets.contents first.2) (sets.contents now.2)
 
   -- all bytes were read, and what was written was sent on
   pub record SkipEnds (s : SkipSummary) (first : Held A × D × B) (bytes : List ℕ) (now : Held A × D × B) : Type 0 where

@@ -65,31 +65,21 @@ IsAside l first start (x ∷ xs) text =
     ⊎ BadAside l first start x (λ t. IsAside l false (place_after start x) xs t) text
 
 -- These lines are the first of a document, or others, and were sifted: the lines of the quads of the good ones were written, and the bad ones
--- were put aside.
-pub record PutsAside (job : Conversion) (first : Bool) (start : Place) (lines : List (List ℕ)) (old new old_bad new_bad : Option (List ℕ)) : Type 0 where
+-- were put aside; by Appends all of that, by AppendsFront a beginning of either.
+pub record PutsAside (Puts : Option (List ℕ) → Option (List ℕ) → List ℕ → Type 0) (job : Conversion) (first : Bool) (start : Place) (lines : List (List ℕ))
+    (old new old_bad new_bad : Option (List ℕ)) : Type 0 where
   pub kept : List (List ℕ)
   pub bad : List (List ℕ)
   pub quads : List Quad
   pub sifts : Sifts job.language first lines kept bad quads
-  pub written : Appends old new (lines_of job.form (put_quads job quads))
+  pub written : Puts old new (lines_of job.form (put_quads job quads))
   pub text : List ℕ
   pub aside : IsAside job.language first start lines text
-  pub put_aside : Appends old_bad new_bad text
-
--- the same of a beginning of what is written for them, and of what is put aside
-pub record PutsFrontAside (job : Conversion) (first : Bool) (start : Place) (lines : List (List ℕ)) (old new old_bad new_bad : Option (List ℕ)) : Type 0 where
-  pub kept : List (List ℕ)
-  pub bad : List (List ℕ)
-  pub quads : List Quad
-  pub sifts : Sifts job.language first lines kept bad quads
-  pub written : AppendsFront old new (lines_of job.form (put_quads job quads))
-  pub text : List ℕ
-  pub aside : IsAside job.language first start lines text
-  pub put_aside : AppendsFront old_bad new_bad text
+  pub put_aside : Puts old_bad new_bad text
 
 -- All lines of the bytes were sifted. What was written is what `convert` writes for the document that is left without the bad ones.
 pub record Skips (job : Conversion) (bytes : List ℕ) (old new old_bad new_bad : Option (List ℕ)) (s : SkipSummary) : Type 0 where
-  pub aside : PutsAside job true first_place (split_lines bytes) old new old_bad new_bad
+  pub aside : PutsAside Appends job true first_place (split_lines bytes) old new old_bad new_bad
   pub converted : IsConverted job (concat aside.kept) old new
   -- the numbers of a summary have 64 bits, so they are these counts
   pub quads : counted_up s.quads ≡ counted_up (length aside.quads)
@@ -100,19 +90,12 @@ pub record Skips (job : Conversion) (bytes : List ℕ) (old new old_bad new_bad 
 abbrev pub SkipsAll : Conversion → Option (List ℕ) → Option (List ℕ) → Option (List ℕ) → Option (List ℕ) → Option (List ℕ) → SkipSummary → Type 0
 SkipsAll job known old new old_bad new_bad s = IfSome known (λ bytes. Skips job bytes old new old_bad new_bad s)
 
--- The first of the lines of the bytes were sifted.
-pub record SkipsSome (job : Conversion) (bytes : List ℕ) (old new old_bad new_bad : Option (List ℕ)) : Type 0 where
+-- The first of the lines of the bytes were sifted, and all that is written for them and put aside of them was, or a beginning of either.
+pub record SkipsSome (Puts : Option (List ℕ) → Option (List ℕ) → List ℕ → Type 0) (job : Conversion) (bytes : List ℕ) (old new old_bad new_bad : Option (List ℕ)) : Type 0 where
   pub ahead : List (List ℕ)
   pub later : List (List ℕ)
   pub lines : split_lines bytes ≡ ahead ++ later
-  pub aside : PutsAside job true first_place ahead old new old_bad new_bad
-
--- A beginning was written of what is written for the first of the lines, and a beginning of the bad ones of them put aside.
-pub record SkipsFront (job : Conversion) (bytes : List ℕ) (old new old_bad new_bad : Option (List ℕ)) : Type 0 where
-  pub ahead : List (List ℕ)
-  pub later : List (List ℕ)
-  pub lines : split_lines bytes ≡ ahead ++ later
-  pub aside : PutsFrontAside job true first_place ahead old new old_bad new_bad
+  pub aside : PutsAside Puts job true first_place ahead old new old_bad new_bad
 
 -- All lines of the bytes that have ended were sifted; what comes after them is a part of a line, or nothing.
 pub record SkipsEnded (job : Conversion) (bytes : List ℕ) (old new old_bad new_bad : Option (List ℕ)) : Type 0 where
@@ -121,7 +104,7 @@ pub record SkipsEnded (job : Conversion) (bytes : List ℕ) (old new old_bad new
   pub whole : bytes ≡ concat ahead ++ part
   pub lines : split_lines bytes ≡ ahead ++ split_lines part
   pub no_end : AllByRecursion (λ b. is_line_end b ≡ false) part
-  pub aside : PutsAside job true first_place ahead old new old_bad new_bad
+  pub aside : PutsAside Appends job true first_place ahead old new old_bad new_bad
 
 -- the source has given these bytes and failed then
 pub record SkipBreaksOff (job : Conversion) (known left old new old_bad new_bad : Option (List ℕ)) : Type 0 where
@@ -134,10 +117,10 @@ pub record SkipBreaksOff (job : Conversion) (known left old new old_bad new_bad 
 abbrev pub SkipStops : StreamFault → Conversion → Option (List ℕ) → Reading → Option (List ℕ) → Option (List ℕ) → Option (List ℕ) → Option (List ℕ) → Bool → Bool → Type 0
 SkipStops (Refused f) job known left old new old_bad new_bad failed bad_failed =
     (failed ≡ false) × (bad_failed ≡ false) × (f.reason ≡ DocumentTooLong)
-    × (given : HasGiven known left) × IsTooLong given.bytes (place_of f) × SkipsSome job given.bytes old new old_bad new_bad
+    × (given : HasGiven known left) × IsTooLong given.bytes (place_of f) × SkipsSome Appends job given.bytes old new old_bad new_bad
 SkipStops Read job known left old new old_bad new_bad failed bad_failed =
     (failed ≡ false) × (bad_failed ≡ false) × HasBroken left × SkipBreaksOff job known left.remaining old new old_bad new_bad
 SkipStops Write job known left old new old_bad new_bad failed bad_failed =
-    ((failed ≡ true) ⊎ (bad_failed ≡ true)) × (given : HasGiven known left) × SkipsFront job given.bytes old new old_bad new_bad
+    ((failed ≡ true) ⊎ (bad_failed ≡ true)) × (given : HasGiven known left) × SkipsSome AppendsFront job given.bytes old new old_bad new_bad
 SkipStops Memory job known left old new old_bad new_bad failed bad_failed =
-    (failed ≡ false) × (bad_failed ≡ false) × (given : HasGiven known left) × SkipsSome job given.bytes old new old_bad new_bad
+    (failed ≡ false) × (bad_failed ≡ false) × (given : HasGiven known left) × SkipsSome Appends job given.bytes old new old_bad new_bad

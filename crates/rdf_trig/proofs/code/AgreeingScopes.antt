@@ -1,15 +1,12 @@
 -- Scopes that agree in every look-up give tokens the same meaning, and stay so.
-use Rattle.std.proofs.Common.{◌≡◌, ◌+◌, ℕ, true, false, cond, List, [], ◌∷◌, ◌++◌, ◌&&◌, not, length, Option, Some, None, option_map, refl, sym, ap, ◌∙◌, subst, ⊎_elim, arith}
+use Rattle.std.proofs.Common.{◌≡◌, ◌+◌, ℕ, cond, List, ◌++◌, ◌&&◌, not, length, Option, Some, None, option_map, refl, sym, ap, ◌∙◌, subst}
 use Rattle.std.specs.Prelude.{nat_le, is_some, Result, Ok, Err, OnOk, IfErr}
-use Rattle.std.proofs.lemmas.Bool.{cases_Bool, cond-true, cond-false}
 use Rattle.rdf_terms.specs.declared.kind.Kind.{Kind}
 use Rattle.rdf_terms.specs.declared.kind.Kind.TheVariants.{IriRef, PnameNs, PnameLn}
 use Rattle.rdf_iri.specs.Limits.{Sizes}
 use Rattle.rdf_iri.specs.Texts.{equal}
 use Rattle.rdf_iri.specs.Resolve.{resolved}
 use Rattle.rdf_iri.specs.Scope.{InForce, bound_to, Binds}
-use Rattle.rdf_iri.proofs.TextsLemmas.{equal-true, equal-from}
-use Rattle.rdf_iri.proofs.Encoded.{same_test}
 use Rattle.rdf_tokens.specs.Leaves.{Leaf, iri_of}
 use Rattle.rdf_trig.specs.declared.form.DocForm.{DocForm}
 use Rattle.rdf_trig.specs.declared.form.DocForm.TheVariants.{Turtle, TriG}
@@ -20,12 +17,13 @@ use Rattle.rdf_trig.specs.declared.state.State.{State}
 use Rattle.rdf_trig.specs.declared.state.Mode.{Mode}
 use Rattle.rdf_trig.specs.declared.state.Mode.TheVariants as mode
 use Rattle.rdf_trig.specs.declared.state.Spelling.{Spelling}
-use Rattle.rdf_trig.specs.Names.{reference_in, name_in, prefix_of, local_of, bind, with_base, with_binding, is_full}
+use Rattle.rdf_trig.specs.Names.{reference_in, name_in, prefix_of, local_of, with_base, with_binding, is_full}
 use Rattle.rdf_trig.specs.Events.{Use, stands, binds}
 use Rattle.rdf_trig.specs.Machine as M
 use Rattle.rdf_trig.specs.Machine.{by_use}
 use Rattle.rdf_trig.specs.States.{name_at, use_at, mode_at, outer_of, level_of, place_in, text_in, after_semicolon_at}
 use Rattle.rdf_trig.specs.Scopes.{IsAdmitted, IsDenied, Names, Unnamed, Based, Binding, NotBinding, SameScope, LooksUp, LooksUpNone}
+use Rattle.rdf_trig.proofs.trees.NamesLemmas.{bind_bound, bind_length}
 
 -- a reference depends on the base alone, on which such scopes agree
 reference_same : (s t : InForce) (l : Leaf) → SameScope s t → reference_in s l ≡ reference_in t l
@@ -170,60 +168,13 @@ base_looks s t n w l i e b =
 pub base_none : (s t : InForce) (w : M.Spelling) (l : Leaf) (r : StepFault) → SameScope s t → Unnamed t IriRef l r → LooksUpNone s (M.WantBaseIri w) IriRef l r
 base_none s t w l r e n = stops_at s.limits t.limits IriRef _ _ r e.limits (ap stands (reference_same s t l e)) n
 
--- what a prefix is bound to after a binding
-equal-swapped : (v w : List ℕ) → equal v w ≡ equal w v
-equal-swapped v w = same_test _ _ (λ h. equal-from w v (sym (equal-true v w h))) (λ h. equal-from v w (sym (equal-true w v h)))
-
--- after a binding the prefix has its new IRI, and every other prefix what it had
-bound_to-bind : (es : List (List ℕ × List ℕ)) (p i q : List ℕ) → bound_to (bind es p i) q ≡ cond (equal p q) (Some i) (bound_to es q)
-bound_to-bind [] p i q = ap (λ b. cond b (Some i) None) (equal-swapped q p)
-bound_to-bind (e ∷ es) p i q =
-    ⊎_elim
-    (λ (t : equal p e.0 ≡ true).
-    ap (λ z. bound_to z q) (cond-true (equal p e.0) ((p, i) ∷ es) (e ∷ bind es p i) t)
-    ∙ (ap (λ b. cond b (Some i) (bound_to es q)) (equal-swapped q p)
-    ∙ ⊎_elim
-    (λ (h : equal p q ≡ true). cond-true (equal p q) (Some i) (bound_to es q) h ∙ sym (cond-true (equal p q) (Some i) (bound_to (e ∷ es) q) h))
-    (λ (h : equal p q ≡ false).
-    let other : equal q e.0 ≡ false = ap (equal q) (sym (equal-true p e.0 t)) ∙ (equal-swapped q p ∙ h) in
-    cond-false (equal p q) (Some i) (bound_to es q) h
-    ∙ sym (cond-false (equal p q) (Some i) (bound_to (e ∷ es) q) h ∙ cond-false (equal q e.0) (Some e.1) (bound_to es q) other))
-    (cases_Bool (equal p q))))
-    (λ (f : equal p e.0 ≡ false).
-    ap (λ z. bound_to z q) (cond-false (equal p e.0) ((p, i) ∷ es) (e ∷ bind es p i) f)
-    ∙ (ap (λ z. cond (equal q e.0) (Some e.1) z) (bound_to-bind es p i q)
-    ∙ ⊎_elim
-    (λ (h : equal p q ≡ true).
-    let other : equal q e.0 ≡ false = ap (λ x. equal x e.0) (sym (equal-true p q h)) ∙ f in
-    cond-false (equal q e.0) (Some e.1) _ other ∙ (cond-true (equal p q) (Some i) (bound_to es q) h ∙ sym (cond-true (equal p q) (Some i) (bound_to (e ∷ es) q) h)))
-    (λ (h : equal p q ≡ false).
-    ap (λ z. cond (equal q e.0) (Some e.1) z) (cond-false (equal p q) (Some i) (bound_to es q) h) ∙ sym (cond-false (equal p q) (Some i) (bound_to (e ∷ es) q) h))
-    (cases_Bool (equal p q))))
-    (cases_Bool (equal p e.0))
-
--- a binding makes the list one longer where the prefix is new, and keeps its length where it is not
-length-bind : (es : List (List ℕ × List ℕ)) (p i : List ℕ) → length (bind es p i) ≡ length es + cond (is_some (bound_to es p)) 0 1
-length-bind [] p i = refl
-length-bind (e ∷ es) p i =
-    ⊎_elim
-    (λ (t : equal p e.0 ≡ true).
-    let a = ap length (cond-true (equal p e.0) ((p, i) ∷ es) (e ∷ bind es p i) t) in
-    let b = ap (λ z. length (e ∷ es) + cond (is_some z) 0 1) (cond-true (equal p e.0) (Some e.1) (bound_to es p) t) in
-    omega (arith, a, b))
-    (λ (f : equal p e.0 ≡ false).
-    let a = ap length (cond-false (equal p e.0) ((p, i) ∷ es) (e ∷ bind es p i) f) in
-    let b = ap (λ z. length (e ∷ es) + cond (is_some z) 0 1) (cond-false (equal p e.0) (Some e.1) (bound_to es p) f) in
-    let c = length-bind es p i in
-    omega (arith, a, b, c))
-    (cases_Bool (equal p e.0))
-
 -- scopes that agree do so after a binding, though the code may keep the prefixes in another order
 bound_same : (s t n : InForce) (p i : List ℕ) → SameScope s t → Binds t p i n → SameScope (with_binding s p (Some i)) n
 bound_same s t n p i e b = record {
   base = e.base ∙ sym b.base;
   limits = e.limits ∙ sym b.limits;
-  bound = λ q. bound_to-bind s.bindings p i q ∙ (ap (λ z. cond (equal p q) (Some i) z) (e.bound q) ∙ sym (b.bound q));
-  count = length-bind s.bindings p i
+  bound = λ q. bind_bound s.bindings p i q ∙ (ap (λ z. cond (equal p q) (Some i) z) (e.bound q) ∙ sym (b.bound q));
+  count = bind_length s.bindings p i
       ∙ (ap (λ (z : ℕ). z + cond (is_some (bound_to s.bindings p)) 0 1) e.count
       ∙ (ap (λ o. length t.bindings + cond (is_some o) 0 1) (e.bound p) ∙ sym b.count));
 }

@@ -1,5 +1,5 @@
 -- What the machine answers, from the parts of a step.
-use Rattle.std.proofs.Common.{◌≡◌, ◌≤◌, ◌<◌, ◌+◌, ◌*◌, ◌^◌, ℕ, Bool, true, false, List, [], ◌++◌, ◌&&◌, length, Option, Some, None, refl, sym, ap, ◌∙◌, subst, arith}
+use Rattle.std.proofs.Common.{◌≡◌, ◌≤◌, ◌<◌, ◌+◌, ◌*◌, ◌^◌, ℕ, Bool, true, false, List, [], ◌++◌, ◌&&◌, length, Option, None, refl, sym, ap, ◌∙◌, subst, arith}
 use Rattle.std.specs.Prelude.{nat_le}
 use Rattle.std.proofs.lemmas.Bool.{cond-true, cond-false, false≢true}
 use Rattle.rdf_terms.specs.declared.kind.Kind.{Kind}
@@ -18,7 +18,7 @@ use Rattle.rdf_trig.specs.declared.state.State.{State}
 use Rattle.rdf_trig.specs.declared.state.Mode.{Mode}
 use Rattle.rdf_trig.specs.declared.state.Mode.TheVariants as mode
 use Rattle.rdf_trig.specs.declared.state.Outer.TheVariants as outer
-use Rattle.rdf_trig.specs.Names.{with_base, with_binding, reference_in}
+use Rattle.rdf_trig.specs.Names.{reference_in}
 use Rattle.rdf_trig.specs.Quads.{Setting}
 use Rattle.rdf_trig.specs.Events.{Use}
 use Rattle.rdf_trig.specs.Refusals as refusal
@@ -30,6 +30,7 @@ use Rattle.rdf_trig.specs.Holding.{most_text, frames_most, Fits}
 use Rattle.rdf_trig.specs.Steps.{Begins, GaveUp, state_of, May, DepthMay, Keeps, Accepts, answered, Fails}
 use Rattle.rdf_trig.proofs.code.StepBounds.{step_use, step_depth, step_prefix}
 use Rattle.rdf_trig.proofs.code.PutsInRow.{begins_all}
+use Rattle.rdf_trig.proofs.machine.DepthAndSense.{with_base_limits, with_binding_limits}
 
 -- a reply that accepts, by its parts
 abbrev Goes : Reply → Type 0
@@ -200,20 +201,10 @@ keeps_moved form s sizes old r k l u t keeps short e d room stack fits name =
 pub bytes_at_most : (w : List ℕ) (n : ℕ) → length w ≤ n → byte_len w ≤ 4 * n
 bytes_at_most w n h = let b = few_bytes w in omega (arith, b, h)
 
--- the limits stay
-bound_limits : (s : InForce) (p : List ℕ) (o : Option (List ℕ)) → (with_binding s p o).limits ≡ s.limits
-bound_limits s p None = refl
-bound_limits s p (Some i) = refl
-
--- a base changes no limit
-based_limits : (s : InForce) (o : Option (List ℕ)) → (with_base s o).limits ≡ s.limits
-based_limits s None = refl
-based_limits s (Some i) = refl
-
 -- no token changes the limits
 scope_in-limits : (s : InForce) (m : M.Mode) (k : Kind) (l : Leaf) → (scope_in s m k l).limits ≡ s.limits
-scope_in-limits s (M.WantPrefixIri w p) IriRef l = bound_limits s p (reference_in s l)
-scope_in-limits s (M.WantBaseIri w) IriRef l = based_limits s (reference_in s l)
+scope_in-limits s (M.WantPrefixIri w p) IriRef l = with_binding_limits s p (reference_in s l)
+scope_in-limits s (M.WantBaseIri w) IriRef l = with_base_limits s (reference_in s l)
 scope_in-limits s m k l = refl
 
 -- the limits are the same after a look-up, which the reader's invariant needs

@@ -1,12 +1,8 @@
 -- A local part without backslashes is its own value.
-use Rattle.std.proofs.Common.{◌≡◌, ℕ, suc, ◌+◌, ◌%◌, ◌^◌, ◌≤◌, Bool, true, false, cond, eqb, not, ◌==◌, List, [], ◌∷◌, length, map, get_or, replicate, Fits, w8, Option, Some, None, option_map, refl, sym, ap, ap₂, ◌∙◌, subst, ⊎_elim, arith}
+use Rattle.std.proofs.Common.{◌≡◌, ℕ, suc, Bool, true, false, ◌==◌, List, [], ◌∷◌, length, Option, Some, None, option_map, refl, sym, ap, ◌∙◌, subst, ⊎_elim, arith}
 use Rattle.std.specs.Prelude.{is_some}
-use Rattle.std.specs.Bool.{OnTrue}
 use Rattle.std.specs.Str.{chars, IsUtf8}
-use Rattle.std.proofs.lemmas.Bool.{agree_below, agree_below_at, eqb-true, and_parts, and_from, cases_Bool, cond-true, cond-false, not-true, false≢true}
-use Rattle.std.proofs.lemmas.List.{length-map}
-use Rattle.std.proofs.lemmas.Simd.{map-map, mask_l-mod, zip2_splat, length-chunk, chunk-fits, leading_from_mask_l}
-use lib.Lanes.{Each1, chunk, mask_l, top, zip2}
+use Rattle.std.proofs.lemmas.Bool.{and_parts, and_from, cases_Bool, cond-true, cond-false, not-true, false≢true}
 use Rattle.rdf_terms.specs.Classes.{has}
 use Rattle.rdf_terms.specs.Classes.Class.{iri_char}
 use Rattle.rdf_terms.specs.Terms.{all_have}
@@ -14,7 +10,6 @@ use Rattle.rdf_terms.specs.Runs.{is_unescaped, PassBetween}
 use Rattle.rdf_terms.specs.Local.{without_backslashes}
 use Rattle.rdf_terms.specs.Values.{local_value, iri_value, value, of_string, of_iri, move, allowed, go, outside, slash, leads, means, fails}
 use Rattle.rdf_terms.proofs.ValuesLemmas.{iri_value_characters}
-use Rattle.rdf_terms.proofs.RunsLemmas.{run_in}
 use Rattle.rdf_terms.proofs.LocalLemmas.{local-means}
 use Rattle.rdf_terms.proofs.EscapesLemmas.{run_stands}
 

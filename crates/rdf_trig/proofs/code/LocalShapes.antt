@@ -2,7 +2,7 @@
 use Rattle.std.proofs.Common.{◌≡◌, ◌≤◌, ℕ, Bool, true, false, List, [], ◌∷◌, ◌++◌, ◌&&◌, ◌||◌, ◌==◌, not, Some, refl, sym, ap, ◌∙◌, subst, ⊎_elim, arith}
 use Rattle.std.specs.Prelude.{nat_lt, nat_le, is_some, unwrap_or}
 use Rattle.std.specs.List.{AllByRecursion, concat}
-use Rattle.std.proofs.lemmas.Bool.{cases_Bool, eqb-true, and_parts, and_from, or_from, ne_eqb, ltb-true, ltb-false, lt-leb, not_from_false, agree_below, agree_below_at, false≢true}
+use Rattle.std.proofs.lemmas.Bool.{cases_Bool, and_parts, and_from, or_from, ne_eqb, ltb-true, ltb-false, lt-leb, not_from_false, agree_below, agree_below_at, false≢true}
 use Rattle.std.proofs.lemmas.List.{append-nil, append_assoc}
 use Rattle.rdf_terms.specs.Classes.{Class, has, scalar, member, one_of}
 use Rattle.rdf_terms.specs.Classes.Class.{the, digit, hex_digit, iri_char, local_escape, pn_u, pn_char}
@@ -20,6 +20,7 @@ use Rattle.rdf_iri.specs.Texts.{after, Lacks}
 use Rattle.rdf_iri.proofs.TextsLemmas.{cut_suffix}
 use Rattle.rdf_trig.specs.States.{leaf, IsTurtleToken}
 use Rattle.rdf_trig.specs.Scopes.{IsPrefixed, MeansLocal}
+use Rattle.rdf_trig.proofs.code.SpelledLemmas.{the_one}
 
 -- a text that may stand before one that means something
 abbrev Good : List ℕ → Type 0
@@ -111,18 +112,13 @@ good_char c n h v g =
 good_one : (k : Class) → Plain k → GoodTexts (one k)
 good_one k p = record { good = λ w m. let q = plain_char k p m.0 m.1 in subst Good (sym m.2) (good_char m.0 q.0 q.1) }
 
--- the class of one character has that character alone
-the_char : (x c : ℕ) → has (the x) c ≡ true → c ≡ x
-unfolding has
-the_char x c h = eqb-true c x (and_parts (scalar c) (c == x) h).1
-
 -- a PN_LOCAL_ESC means the character after its backslash
 escaped : (w : List ℕ) → Matches (one (the 92) · one local_escape) w → Good w
 escaped w m =
     let c = m.2.0 in
     let e = m.3.0 in
     let same : w ≡ 92 ∷ e ∷ [] =
-    m.4 ∙ (ap (λ x. x ++ m.1) (m.2.2 ∙ ap (λ (z : ℕ). z ∷ []) (the_char 92 c m.2.1)) ∙ ap (λ x. 92 ∷ x) m.3.2)
+    m.4 ∙ (ap (λ x. x ++ m.1) (m.2.2 ∙ ap (λ (z : ℕ). z ∷ []) (the_one 92 c m.2.1)) ∙ ap (λ x. 92 ∷ x) m.3.2)
     in
     subst Good (sym same) (λ v g. local-next false 92 (e ∷ v) ∙ (local-next true e v ∙ (ap (λ b. b && is_some (local_from false v)) m.3.1 ∙ g)))
 
@@ -203,7 +199,7 @@ local_ln : (w : List ℕ) → Shape Turtle PnameLn w → MeansLocal (unwrap_or (
 unfolding shape
 local_ln w m =
     let b = m.3 in
-    let rest : m.1 ≡ 58 ∷ b.1 = b.4 ∙ ap (λ x. x ++ b.1) (b.2.2 ∙ ap (λ (z : ℕ). z ∷ []) (the_char 58 b.2.0 b.2.1)) in
+    let rest : m.1 ≡ 58 ∷ b.1 = b.4 ∙ ap (λ x. x ++ b.1) (b.2.2 ∙ ap (λ (z : ℕ). z ∷ []) (the_one 58 b.2.0 b.2.1)) in
     let at : after 58 w ≡ Some b.1 = ap (after 58) (m.4 ∙ ap (λ x. m.0 ++ x) rest) ∙ colon_passed m.0 b.1 m.2 in
     subst MeansLocal (sym (ap (λ o. unwrap_or o []) at)) (means b.1 (good_local.good b.1 b.3))
 
@@ -211,7 +207,7 @@ local_ln w m =
 local_ns : (w : List ℕ) → Shape Turtle PnameNs w → MeansLocal (unwrap_or (after 58 w) [])
 unfolding shape
 local_ns w m =
-    let rest : m.1 ≡ 58 ∷ [] = m.3.2 ∙ ap (λ (z : ℕ). z ∷ []) (the_char 58 m.3.0 m.3.1) in
+    let rest : m.1 ≡ 58 ∷ [] = m.3.2 ∙ ap (λ (z : ℕ). z ∷ []) (the_one 58 m.3.0 m.3.1) in
     let at : after 58 w ≡ Some [] = ap (after 58) (m.4 ∙ ap (λ x. m.0 ++ x) rest) ∙ colon_passed m.0 [] m.2 in
     subst MeansLocal (sym (ap (λ o. unwrap_or o []) at)) refl
 

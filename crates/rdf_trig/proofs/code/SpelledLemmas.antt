@@ -19,7 +19,7 @@ use Rattle.rdf_terms.proofs.ShapesLemmas.{form-matches}
 use Rattle.rdf_terms.proofs.SpelledLemmas.{tag_in}
 
 -- the class of one character has that character alone
-the_one : (x c : ℕ) → has (the x) c ≡ true → c ≡ x
+pub the_one : (x c : ℕ) → has (the x) c ≡ true → c ≡ x
 unfolding has
 the_one x c h = eqb-true c x (and_parts (scalar c) (c == x) h).1
 

@@ -14,15 +14,12 @@ use Rattle.rdf_trig.specs.Names.{reference_in, name_in, iri_in, scope_after}
 use Rattle.rdf_trig.specs.Quads.{Setting, in_default, in_graph, named, node, resource, anon_at, blank_of, lexical, language, plain_literal, tagged_literal, typed_literal, literal_of, iri_leaf, string_leaf, literal_leaf, object_leaf, cell_at, items_of, collection_of, list_of, label_of, rest_quad}
 use Rattle.rdf_trig.specs.Events.{Use, itself, stands, Event, Took, take, give, iri_events, verb_events, string_events, tag_events, blank_object_events, literal_events, object_quad, object_events, collection_events, items_events, rest_events, list_events, predicates_events, more_events, objects_events, commas_events, maybe_events, triples_events, label_events, block_events, maybe_block_events, wrapped_events, body_events, document_events, tokens}
 use Rattle.rdf_trig.specs.Machine.{Topic, Spelt, sized, unsized, spelt, verb_in, Level, Top, InBlock, Place, Listed, InCollection, Around, Statement, InPropertyList, Up, Subject, At, Mode, Start, AfterLabel, GraphWord, WantBrace, Inside, Want, After, AfterText, WantType, PropertyListStart, CollectionStart, WantVerb, AfterSemicolon, AfterPropertyList, Reply, No, Go, goes, cell, subject_at, verb_at, quad_at, quad_up, nil, object_start, verb_start, after_subject, collection_closed, after, subject_start, step, waiting, fronted, put, go_on, run}
+use Rattle.rdf_trig.proofs.trees.TokensOfEvents.{tokens_give}
 
 module _ (form : DocForm) where
   -- the run from a state takes these events' tokens, and has these events
   pub record Good (c : Setting) (m : Mode) (es : List Event) : Type 0 where
     pub runs : run form c m (tokens es) ≡ Some es
-
-  pub tokens_give : (q : Option Quad) (es : List Event) → tokens (give q es) ≡ tokens es
-  tokens_give None es = refl
-  tokens_give (Some q) es = refl
 
   one : (k : Kind) (l : Leaf) (before : Option Quad) (u : Use)
       (early now : Option Quad) {c : Setting} {m : Mode} {c' : Setting} {m' : Mode} {rest : List Event} →

@@ -38,12 +38,12 @@ Facts n s k l No = Unit {0}
 Facts n s k l (Go u early now c m) = (depth m + closes k ≡ n + opens k) × IsUse s k l u × (c.scope.limits ≡ s.limits) × Quiet m early now
 
 -- a base changes no limit
-with_base_limits : (s : InForce) (i : Option (List ℕ)) → (with_base s i).limits ≡ s.limits
+pub with_base_limits : (s : InForce) (i : Option (List ℕ)) → (with_base s i).limits ≡ s.limits
 with_base_limits s None = refl
 with_base_limits s (Some i) = refl
 
 -- a binding changes no limit
-with_binding_limits : (s : InForce) (p : List ℕ) (i : Option (List ℕ)) → (with_binding s p i).limits ≡ s.limits
+pub with_binding_limits : (s : InForce) (p : List ℕ) (i : Option (List ℕ)) → (with_binding s p i).limits ≡ s.limits
 with_binding_limits s p None = refl
 with_binding_limits s p (Some i) = refl
 

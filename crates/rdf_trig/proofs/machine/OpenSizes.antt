@@ -1,5 +1,5 @@
 -- What has to be held after some tokens of a document is what the open predicate lists hold where the machine stands.
-use Rattle.std.proofs.Common.{◌≡◌, ℕ, ◌+◌, Bool, true, false, List, [], ◌∷◌, ◌++◌, Option, Some, None, refl, sym, ap, subst, ◌∙◌, arith}
+use Rattle.std.proofs.Common.{◌≡◌, ℕ, ◌+◌, true, List, [], ◌∷◌, ◌++◌, Option, Some, None, refl, sym, ap, subst, ◌∙◌, arith}
 use Rattle.rdf_terms.specs.declared.kind.Kind.{Kind}
 use Rattle.rdf_terms.specs.declared.kind.Kind.TheVariants.{IriRef, LabelNode, ShortString, LongString, LangTag, Carets, Dot, Integer, Decimal, Double, True, False, A, AtPrefix, AtBase, Prefix, Base, Graph, PnameNs, PnameLn, Semicolon, Comma, OpenBracket, CloseBracket, OpenParen, CloseParen, OpenBrace, CloseBrace, End}
 use Rattle.rdf_terms.specs.Terms.{Cell, Blank, Quad}
@@ -17,9 +17,9 @@ use Rattle.rdf_trig.specs.Events.{Use, itself, Event, Took, take, give, iri_even
 use Rattle.rdf_trig.specs.Documents.{documents}
 use Rattle.rdf_trig.specs.Owed.{verb_size, blank_held, literal_held, object_held, collection_held, items_held, list_held, predicates_held, more_held, objects_held, commas_held, label_held, maybe_held, triples_held, block_held, wrapped_held, body_held, document_held, held_after, HasToHold}
 use Rattle.rdf_trig.specs.Machine.{Topic, Spelt, sized, unsized, spelt, verb_in, Level, Top, InBlock, Place, Listed, InCollection, Around, Statement, InPropertyList, Up, Subject, At, Mode, Start, AfterLabel, GraphWord, WantBrace, Inside, Want, After, AfterText, WantType, PropertyListStart, CollectionStart, WantVerb, AfterSemicolon, AfterPropertyList, Reply, No, Go, goes, cell, subject_at, verb_at, quad_at, quad_up, nil, after_subject, collection_closed, after, step, place_size, around_size, up_size, mode_size, State, at_start, ran, accept_all}
-use Rattle.rdf_trig.proofs.trees.TokensOfEvents.{document_told}
-use Rattle.rdf_trig.proofs.machine.Completeness.{tokens_give, no_tag, TakesIri, TakesObject, want_takes, collection_start_takes, item_takes, TakesVerb, Ends, type_takes, brackets_verb, semicolon_verb, want_verb, TakesSubject, EndsTriples, label_verb, brackets_then_verb, subject_verb, start_takes, inside_takes, top_ends, dot_ends, brace_ends}
-use Rattle.rdf_trig.proofs.machine.ViableTokens.{Stand, stand, on_reply, if_true, reach, viable_reached}
+use Rattle.rdf_trig.proofs.trees.TokensOfEvents.{document_told, tokens_give}
+use Rattle.rdf_trig.proofs.machine.Completeness.{no_tag, TakesIri, TakesObject, want_takes, collection_start_takes, item_takes, TakesVerb, Ends, type_takes, brackets_verb, semicolon_verb, want_verb, TakesSubject, EndsTriples, label_verb, brackets_then_verb, subject_verb, start_takes, inside_takes, top_ends, dot_ends, brace_ends}
+use Rattle.rdf_trig.proofs.machine.ViableTokens.{Stand, stand, on_reply, reach, viable_reached, lax_true}
 use Rattle.rdf_trig.proofs.machine.AcceptedTokens.{ran_tokens}
 use Rattle.rdf_trig.proofs.machine.ClosingTokens.{admits}
 
@@ -111,7 +111,7 @@ module _ (out : InForce → ℕ) (form : DocForm) where
       Sized c m (give before (Took (token k l) u ∷ give early (give now rest))) (mode_over (out c'.scope) m' ∷ hs)
   one k l before u early now {c} {m} {c'} {m'} {rest} {hs} s g = record {
     has =
-        rw (tokens_give form before (Took (token k l) u ∷ give early (give now rest)), tokens_give form early (give now rest), tokens_give form now rest)
+        rw (tokens_give before (Took (token k l) u ∷ give early (give now rest)), tokens_give early (give now rest), tokens_give now rest)
         (ap (λ r. sized_reply out r (λ c1 m1. sizes out form c1 m1 (tokens rest))) s ∙ ap (with_size (mode_over (out c'.scope) m')) g.has);
   }
 
@@ -142,7 +142,7 @@ module _ (out : InForce → ℕ) (form : DocForm) where
 
   text_sized : {c : Setting} {p : Place} {rest : List Event} {hs : List ℕ} (w : List ℕ) → Sized c (After p) rest hs →
       Sized c (AfterText w p) (give (quad_at c p (plain_literal w)) rest) hs
-  text_sized {c} {p} {rest} {hs} w g = record { has = rw (tokens_give form (quad_at c p (plain_literal w)) rest) (text_sizes c w p (tokens rest) hs g.has) }
+  text_sized {c} {p} {rest} {hs} w g = record { has = rw (tokens_give (quad_at c p (plain_literal w)) rest) (text_sizes c w p (tokens rest) hs g.has) }
 
   iri_sized : (i : Iri) (c : Setting) (m : Mode) (s : InForce) (before early : Option Quad) (now : Option (List ℕ) → Option Quad) (c' : Setting)
       (next : Option (List ℕ) → Mode) (rest : List Event) (hs : List ℕ) →
@@ -367,11 +367,6 @@ document_sized out {form} (with_directive (sparql_base w i) rest) c =
     alone out form Base w refl (one out form IriRef i None _ None None refl (document_sized out rest (in_default (scope_after c.scope (sparql_base w i)))))
 document_sized out {form} (with_body b rest) c = body_sized out form b c (document_events c.scope rest) (document_held out c.scope rest) (document_sized out rest (in_default c.scope))
 
--- what was reached passed the test
-was_true : (b : Bool) (o : Option Stand) (n : Stand) → if_true b o ≡ Some n → o ≡ Some n
-was_true true o n e = e
-was_true false o n e = absurd (let z : None ≡ Some n = e in cc)
-
 -- what is held where the machine stands
 abbrev stood : (InForce → ℕ) → Stand → ℕ
 stood out n = mode_over (out n.setting.scope) n.mode
@@ -397,7 +392,7 @@ walk out form (t ∷ ts) us c m n hs r e = by (λ c' k gs f h. walk out form ts 
         sized_reply out x (λ c' m'. sizes out form c' m' (ts ++ us)) ≡ Some hs → held_after (mode_over (out c.scope) m) (t ∷ ts) hs ≡ stood out n
     by ih No hs r e = absurd (let z : None ≡ Some hs = e in cc)
     by ih (Go u early now c' k) hs r e =
-        later ih c' k (sizes out form c' k (ts ++ us)) hs refl e (was_true (admits true u) (reach true form c' k ts) n r)
+        later ih c' k (sizes out form c' k (ts ++ us)) hs refl e (lax_true (admits true u) (reach true form c' k ts) n r)
 
 -- what has to be held after tokens is what is held in the mode that they lead to
 held_in_mode : (out : InForce → ℕ) (form : DocForm) (start : InForce) (ts : List Token) (n : Stand) (size : ℕ) → reach true form (in_default start) Start ts ≡ Some n →

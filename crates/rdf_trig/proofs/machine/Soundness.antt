@@ -17,6 +17,7 @@ use Rattle.rdf_trig.specs.Names.{prefix_of, reference_in, name_in, iri_in, with_
 use Rattle.rdf_trig.specs.Quads.{Setting, in_default, in_graph, named, node, resource, anon_at, labelled, blank_of, short_value, long_value, lexical, language, plain_literal, tagged_literal, typed_literal, literal_of, iri_leaf, string_leaf, literal_leaf, object_leaf, cell_at, items_of, collection_of, list_of, label_of, rest_quad}
 use Rattle.rdf_trig.specs.Events.{Use, itself, binds, Event, Took, take, name, give, iri_events, string_events, tag_events, blank_object_events, literal_events, object_events, collection_events, items_events, rest_events, list_events, predicates_events, more_events, commas_events, maybe_events, triples_events, label_events, maybe_block_events, wrapped_events, document_events, tokens}
 use Rattle.rdf_trig.specs.Machine.{Topic, sized, unsized, spelt, type_verb, Level, Top, InBlock, Place, Listed, InCollection, Around, Statement, InPropertyList, Up, Subject, At, Spelling, Dotted, Sparql, Mode, Start, Over, WantPrefix, WantPrefixIri, WantBaseIri, WantDot, AfterLabel, GraphWord, GraphBracket, WantBrace, Inside, Want, After, AfterText, WantType, PropertyListStart, CollectionStart, WantVerb, AfterSemicolon, AfterPropertyList, Reply, No, Go, cell, subject_at, verb_at, quad_at, quad_up, nil, object_start, want_type, verb_start, after_subject, node_closed, property_list_closed, collection_closed, predicate_list_end, after_semicolon, after, after_text, property_list_start, collection_start, after_property_list, subject_start, start, inside, want_brace, after_label, graph_word, graph_bracket, want_prefix, want_prefix_iri, want_base_iri, want_dot, step, waiting, fronted, put, stop, go_on, run}
+use Rattle.rdf_trig.proofs.trees.TokensOfEvents.{tokens_give}
 
 -- what a bracket was
 data Was : Type 0 where
@@ -599,11 +600,6 @@ stop_found form c m es e = absurd (let z : None ≡ Some es = e in cc)
 found : (form : DocForm) (ts : List Token) (c : Setting) (m : Mode) (es : List Event) → run form c m ts ≡ Some es → Found form c m es
 found form [] c m es e = stop_found form c m es e
 found form (t ∷ ts) c m es e = step_found form (λ c' m'. run form c' m' ts) (found form ts) c m t.kind (leaf_of t) es e
-
--- the events of a run are of its tokens
-tokens_give : (q : Option Quad) (es : List Event) → tokens (give q es) ≡ tokens es
-tokens_give None es = refl
-tokens_give (Some q) es = refl
 
 -- the events of an accepted token have it first
 reply_tokens : (t : Token) (w : Option Quad) (r : Reply) (next : Setting → Mode → Option (List Event)) (ts : List Token) →

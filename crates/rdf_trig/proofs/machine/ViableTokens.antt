@@ -31,7 +31,7 @@ if_true true o = o
 if_true false o = None
 
 -- what was reached passed the test
-was_true : (b : Bool) (o : Option Stand) (s : Stand) → if_true b o ≡ Some s → (b ≡ true) × (o ≡ Some s)
+pub was_true : (b : Bool) (o : Option Stand) (s : Stand) → if_true b o ≡ Some s → (b ≡ true) × (o ≡ Some s)
 was_true true o s e = (refl, e)
 was_true false o s e = absurd (let z : None ≡ Some s = e in cc)
 
@@ -196,7 +196,7 @@ reach-snoc strict form (u ∷ ts) t c m = by (step form c m u.kind (leaf_of u)) 
     by (Go v early now c' m') ih = snoc_true strict form (admits strict v) _ _ t (ih c' m')
 
 -- what passes the strict test is reached without it too
-lax_true : (fine : Bool) (o : Option Stand) (s : Stand) → if_true fine o ≡ Some s → o ≡ Some s
+pub lax_true : (fine : Bool) (o : Option Stand) (s : Stand) → if_true fine o ≡ Some s → o ≡ Some s
 lax_true true o s e = e
 lax_true false o s e = absurd (let z : None ≡ Some s = e in cc)
 

@@ -1,5 +1,5 @@
 -- Tokens begin a document exactly where they begin a tree with their names bound by what stands before.
-use Rattle.std.proofs.Common.{◌≡◌, ℕ, zero, suc, Bool, true, false, List, [], ◌∷◌, ◌++◌, length, Option, Some, None, refl, sym, ap, ◌∙◌, subst, append_assoc}
+use Rattle.std.proofs.Common.{◌≡◌, ℕ, zero, suc, true, false, List, [], ◌∷◌, ◌++◌, length, Option, Some, None, refl, sym, ap, ◌∙◌, subst, append_assoc}
 use Rattle.rdf_tokens.specs.Grammars.{Viable}
 use Rattle.rdf_terms.specs.Terms.{Quad}
 use Rattle.rdf_tokens.specs.Tokens.{Token}
@@ -15,7 +15,7 @@ use Rattle.rdf_trig.specs.Laws.{ViableWhereBound}
 use Rattle.rdf_trig.proofs.machine.Soundness.{unput}
 use Rattle.rdf_trig.proofs.trees.TokensOfEvents.{document_told}
 use Rattle.rdf_trig.proofs.machine.ClosingTokens.{has_iri}
-use Rattle.rdf_trig.proofs.machine.ViableTokens.{Stand, stand, reach, on_reply, if_true, run_tree, reach-snoc, step_on, and_on, use_bound, reached_viable, viable_reached, begins_reached, any_passing}
+use Rattle.rdf_trig.proofs.machine.ViableTokens.{Stand, stand, reach, on_reply, if_true, run_tree, reach-snoc, step_on, and_on, use_bound, reached_viable, viable_reached, begins_reached, any_passing, was_true}
 use Rattle.rdf_trig.proofs.trees.Senses.{same_sense, tokens_after}
 
 -- a quad among the events makes no difference to bound names
@@ -41,11 +41,6 @@ use_iri (stands (Some i)) h = refl
 use_iri (binds full None) h = absurd (h refl)
 use_iri (binds full (Some i)) h = refl
 
--- what was reached passed the test
-both : (b : Bool) (o : Option Stand) (s : Stand) → if_true b o ≡ Some s → (b ≡ true) × (o ≡ Some s)
-both true o s e = (refl, e)
-both false o s e = absurd (let z : None ≡ Some s = e in cc)
-
 -- the names of tokens that the machine takes strictly are bound in each tree of theirs
 reached_bound : (form : DocForm) (ts us : List Token) (c : Setting) (m : Mode) (es : List Event) (s : Stand) → run form c m (ts ++ us) ≡ Some es →
     reach true form c m ts ≡ Some s → BoundFront (length ts) es
@@ -60,7 +55,7 @@ reached_bound form (t ∷ ts) us c m es s r e = by (step form c m t.kind (leaf_o
     by (Go u early now c' m') r e ih =
         let w = waiting c m t.kind (leaf_of t) in
         let x = unput w t u early now (run form c' m' (ts ++ us)) es r in
-        let p = both (has_iri u) (reach true form c' m' ts) s e in
+        let p = was_true (has_iri u) (reach true form c' m' ts) s e in
         let i = bound_give early (length ts) (give now x.0) (bound_give now (length ts) x.0 (ih c' m' x.0 x.1 p.1)) in
         subst (BoundFront (suc (length ts))) (sym x.2) (bound_give w (suc (length ts)) (Took t u ∷ give early (give now x.0)) (use_bound u p.0, i))
 

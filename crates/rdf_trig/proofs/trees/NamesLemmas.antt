@@ -40,7 +40,7 @@ nameless_where s l = record {
 }
 
 -- Equal texts, in either order.
-equal-sym : (v w : List ℕ) → equal v w ≡ equal w v
+pub equal-sym : (v w : List ℕ) → equal v w ≡ equal w v
 equal-sym v w = ⊎_elim (λ e. e ∙ sym (equal-from w v (sym (equal-true v w e)))) (λ e. e ∙ sym (other e)) (cases_Bool (equal v w))
   where
     other : equal v w ≡ false → equal w v ≡ false
@@ -59,7 +59,7 @@ once false true x y z h = absurd (let e : false ≡ true = h refl in cc)
 once false false x y z h = refl
 
 -- after a binding the prefix has its new IRI, and every other prefix what it had
-bind_bound : (es : List (List ℕ × List ℕ)) (p i q : List ℕ) → bound_to (bind es p i) q ≡ cond (equal p q) (Some i) (bound_to es q)
+pub bind_bound : (es : List (List ℕ × List ℕ)) (p i q : List ℕ) → bound_to (bind es p i) q ≡ cond (equal p q) (Some i) (bound_to es q)
 bind_bound [] p i q = ap (λ b. cond b (Some i) None) (equal-sym q p)
 bind_bound (e ∷ es) p i q = by (equal p e.0) refl (bind_bound es p i q)
   where
@@ -73,7 +73,7 @@ bind_bound (e ∷ es) p i q = by (equal p e.0) refl (bind_bound es p i q)
         ∙ swap (equal q e.0) (equal p q) (Some e.1) (Some i) (bound_to es q) (λ a b. let z : true ≡ false = sym (equal-from p e.0 (equal-true p q b ∙ equal-true q e.0 a)) ∙ h in cc)
 
 -- a binding of a new prefix makes the list one longer
-bind_length : (es : List (List ℕ × List ℕ)) (p i : List ℕ) → length (bind es p i) ≡ length es + cond (is_some (bound_to es p)) 0 1
+pub bind_length : (es : List (List ℕ × List ℕ)) (p i : List ℕ) → length (bind es p i) ≡ length es + cond (is_some (bound_to es p)) 0 1
 bind_length [] p i = refl
 bind_length (e ∷ es) p i = by (equal p e.0) (bind_length es p i)
   where

@@ -6,7 +6,7 @@ use Rattle.rdf_command.proofs.OutputLemmas.{fate, flushed_then}
 use Rattle.rdf_command.proofs.output.run_into.Goals as goal
 
 pub finish-requires-clause-flushed : goal.finish-requires-clause-flushed
-finish-requires-clause-flushed g c none = flushed_then _ _ c.args.task _ _ _ _ _ _ _ _ c.run_to_output-status.ensures.ends none
+finish-requires-clause-flushed g c none = flushed_then _ _ c.args.task _ _ _ _ c.run_to_output-status.ensures.ends none
 
 pub returns : goal.returns
 returns g c =

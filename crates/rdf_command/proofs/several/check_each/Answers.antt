@@ -22,11 +22,13 @@ returns-in-Err-given g c =
     inl (record {
       prefixes = option_map source.remaining c.in-Ok-open_prefixes.source;
       opened = c.in-Ok-open_prefixes.ensures.opened;
-      fault = fault;
       left = left;
-      none = c.in-Err-given.ensures.none;
-      status_is = c.refuse_bindings.ensures.status;
-      unwritten = refl;
-      reported = subst (λ n. ReportsBindings explain (device n (OneTells (source_tells source asked) left)) fault old new failed) name told_so;
+      none = record {
+        fault = fault;
+        stops = c.in-Err-given.ensures.none;
+        status_is = c.refuse_bindings.ensures.status;
+        unwritten = refl;
+        reported = subst (λ n. ReportsBindings explain (device n (OneTells (source_tells source asked) left)) fault old new failed) name told_so;
+      };
     })
     )

@@ -4,6 +4,7 @@ use Rattle.std.proofs.lemmas.List.{drop_all, drop_more}
 use Rattle.rdf_stream.specs.Told.{written}
 use Rattle.rdf_command.specs.Programs.{documents_of, shut_of}
 use Rattle.rdf_command.specs.Reasons.{devices_of}
+use Rattle.rdf_command.specs.Runs.{ending}
 use Rattle.rdf_command.specs.Several.{EndsAt, shared_of}
 use Rattle.rdf_command.specs.Words.{further_of, name_by}
 use Rattle.rdf_command.proofs.SeveralLemmas.{Completes, both_live, completed, first_completes, next_completes, stopped}
@@ -20,7 +21,7 @@ loop-document-init g c =
     let out_next = written g.O.Drain c.check_next-turn.new.out in
     let err_next = written g.E.Drain c.check_next-turn.new.err in
     let turn = c.check_next-turn.result in
-    let one = subst (λ name. EndsAt shared.folder has_document shut shared (c.args.task.now.form, name) turn.status out.contents out_next err.contents err_next)
+    let one = subst (λ name. EndsAt shared.folder has_document shut shared (c.args.task.now.form, name) (ending turn.status out.contents out_next err.contents err_next))
     (c.name_by.ensures ∙ ap name_by c.as_deref.ensures.value) c.check_next-turn.ensures.ends in
     let next = next_completes has_document shut shared whole out.contents err.contents _ _ 0 turn.status turn.has_failed out err out_next err_next
     (first_completes has_document shut shared whole out err) one c.check_next-turn.ensures.failed in
@@ -64,7 +65,7 @@ loop-document-preserved g c =
     let worst = c.loop-document.worst in
     let goes = subst (λ b. Completes has_document shut shared whole out_old err_old (further_of (drop at all)) b worst out_now err_now) c.if-turn.false c.loop-document.invariant.completes in
     let before = subst (λ ds. Completes has_document shut shared whole out_old err_old ds false worst out_now err_now) (ap further_of left) goes in
-    let one = subst (λ name. EndsAt shared.folder has_document shut shared (d.form, name) turn.status out_now.contents out_next err_now.contents err_next) c.as_str.ensures.value
+    let one = subst (λ name. EndsAt shared.folder has_document shut shared (d.form, name) (ending turn.status out_now.contents out_next err_now.contents err_next)) c.as_str.ensures.value
     c.check_next-turn-in-loop-document.ensures.ends in
     let next = next_completes has_document shut shared whole out_old err_old (d.form, string_bytes d.name) (further_of (drop (at + 1) all)) worst turn.status turn.has_failed out_now err_now out_next err_next
     before one c.check_next-turn-in-loop-document.ensures.failed in
