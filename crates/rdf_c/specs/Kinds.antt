@@ -2,7 +2,7 @@
 use Rattle.std.specs.Prelude.{◌≡◌, ◌≢◌, ℕ, Bool, true, false, List, [], ◌++◌, MatchOption, Result, Err}
 use Rattle.rdf_driver.specs.declared.summary.Summary.{Summary}
 use Rattle.rdf_stream.specs.declared.sight.Sight.{Sight}
-use Rattle.rdf_stream.specs.declared.sight.Sight.TheVariants.{Token, Stop, Unknown}
+use Rattle.rdf_stream.specs.declared.sight.Sight.TheVariants.{Token, Stop, BadEscape, Unknown}
 use Rattle.rdf_stream.specs.declared.watch.Nearby.{Nearby}
 use Rattle.rdf_stream.specs.declared.watch.Nearby.TheVariants.{Asked, Told}
 use Rattle.rdf_stream.specs.Places.{HandsOut, IsNear, NearRead}
@@ -33,10 +33,11 @@ pub record IsAlone (bits : ℕ) (kind : Kind) : Type 0 where
 abbrev pub HasBits : Unexpected → Details → Type 0
 HasBits u details = MatchOption details.found ((u.found ≡ 0) × (u.expected ≡ 0)) (λ kind. IsAlone u.found kind × (u.expected ≡ details.expected))
 
--- how many bytes stand at a place, as far as it is told
+-- how many bytes stand at a place, as far as it is told; of a token with a bad escape none are
 abbrev pub length_by : Sight → ℕ
 length_by (Token kind n) = n
 length_by (Stop n) = n
+length_by (BadEscape n) = 0
 length_by Unknown = 0
 
 abbrev pub length_of : Nearby NearRead → ℕ

@@ -48,7 +48,7 @@ fn length_of(near: &Nearby<Near>) -> u64
     match near {
         Nearby::Told(near) => match near.sight {
             Sight::Token(_, length) | Sight::Stop(length) => length,
-            Sight::Unknown => 0,
+            Sight::BadEscape(_) | Sight::Unknown => 0,
         },
         _ => 0,
     }

@@ -15,7 +15,10 @@ pub mod ExplainsLemmas
 pub mod ExcerptsLemmas
 pub mod SignsLemmas
 pub mod CausesLemmas
+pub mod EscapeWalksLemmas
+pub mod BadEscapesLemmas
 pub mod SightLemmas
+pub mod SightPlaces
 pub mod ChecksLemmas
 pub mod TokenWordsLemmas
 pub mod TokenOutLemmas

@@ -24,7 +24,7 @@ use Rattle.rdf_tokens.proofs.NextLemmas.{open_step}
 use Rattle.rdf_tokens.proofs.TokensLemmas.{at_stop}
 use Rattle.rdf_tokens.proofs.GoodLemmas.{at_least, good_front}
 use Rattle.rdf_stream.specs.declared.sight.Seen.{Seen}
-use Rattle.rdf_stream.specs.declared.sight.Seen.TheVariants.{Open, First, Nothing, Other}
+use Rattle.rdf_stream.specs.declared.sight.Seen.TheVariants.{Open, First, Nothing, Unfit, Other}
 use Rattle.rdf_stream.specs.Sights.{reading_from, HasNone, IsOpen, IsLongestOpen, IsOther, IsSeen, IsSeenOf, seen_for, Sees, SeesEnd, SeesPart, HasTaken}
 
 -- Bytes that leave a token open do so too where fewer have come.
@@ -60,6 +60,12 @@ longer d limit front more e Nothing h n =
     let l = lengthens d limit (code " " ∷ front) more e in
     let same = l.1 (λ u. let z : no_token ≡ undecided = sym h.outcome ∙ u in cc) in
     record { tokens = ap (λ r. r.tokens) same ∙ h.tokens; outcome = ap (λ r. r.outcome) same ∙ h.outcome }
+longer d limit front more e (Unfit k) h n =
+    let l = lengthens d limit (code " " ∷ front) more e in
+    let same = l.1 (λ u. let z : bad_escape ≡ undecided = sym h.0.outcome ∙ u in cc) in (
+      record { tokens = ap (λ r. r.tokens) same ∙ h.0.tokens; outcome = ap (λ r. r.outcome) same ∙ h.0.outcome },
+      ap (λ r. r.at.offset) same ∙ h.1,
+    )
 longer d limit front more e Other h n = at (reading_from d limit front false).tokens refl h
   where
     at : (ts : List Read) → (reading_from d limit front false).tokens ≡ ts → IsOther ts (reading_from d limit front false).outcome →
@@ -76,10 +82,11 @@ pub only_open : (r : Reading) (s : Seen) → IsSeen r s → HasNone r undecided 
 only_open r Open h o = refl
 only_open r (First k n) h o = absurd (let z : h.first ∷ h.others ≡ [] = sym h.tokens ∙ o.tokens in cc)
 only_open r Nothing h o = absurd (let z : no_token ≡ undecided = sym h.outcome ∙ o.outcome in cc)
+only_open r (Unfit n) h o = absurd (let z : bad_escape ≡ undecided = sym h.0.outcome ∙ o.outcome in cc)
 only_open r Other h o = absurd ((subst (λ ts. IsOther ts r.outcome) o.tokens h).1 o.outcome)
 
 -- a scanner that stops
-pub sees_stop : (old new : Unread) (f : Fault) → old.stopped ≡ false → Gives old (Err f) new → Sees old (seen_for f.reason) new
+pub sees_stop : (old new : Unread) (f : Fault) → old.stopped ≡ false → Gives old (Err f) new → Sees old (seen_for f.reason f.offset) new
 sees_stop old new f run g = by f.reason (place_of f) g
   where
     stop : (o : Outcome) (at : Place) (s : Seen) → Stops old o at new → IsSeen (record { tokens = []; outcome = o; at = at }) s → s ≢ Open → Sees old s new
@@ -93,11 +100,11 @@ sees_stop old new f run g = by f.reason (place_of f) g
     other : Other ≢ Open
     other e = (cc)
 
-    by : (r : Reason) (at : Place) → StopsFor r old at new → Sees old (seen_for r) new
-    by BadUtf8 at x = stop bad_utf8 at Other x ((λ e. (cc)), (λ e. (cc))) other
+    by : (r : Reason) (at : Place) → StopsFor r old at new → Sees old (seen_for r at.offset) new
+    by BadUtf8 at x = stop bad_utf8 at Other x ((λ e. (cc)), (λ e. (cc)), (λ e. (cc))) other
     by NoToken at x = stop no_token at Nothing x (record { tokens = refl; outcome = refl }) (λ e. (cc))
-    by BadEscape at x = stop bad_escape at Other x ((λ e. (cc)), (λ e. (cc))) other
-    by TokenTooLong at x = stop token_too_long at Other x ((λ e. (cc)), (λ e. (cc))) other
+    by BadEscape at x = stop bad_escape at (Unfit at.offset) x (record { tokens = refl; outcome = refl }, refl) (λ e. (cc))
+    by TokenTooLong at x = stop token_too_long at Other x ((λ e. (cc)), (λ e. (cc)), (λ e. (cc))) other
     by Ended at x = absurd (let z : true ≡ false = sym x.0 ∙ run in cc)
     by r at x = absurd x
 
@@ -150,11 +157,11 @@ space_byte : encode_utf8_all (code " " ∷ []) ≡ code " " ∷ []
 space_byte = ap (λ x. x ++ []) (encode_ascii (code " ") (omega arith))
 
 -- and it is UTF-8
-space_utf8 : IsUtf8 (code " " ∷ [])
+pub space_utf8 : IsUtf8 (code " " ∷ [])
 space_utf8 = (code " " ∷ [], (refl, space_byte))
 
 -- of one character
-space_chars : chars (code " " ∷ []) ≡ code " " ∷ []
+pub space_chars : chars (code " " ∷ []) ≡ code " " ∷ []
 space_chars = ap chars (sym space_byte) ∙ chars-encodes (code " " ∷ []) refl
 
 -- after a space more bytes decide

@@ -1,10 +1,11 @@
 -- The lines that explain a refusal, the first in the form that editors read.
-use Rattle.std.specs.Prelude.{◌||◌, ◌&&◌, ◌==◌, not, map, option_map, ℕ, Bool, List, [], ◌∷◌, ◌++◌, codes, cond, decimal, length, nat_le, nat_lt, take, Option, Some, None}
+use Prim.Native.Char.{code}
+use Rattle.std.specs.Prelude.{◌||◌, ◌&&◌, ◌==◌, not, map, option_map, ℕ, Bool, List, [], ◌∷◌, ◌++◌, codes, cond, decimal, drop, length, nat_le, nat_lt, take, Option, Some, None}
 use Rattle.std.specs.Borrow.{Bor}
 use Rattle.std.specs.List.{list_all}
 use Rattle.rdf_iri.specs.Limits.{Sizes}
 use Rattle.rdf_terms.specs.declared.reason.Reason.{Reason}
-use Rattle.rdf_terms.specs.declared.reason.Reason.TheVariants.{NoToken, TokenTooLong, IriTooLong, TooDeep, TooManyBindings, Unbound, NoBase, RelativeIri}
+use Rattle.rdf_terms.specs.declared.reason.Reason.TheVariants.{NoToken, BadEscape as Bad, TokenTooLong, IriTooLong, TooDeep, TooManyBindings, Unbound, NoBase, RelativeIri}
 use Rattle.rdf_terms.specs.declared.kind.Kind.{Kind}
 use Rattle.rdf_terms.specs.declared.kind.Kind.TheVariants.{IriRef, LabelNode, ShortString, LongString, LangTag, Carets, Dot, LineEnd, Integer, Decimal, Double, True, False, A, AtPrefix, AtBase, Prefix, Base, Graph, PnameNs, PnameLn, Semicolon, Comma, OpenBracket, CloseBracket, OpenParen, CloseParen, OpenBrace, CloseBrace, End}
 use Rattle.rdf_tokens.specs.declared.token.Fault.{Fault}
@@ -12,7 +13,7 @@ use Rattle.rdf_driver.specs.Kinds.{has}
 use Rattle.rdf_stream.specs.declared.causes.Cause.{Cause}
 use Rattle.rdf_stream.specs.declared.explains.Evidence.{Evidence}
 use Rattle.rdf_stream.specs.declared.sight.Sight.{Sight}
-use Rattle.rdf_stream.specs.declared.sight.Sight.TheVariants.{Token, Stop}
+use Rattle.rdf_stream.specs.declared.sight.Sight.TheVariants.{Token, Stop, BadEscape}
 use Rattle.rdf_stream.specs.declared.watch.Nearby.{Nearby}
 use Rattle.rdf_stream.specs.declared.watch.Nearby.TheVariants.{Told}
 use Rattle.rdf_stream.specs.Causes.{advice_text, cause_of}
@@ -149,9 +150,19 @@ abbrev pub quoted_text : Option (List ℕ) → List ℕ
 quoted_text None = []
 quoted_text (Some name) = codes ": \"" ++ name ++ codes "\""
 
--- where a token stops, or the name or the reference that stands there
+-- how long an escape by number is: `\u` has four digits, and `\U` eight
+abbrev pub escape_len : List ℕ → ℕ
+escape_len (a ∷ b ∷ w) = cond (a == code "\\" && b == code "u") 6 10
+escape_len w = 10
+
+-- the escape after n bytes, where it is there, and how many bytes stand before it
+abbrev pub escape_text : List ℕ → ℕ → List ℕ
+escape_text after n = quoted_text (name_of (drop n after) (escape_len (drop n after))) ++ codes " after " ++ decimal n ++ codes " bytes"
+
+-- where a token stops, the bad escape of a token, or the name or the reference that stands there
 abbrev pub sight_by : Reason → Sight → List ℕ → List ℕ
 sight_by NoToken (Stop n) after = stop_text n
+sight_by Bad (BadEscape n) after = escape_text after n
 sight_by Unbound (Token kind n) after = quoted_text (name_of after n)
 sight_by NoBase (Token kind n) after = quoted_text (name_of after n)
 sight_by RelativeIri (Token kind n) after = quoted_text (name_of after n)

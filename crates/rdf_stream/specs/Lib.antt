@@ -17,6 +17,7 @@ pub mod Explains
 pub mod Excerpts
 pub mod Signs
 pub mod Causes
+pub mod BadEscapes
 pub mod Sights
 pub mod Shows
 pub mod Loads
@@ -26,6 +27,7 @@ pub mod Outputs
 pub mod LineOut
 pub mod Kept
 pub mod Watches
+pub mod EscapeWalks
 pub mod Pieces
 pub mod Parts
 pub mod Passes

@@ -1,21 +1,23 @@
 -- What stands at a place, where the bytes from there on are read by themselves.
 use Prim.Native.Char.{code}
-use Rattle.std.specs.Prelude.{◌≡◌, ◌≢◌, ℕ, ◌<◌, ◌≤◌, Bool, false, List, [], ◌∷◌, ◌++◌, length, take, encode_utf8_all}
-use Rattle.std.specs.Str.{IsUtf8}
+use Rattle.std.specs.Prelude.{◌≡◌, ◌≢◌, ℕ, ◌<◌, ◌≤◌, ◌-◌, Bool, false, List, [], ◌∷◌, ◌++◌, length, take, encode_utf8_all}
+use Rattle.std.specs.Str.{IsCharBoundary, IsUtf8}
+use Rattle.std.specs.Str.Lossy.{utf8_valid_len}
 use Rattle.rdf_terms.specs.declared.kind.Dialect.{Dialect}
 use Rattle.rdf_terms.specs.declared.kind.Kind.{Kind}
 use Rattle.rdf_terms.specs.declared.kind.Kind.TheVariants.{End}
 use Rattle.rdf_terms.specs.declared.reason.Reason.{Reason}
-use Rattle.rdf_terms.specs.declared.reason.Reason.TheVariants.{NoToken}
-use Rattle.rdf_tokens.specs.Tokens.{Outcome, Token as Read, Reading}
-use Rattle.rdf_tokens.specs.Tokens.Outcome.{undecided, no_token}
-use Rattle.rdf_tokens.specs.Good.{tokens_of}
+use Rattle.rdf_terms.specs.declared.reason.Reason.TheVariants.{BadEscape as Bad, NoToken}
+use Rattle.rdf_tokens.specs.Tokens.{Outcome, Token as Read, Reading, rest_of}
+use Rattle.rdf_tokens.specs.Tokens.Outcome.{undecided, no_token, bad_escape}
+use Rattle.rdf_tokens.specs.Good.{good, tokens_of}
 use Rattle.rdf_tokens.specs.Unread.{Unread}
 use Rattle.rdf_tokens.specs.Scans.{HasScanned, IsWaiting, SameScan}
 use Rattle.rdf_stream.specs.declared.sight.Sight.{Sight}
-use Rattle.rdf_stream.specs.declared.sight.Sight.TheVariants.{Token, Stop, Unknown}
+use Rattle.rdf_stream.specs.declared.sight.Sight.TheVariants.{Token, Stop, BadEscape, Unknown}
 use Rattle.rdf_stream.specs.declared.sight.Seen.{Seen}
-use Rattle.rdf_stream.specs.declared.sight.Seen.TheVariants.{Open, First, Nothing, Other}
+use Rattle.rdf_stream.specs.declared.sight.Seen.TheVariants.{Open, First, Nothing, Unfit, Other}
+use Rattle.rdf_stream.specs.BadEscapes.{HasBadEscape}
 
 -- The tokens of the bytes from a place on, by themselves. With a space before them a U+FEFF at the place is no byte order mark.
 abbrev pub reading_from : Dialect → ℕ → List ℕ → Bool → Reading
@@ -50,23 +52,24 @@ pub record IsLongestOpen (d : Dialect) (limit : ℕ) (rest : List ℕ) (n : ℕ)
   pub opens : IsOpen d limit rest n
   pub longest : (m : ℕ) → IsOpen d limit rest m → m ≤ n
 
--- the first token is the end, or none is there for another reason than that none begins so
+-- the first token is the end, or none is there for another reason than that none begins so or that its escape is bad
 abbrev pub IsUnknown : List Read → Outcome → Type 0
-IsUnknown [] o = o ≢ no_token
+IsUnknown [] o = (o ≢ no_token) × (o ≢ bad_escape)
 IsUnknown (t ∷ ts) o = t.kind ≡ End
 
 -- What stands at a place, where these bytes come from there on, and then more or no more: the first token; or none, since a token could begin with so
--- many bytes and with no more; or neither.
+-- many bytes and with no more; or one that has a bad escape after so many of its bytes; or none of these.
 abbrev pub IsSight : Dialect → ℕ → List ℕ → Bool → Sight → Type 0
 IsSight d limit rest is_end (Token k n) = BeginsWith (reading_from d limit rest is_end) k n
 IsSight d limit rest is_end (Stop n) = HasNone (reading_from d limit rest is_end) no_token × IsLongestOpen d limit rest n
+IsSight d limit rest is_end (BadEscape n) = HasNone (reading_from d limit rest is_end) bad_escape × HasBadEscape d (rest_of d false (good rest)) n
 IsSight d limit rest is_end Unknown = IsUnknown (reading_from d limit rest is_end).tokens (reading_from d limit rest is_end).outcome
 
 -- ---- within a run
 
--- it is decided, and it is neither a token nor that there is none
+-- it is decided, and it is neither a token nor that there is none nor that its escape is bad
 abbrev pub IsOther : List Read → Outcome → Type 0
-IsOther [] o = (o ≢ no_token) × (o ≢ undecided)
+IsOther [] o = (o ≢ no_token) × (o ≢ undecided) × (o ≢ bad_escape)
 IsOther (t ∷ ts) o = t.kind ≡ End
 
 -- what a reading begins with
@@ -74,6 +77,7 @@ abbrev pub IsSeen : Reading → Seen → Type 0
 IsSeen r Open = HasNone r undecided
 IsSeen r (First k n) = BeginsWith r k n
 IsSeen r Nothing = HasNone r no_token
+IsSeen r (Unfit n) = HasNone r bad_escape × (r.at.offset ≡ n)
 IsSeen r Other = IsOther r.tokens r.outcome
 
 -- what is seen of a token
@@ -82,10 +86,11 @@ IsSeenOf t (First k n) = (t.kind ≡ k) × (k ≢ End) × (n ≡ length (encode_
 IsSeenOf t Other = t.kind ≡ End
 IsSeenOf t s = ⊥
 
--- what is seen where a scanner stops for a reason
-abbrev pub seen_for : Reason → Seen
-seen_for NoToken = Nothing
-seen_for reason = Other
+-- what is seen where a scanner stops for a reason, at this byte
+abbrev pub seen_for : Reason → ℕ → Seen
+seen_for NoToken n = Nothing
+seen_for Bad n = Unfit n
+seen_for reason n = Other
 
 -- A scanner that had given no token was asked for one.
 pub record Sees (old : Unread) (s : Seen) (new : Unread) : Type 0 where
@@ -113,3 +118,9 @@ pub record HasTaken (v : Unread) (bytes : List ℕ) (n : ℕ) : Type 0 where
   pub front : LeavesOpen v.dialect v.limit bytes n
   pub waiting : IsWaiting v
   pub scanned : HasScanned v (code " " ∷ take n bytes) []
+
+-- A scanner that had taken a space before them found a token at this byte: it stands at a character of theirs.
+pub record StandsFrom (rest : List ℕ) (offset : ℕ) : Type 0 where
+  pub some : 0 < offset
+  pub within : offset - 1 ≤ utf8_valid_len rest
+  pub boundary : IsCharBoundary (take (utf8_valid_len rest) rest) (offset - 1)

@@ -1,9 +1,9 @@
 // The lines that explain a refusal, the first in the form that editors read.
 
-ghost use Rattle.std.specs.Prelude.{◌≡◌, ◌||◌, ◌&&◌, ◌++◌, IfOk, OnOk, Some, length, not, option_map};
+ghost use Rattle.std.specs.Prelude.{◌≡◌, ◌||◌, ◌&&◌, ◌++◌, IfOk, OnOk, Some, drop, length, not, option_map};
 ghost use Rattle.rdf_driver.specs.Kinds.{has};
 ghost use Rattle.std.specs.List.{list_all};
-ghost use Rattle.rdf_stream.specs.Explains.{between, expected_text, explain_text, found_text, front_text, is_graphic, limit_of, limit_text, listed, name_of, note_text, only_said, quoted_text, said, shown_text, sight_text, stop_text, stopped_text, texts_of, told_text, word_of, words_for};
+ghost use Rattle.rdf_stream.specs.Explains.{between, escape_len, escape_text, expected_text, explain_text, found_text, front_text, is_graphic, limit_of, limit_text, listed, name_of, note_text, only_said, quoted_text, said, shown_text, sight_text, stop_text, stopped_text, texts_of, told_text, word_of, words_for};
 
 use crate::causes::{Cause, advice, cause_of};
 use crate::excerpt::put_excerpt;
@@ -30,8 +30,8 @@ pub struct Evidence<N> {
 
 /// The lines that explain the refusal of the document of this name, each with its LF. The first has the form that editors read: the
 /// name, the line and the column of the place, where that is told; why the document is refused; the kind of the token that stands
-/// there, where it was found, and the kinds of tokens that could have stood there, where there are any; where a token stops, or what
-/// the name or the reference is; and the limit that is passed. Where the place is told, its line follows with a caret, and what mostly
+/// there, where it was found, and the kinds of tokens that could have stood there, where there are any; where a token stops, its bad
+/// escape, or what the name or the reference is; and the limit that is passed. Where the place is told, its line follows with a caret, and what mostly
 /// causes such a refusal, where the bytes there tell it.
 pub fn explain<A: Allocator + Copy>(
     alloc: A,
@@ -85,7 +85,7 @@ fn put_place<A: Allocator + Copy>(
     line.extend_from_slice(b" ")
 }
 
-// Where a token stops, or the name or the reference that stands there.
+// Where a token stops, its bad escape, or the name or the reference that stands there.
 fn put_sight<A: Allocator + Copy>(
     reason: Reason,
     near: &Nearby<Near<A>>,
@@ -98,6 +98,7 @@ fn put_sight<A: Allocator + Copy>(
     };
     match (reason, near.sight) {
         (Reason::NoToken, Sight::Stop(len)) => put_stop(len, line),
+        (Reason::BadEscape, Sight::BadEscape(len)) => put_escape(near.after.as_slice(), len, line),
         (Reason::Unbound | Reason::NoBase | Reason::RelativeIri, Sight::Token(_, len)) => {
             put_quoted(name_of(near.after.as_slice(), len), line)
         }
@@ -122,6 +123,49 @@ fn put_stopped<A: Allocator + Copy>(len: u64, line: &mut Vec<u8, A>) -> Result<(
     line.extend_from_slice(b": it stops after ")?;
     put_number(len, line)?;
     line.extend_from_slice(b" bytes")
+}
+
+// The escape after so many bytes, where it is there, and how many bytes stand before it.
+fn put_escape<A: Allocator + Copy>(
+    after: &[u8],
+    len: u64,
+    line: &mut Vec<u8, A>,
+) -> Result<(), AllocError>
+    ensures { OnOk result (line.new.items ≡ line.old.items ++ escape_text after.now len) }
+{
+    put_quoted(escape_of(after, len), line)?;
+    line.extend_from_slice(b" after ")?;
+    put_number(len, line)?;
+    line.extend_from_slice(b" bytes")
+}
+
+// The escape after so many bytes, where it is there.
+fn escape_of(after: &[u8], len: u64) -> Option<&[u8]>
+    ensures { option_map (λ s. s.now) result ≡ name_of (drop len after.now) (escape_len (drop len after.now)) }
+{
+    let escape = rest_after(after, len);
+    name_of(escape, escape_len(escape))
+}
+
+// The bytes after so many.
+fn rest_after(bytes: &[u8], len: u64) -> &[u8]
+    ensures { result.now ≡ drop len bytes.now }
+{
+    if len < bytes.len() as u64 {
+        &bytes[len as usize..]
+    } else {
+        &[]
+    }
+}
+
+// How long an escape by number is.
+fn escape_len(bytes: &[u8]) -> u64
+    ensures { result ≡ escape_len bytes.now }
+{
+    match bytes {
+        [b'\\', b'u', ..] => 6,
+        _ => 10,
+    }
 }
 
 // The first bytes, so many, where they are all there and are shown as they stand.

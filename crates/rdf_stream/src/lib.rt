@@ -1,6 +1,7 @@
 //! From a source of bytes to a drain of bytes: a document is read, and its quads are written as lines of N-Quads.
 #![tactic(auto)]
 
+mod bad_escape;
 mod causes;
 mod checks;
 mod conversions;

@@ -1,11 +1,13 @@
 // What stands at the place of a refusal.
 
-ghost use Rattle.std.specs.Prelude.{◌≡◌, ◌≤◌, List, ℕ, IfOk, OnOk, encode_utf8_all, length, take, false};
+ghost use Rattle.std.specs.Prelude.{◌≡◌, ◌≤◌, ◌-◌, List, ℕ, IfOk, OnOk, encode_utf8_all, drop, length, take, false};
 ghost use Rattle.std.specs.Str.{chars};
+ghost use Rattle.std.specs.Str.Lossy.{utf8_valid_len};
 ghost use Rattle.rdf_tokens.specs.Scans.{IsWaiting, SameScan, token_of};
 ghost use Rattle.rdf_stream.specs.Sights.{IsLongestOpen, IsSight, LeavesOpen, reading_from};
-ghost use Rattle.rdf_stream.specs.Sights.{HasTaken, IsSeen, IsSeenOf, Sees, SeesEnd, SeesPart, seen_for};
+ghost use Rattle.rdf_stream.specs.Sights.{HasTaken, StandsFrom, IsSeen, IsSeenOf, Sees, SeesEnd, SeesPart, seen_for};
 
+use crate::bad_escape::bad_escape_in;
 use crate::parts::utf8_front;
 use rdf_terms::{Dialect, Kind, Reason};
 use rdf_tokens::{Scanner, Token};
@@ -21,23 +23,27 @@ pub enum Sight {
     Token(Kind, u64),
     /// No token: one could begin with so many of the bytes, and with no more.
     Stop(u64),
-    /// Neither.
+    /// A token, but for an escape that stands for no character allowed there. So many bytes of the token stand before it.
+    BadEscape(u64),
+    /// None of these.
     Unknown,
 }
 
-/// What the bytes so far begin with: more bytes decide, a token, no token, or none of these.
+/// What the bytes so far begin with: more bytes decide, a token, no token, one with a bad escape, which begins at this byte
+/// of the scanner's, or none of these.
 #[derive(Clone, Copy)]
 enum Seen {
     Open,
     First(Kind, u64),
     Nothing,
+    Unfit(u64),
     Other,
 }
 
 /// What stands at a place of a document, where the bytes from there on are read by themselves. `rest` are those that
 /// have come, and `is_end` says that no more come. White space and comments are passed first. The end of the document
 /// is no token. The answer is `Unknown` where more bytes decide, where the bytes before the first token's end are no
-/// UTF-8, and where that token has more characters than the limit or an escape that stands for no character.
+/// UTF-8, and where that token has more characters than the limit.
 pub fn sight_of<A: Allocator + Copy>(
     alloc: A,
     dialect: Dialect,
@@ -55,7 +61,20 @@ pub fn sight_of<A: Allocator + Copy>(
             let len = longest_open(alloc, dialect, limit, rest, front.len)?;
             Ok(Sight::Stop(len as u64))
         }
+        Seen::Unfit(offset) => match bad_escape_in(text_from(rest, offset)) {
+            Some(len) => Ok(Sight::BadEscape(len)),
+            None => unreachable!(),
+        },
     }
+}
+
+// The text from a token on that a scanner found at this byte, after its space.
+fn text_from(rest: &[u8], offset: u64) -> &str
+    requires { StandsFrom rest.now offset }
+    ensures { result.now ≡ drop (offset - 1) (take (utf8_valid_len rest.now) rest.now) }
+{
+    let start = offset as usize - 1;
+    &utf8_front(rest)[start..]
 }
 
 // The greatest number of the bytes with which a token could begin. So many are known to leave one open, and may end
@@ -179,7 +198,7 @@ fn see_next<A: Allocator + Copy>(scanner: &mut Scanner<A>) -> Seen
     match scanner.next() {
         Ok(None) => Seen::Open,
         Ok(Some(ref token)) => seen_of(token),
-        Err(fault) => seen_for(fault.reason),
+        Err(fault) => seen_for(fault.reason, fault.offset),
     }
 }
 
@@ -198,11 +217,12 @@ fn byte_len(text: &str) -> u64
     text.len() as u64
 }
 
-fn seen_for(reason: Reason) -> Seen
-    ensures { result ≡ seen_for reason }
+fn seen_for(reason: Reason, offset: u64) -> Seen
+    ensures { result ≡ seen_for reason offset }
 {
     match reason {
         Reason::NoToken => Seen::Nothing,
+        Reason::BadEscape => Seen::Unfit(offset),
         _ => Seen::Other,
     }
 }

@@ -193,7 +193,7 @@ struct Explained {
     lines: &'static str,
 }
 
-static EXPLAINED: [Explained; 6] = [
+static EXPLAINED: [Explained; 8] = [
     Explained {
         form: Form::NTriples,
         bytes: b"<a:s> <a:p> <a:o b> .",
@@ -208,6 +208,16 @@ static EXPLAINED: [Explained; 6] = [
         form: Form::TriG,
         bytes: b"<a:s> <a:p> ex:o .",
         lines: "a:1:13: unbound prefix: \"ex:o\"\n<a:s> <a:p> ex:o .\n            ^\n",
+    },
+    Explained {
+        form: Form::Turtle,
+        bytes: b"<a:s> <a:p> \"\xc3\xa9\\t\\uD83D\\uDE00\" .",
+        lines: "a:1:13: bad escape: \"\\uD83D\" after 5 bytes\n<a:s> <a:p> \"\u{e9}\\t\\uD83D\\uDE00\" .\n            ^\na:1:13: note: a surrogate is no character: write one escape for both of a pair, as \\U0001F600\n",
+    },
+    Explained {
+        form: Form::Turtle,
+        bytes: b"<a:s> <a:p> '''a\n\\U00110000''' .",
+        lines: "a:1:13: bad escape after 5 bytes\n<a:s> <a:p> '''a\n            ^\n",
     },
     Explained {
         form: Form::NQuads,

@@ -5,7 +5,7 @@ use rdf_tokens::{Dialect, Kind};
 use std::alloc::Global;
 
 // The bytes from a place on, and what stands there where they are the last.
-static ROWS: [(Dialect, &str, Sight); 27] = [
+static ROWS: [(Dialect, &str, Sight); 31] = [
     (Dialect::Turtle, "<http://a/o b> .", Sight::Stop(11)),
     (Dialect::Lines, "<http://a/o b> .", Sight::Stop(11)),
     (Dialect::Turtle, "\"abc", Sight::Stop(4)),
@@ -37,7 +37,23 @@ static ROWS: [(Dialect, &str, Sight); 27] = [
         Sight::Token(Kind::Semicolon, 1),
     ),
     (Dialect::Lines, "\r\n\n.", Sight::Token(Kind::LineEnd, 1)),
-    (Dialect::Turtle, "\"\\uD800\"", Sight::Unknown),
+    (Dialect::Turtle, "\"\\uD800\"", Sight::BadEscape(1)),
+    (
+        Dialect::Lines,
+        "<http://a/\\u0041\\u0020> .",
+        Sight::BadEscape(16),
+    ),
+    (
+        Dialect::Turtle,
+        "'''\u{e9}''\\n\\U00110000'''",
+        Sight::BadEscape(9),
+    ),
+    (Dialect::Turtle, "<a:\\uDFFF>", Sight::BadEscape(3)),
+    (
+        Dialect::Turtle,
+        "<a:b> \"\\uD800\"",
+        Sight::Token(Kind::IriRef, 5),
+    ),
     (Dialect::Turtle, "\"a\\z\"", Sight::Stop(3)),
     (Dialect::Turtle, "^a", Sight::Stop(1)),
     (Dialect::Turtle, "_:a.b. ", Sight::Token(Kind::LabelNode, 5)),
