@@ -15,7 +15,7 @@ use rdf_driver::Reader;
 use rdf_terms::runs::{Run, run_end};
 use rdf_terms::{
     IriView, Known, LabelView, LiteralRef, NodeRef, QuadRef, SubjectRef, TagView, TailRef, TermRef,
-    has_scheme, is_label, is_tag, known, set_iri_value, set_string_value,
+    has_scheme, is_label, is_tag, known, set_iri_value, string_value,
 };
 use std::alloc::{Allocator, Global};
 
@@ -25,6 +25,7 @@ const LONGEST: usize = 2048;
 /// What the escapes of a line mean: the texts of its subject, its predicate, its object and its graph label. Their memory is used again from line to line.
 #[derive(Drop)]
 pub(crate) struct Values<A: Allocator = Global> {
+    alloc: A,
     subject: String<A>,
     predicate: String<A>,
     object: String<A>,
@@ -88,6 +89,7 @@ impl<A: Allocator + Copy> Values<A> {
     /// Before the first line. It takes no memory.
     pub(crate) fn new(alloc: A) -> Values<A> {
         Values {
+            alloc,
             subject: String::new(alloc),
             predicate: String::new(alloc),
             object: String::new(alloc),
@@ -97,8 +99,9 @@ impl<A: Allocator + Copy> Values<A> {
 }
 
 /// Passes lines at the front of the text that end so and whose parts stand with one space after each, where the reader stands between two lines, and
-/// appends what is written for their quads with the labels kept. Strings and IRIs may have any escapes. Answers how many bytes they have. It passes none
-/// with limits below 64, of a text that is longer than a token may be, and where there is no memory for what a line means or for what is written.
+/// appends what is written for their quads with the labels kept. Strings and IRIs may have any escapes. Answers how many bytes they have. After a line
+/// that has as many bytes as what is written for it, it passes no more. It passes none with limits below 64, of a text that is longer than a token may
+/// be, and where there is no memory for what a line means or for what is written.
 pub fn pass_escaped<A: Allocator + Copy>(
     reader: &mut Reader<LineGrammar<A>, A>,
     text: &str,
@@ -110,12 +113,22 @@ pub fn pass_escaped<A: Allocator + Copy>(
 {
     let mut at = 0;
     'lines: loop {
+        let len = out.len();
         let passed = out.pass_line(reader, text_from(text, at), ending);
         if passed == 0 {
             return at;
         }
         at += passed;
+        let stands = stands_as_written(len, out.len(), passed);
+        if stands {
+            return at;
+        }
     }
+}
+
+// Whether so many bytes were appended as were passed, so that lines come that `pass_lines` may pass, which is faster.
+fn stands_as_written(old: usize, new: usize, passed: usize) -> bool {
+    new >= old && new - old == passed
 }
 
 // The text from a place on, if a character begins there, or else none of it.
@@ -129,7 +142,7 @@ fn text_from(text: &str, at: usize) -> &str
 }
 
 /// The line that the text begins with, if its parts stand with one space after each, it ends so, and there is memory for what it means.
-pub(crate) fn escaped_line<'a, A: Allocator>(
+pub(crate) fn escaped_line<'a, A: Allocator + Copy>(
     text: &'a str,
     ending: LineEnding,
     rules: Rules,
@@ -139,12 +152,14 @@ pub(crate) fn escaped_line<'a, A: Allocator>(
     ensures spelled { IfSome result (λ l. LineSpelled ending rules.form rules.iri l.tokens (quad_of l.quad) text.now l.rest.now) }
     ensures few { IfSome result (λ l. l.tokens ≤ 7) }
 {
+    let alloc = values.alloc;
     let subject = subject(text, rules.iri, &mut values.subject)?;
     let after = after_byte(subject.rest, b' ')?;
     let predicate = any_iri(after_byte(after, b'<')?, rules.iri, &mut values.predicate)?;
     let object = object(
         after_byte(predicate.rest, b' ')?,
         rules.iri,
+        alloc,
         &mut values.object,
     )?;
     let graph = graph(after_byte(object.rest, b' ')?, rules, &mut values.graph)?;
@@ -252,9 +267,10 @@ fn iri_end(bytes: &[u8]) -> usize
     at
 }
 
-fn object<'a, A: Allocator>(
+fn object<'a, A: Allocator + Copy>(
     text: &'a str,
     limit: u64,
+    alloc: A,
     value: &'a mut String<A>,
 ) -> Option<ObjectPart<'a>>
     requires iri { 64 ≤ limit }
@@ -263,7 +279,7 @@ fn object<'a, A: Allocator>(
 {
     match after_byte(text, b'"') {
         Some(text) => {
-            let string = string(text, value)?;
+            let string = string(text, alloc, value)?;
             let tail = tail(string.rest, limit)?;
             Some(ObjectPart {
                 object: TermRef::Literal(LiteralRef::new(string.lexical, tail.tail)),
@@ -292,13 +308,17 @@ fn term_of(subject: SubjectRef<'_>) -> TermRef<'_>
 }
 
 // A string, whose opening quote came before.
-fn string<'a, A: Allocator>(text: &'a str, value: &'a mut String<A>) -> Option<StringPart<'a>>
+fn string<'a, A: Allocator + Copy>(
+    text: &'a str,
+    alloc: A,
+    value: &'a mut String<A>,
+) -> Option<StringPart<'a>>
     ensures { IfSome result (λ p. StringSpelled (chars p.lexical.now) text.now p.rest.now) }
 {
     let end = string_end(text.as_bytes());
     let rest = after_byte_at(text, end, b'"')?;
-    match set_string_value(value, &text[..end]) {
-        Ok(()) => {}
+    match string_value(alloc, &text[..end]) {
+        Ok(meant) => *value = meant,
         Err(_) => return None,
     }
     Some(StringPart {

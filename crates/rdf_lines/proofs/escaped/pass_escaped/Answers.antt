@@ -22,3 +22,12 @@ returns-then-passed-eq0-clause-passes g c =
     subst (λ k. PassesInto c.args.reader.now (take k c.args.text.now) c.pass_line-passed.new.reader c.args.out.now c.pass_line-passed.new.self) same
     (passes_on c.args.reader.now c.lines.reader c.pass_line-passed.new.reader c.args.text.now c.text_from.result.now c.lines.at n c.args.out.now c.lines.out c.pass_line-passed.new.self c.text_from.ensures
     c.pass_line-passed.ensures.within c.lines.invariant.1 c.pass_line-passed.ensures.passes)
+
+pub returns-then-stands-clause-within : goal.returns-then-stands-clause-within
+returns-then-stands-clause-within g c =
+    rest_within c.args.text.now c.text_from.result.now c.lines.at c.pass_line-passed.result c.text_from.ensures c.pass_line-passed.ensures.within c.lines.invariant.0
+
+pub returns-then-stands-clause-passes : goal.returns-then-stands-clause-passes
+returns-then-stands-clause-passes g c =
+    passes_on c.args.reader.now c.lines.reader _ c.args.text.now c.text_from.result.now c.lines.at c.pass_line-passed.result c.args.out.now c.lines.out _ c.text_from.ensures c.pass_line-passed.ensures.within c.lines.invariant.1
+    c.pass_line-passed.ensures.passes
