@@ -13,7 +13,7 @@ use clap::{Arg, ArgAction, Command};
 use std::alloc::{AllocError, Global};
 
 /// The version, and the kit that it is proved and built with.
-const VERSION: &str = "1.0.0, proved with rattle-kit-13b logic dac8208d650f15bf";
+const VERSION: &str = "1.0.0, proved with rattle-kit-13f logic dac8208d650f15bf";
 
 /// What the subcommands do.
 const CHECK: &str = "Read documents to their ends, and count the quads and bytes of each";

@@ -62,7 +62,7 @@ The status of several documents is the greatest of theirs.
 
 /// What `rdfconv --version` writes.
 pub(crate) const VERSION: &str =
-    "rdfconv 1.0.0, proved with rattle-kit-13b logic dac8208d650f15bf\n";
+    "rdfconv 1.0.0, proved with rattle-kit-13f logic dac8208d650f15bf\n";
 
 /// The help of a subcommand, in its three parts.
 pub(crate) struct Help {
