@@ -1,13 +1,16 @@
 -- A run over the pieces of a source: it begins with nothing read, and each outcome is that of the pieces.
-use Rattle.std.proofs.Common.{rules, ◌≡◌, ◌∙◌, true, refl, ap}
+use Rattle.std.proofs.Common.{rules, ℕ, ◌≡◌, ◌∙◌, true, refl, ap, subst, IfSome}
+use Rattle.rdf_terms.specs.declared.kind.Dialect.{Dialect}
 use Rattle.rdf_stream.specs.Converting.{Starts}
 use Rattle.rdf_stream.specs.Faults.{IsRefusal}
 use Rattle.rdf_stream.specs.Outputs.{output_of}
+use Rattle.rdf_stream.specs.Places.{TellsNear}
 use Rattle.rdf_stream.specs.Told.{told}
 use Rattle.rdf_stream.proofs.ConvertsLemmas.{Halted, Taken, begins, begun_fresh, by_drains, converted, none_prompt, none_stops, over_empty, prompt, refused_document, sent_on, stopped}
 use Rattle.rdf_stream.proofs.ExpectedLemmas.{none_expected, run_expects}
 use Rattle.rdf_stream.proofs.GrowthLemmas.{grows_none}
 use Rattle.rdf_stream.proofs.PiecesLemmas.{if_err, if_ok, on_ok, reported_stops}
+use Rattle.rdf_stream.proofs.WatchLemmas.{hands_out}
 use Rattle.rdf_stream.proofs.conversions.convert_with.Goals as goal
 
 pub returns-in_err-piece-clause-stops : goal.returns-in_err-piece-clause-stops
@@ -88,3 +91,16 @@ returns-clause-expected g c =
     h.2 x
     (begun_fresh _ g.D.Drain.contents g.D.Drain.has_failed g.D.Drain.is_flushed w g.G.Passes.style x (output_of c.args.output) (c.args.reader, c.new-lines.result) _ fresh b))
     _ _ _ _ c.read_pieces-result.ensures.stops c.details_beside.ensures
+
+pub returns-clause-near : goal.returns-clause-near
+returns-clause-near g c =
+    let words = c.new-watching.ensures.words in
+    let dialect = ap (λ w. w.dialect) words ∙ (c.new.ensures.dialect ∙ c.dialect.ensures.dialect) in
+    let limit = ap (λ w. w.limit) words ∙ (c.new.ensures.limit ∙ c.requires.limit) in
+    hands_out c.args.near.now c.ask_again-asked.new.self c.hand_out.new.near c.read_pieces-result.new.watching.near _
+    c.ask_again-asked.ensures.untold c.hand_out.ensures
+    (subst (λ d. tells d c.args.reader.scanner.limit) dialect (subst (tells c.new-watching.result.words.dialect) limit c.read_pieces-result.ensures.near))
+  where
+    tells : Dialect → ℕ → Type 0
+    tells d l = IfSome c.read_pieces-result.new.watching.near
+        (TellsNear d l c.read_pieces-result.result (g.S.Source.remaining c.args.source.now) (told g.S.Source c.read_pieces-result.new.source))
