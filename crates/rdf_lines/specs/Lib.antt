@@ -16,4 +16,3 @@ pub mod Spelled
 pub mod Accepting
 pub mod Canonical
 pub mod Fronts
-pub mod Escaped
