@@ -435,13 +435,9 @@ module _ {G X D A : Type 0} (contents : D → Option (List ℕ)) (failed : D →
       let put = taken contents failed f.more lines mid f.puts (styled_all (reading_of (now' part reader' f.limit f.more read') (bytes ++ part) false).tokens f.more (due' part reader' f.limit f.more read')) in
       more_put part reader' f.limit f.more read' mid put.same (subst (λ (y : OutputView). Writable y.lines.style f.more) o.same.form put.writable) put.writes (put.live o.live)
 
-  -- Some text was passed: it is the plain lines of quads in the style, but for CRs.
-  module _ (style : Style) (same_style : first.form.lines.style ≡ style) (ending : LineEnding) (text : List ℕ) (kept : KeepsText lines.form (written_as ending text)) (reader' : Driven G)
-      (p : PassesText w style ending reader text reader') where
-    -- what is written of it
-    abbrev put : List ℕ
-    put = written_as ending text
-
+  -- Some text was passed, for which the plain lines of quads in the style are written.
+  module _ (style : Style) (same_style : first.form.lines.style ≡ style) (put : List ℕ) (text : List ℕ) (kept : KeepsText lines.form put) (reader' : Driven G)
+      (p : PassesText w style put reader text reader') where
     passed' : HasRead w reader' x (bytes ++ text) (o.quads ++ p.given)
     passed' = p.read x bytes o.quads o.read
 
@@ -674,19 +670,19 @@ module _ {G X D A : Type 0} (contents : D → Option (List ℕ)) (failed : D →
     run_halts n k new mid after why reported h s t =
         halted reported (bytes ++ part) false after (λ x y o. piece_halts contents failed w x old bytes first lines y o part n k new mid why after reported h s t)
 
-    module _ (ending : LineEnding) (kept : KeepsText lines.form (written_as ending part)) (new : Driven G) (p : PassesText w style ending old part new) where
+    module _ (put : List ℕ) (kept : KeepsText lines.form put) (new : Driven G) (p : PassesText w style put old part new) where
       -- some text was passed, and put
-      pub run_passes : (after : LineOut D A) → SameOut lines after → Writes contents lines (written_as ending part) after → failed after.drain.now ≡ false → IsPutting contents failed w style reader first (bytes ++ part) new after
+      pub run_passes : (after : LineOut D A) → SameOut lines after → Writes contents lines put after → failed after.drain.now ≡ false → IsPutting contents failed w style reader first (bytes ++ part) new after
       run_passes after s m live = record {
         begun = i.begun;
         styled = i.styled;
         limit = p.limit ∙ i.limit;
-        put = λ x y. text_put contents failed w x old bytes first lines y.starts.convertible (i.put x y) style i.styled ending part kept new p after s m live;
+        put = λ x y. text_put contents failed w x old bytes first lines y.starts.convertible (i.put x y) style i.styled put part kept new p after s m live;
       }
 
       -- it was not put
-      pub pass_halts : (reported : StreamFault) (after : LineOut D A) → SameOut lines after → PutHalts contents failed reported lines (written_as ending part) after → RunHalts contents failed w reported reader first (bytes ++ part) false after
-      pass_halts reported after s h = halted reported (bytes ++ part) false after (λ x y o. text_halts contents failed w x old bytes first lines y o style i.styled ending part kept new p reported after s h)
+      pub pass_halts : (reported : StreamFault) (after : LineOut D A) → SameOut lines after → PutHalts contents failed reported lines put after → RunHalts contents failed w reported reader first (bytes ++ part) false after
+      pass_halts reported after s h = halted reported (bytes ++ part) false after (λ x y o. text_halts contents failed w x old bytes first lines y o style i.styled put part kept new p reported after s h)
 
   module _ (summary : Summary) (mid : LineOut D A) (f : Finishes w (Takes contents failed) old lines summary mid) where
     -- the document was read and written

@@ -82,6 +82,27 @@ bytes_of-append f qs rs =
 pub same_out : {D A : Type 0} (a b c : LineOut D A) → SameOut a b → SameOut b c → SameOut a c
 same_out a b c p q = record { form = q.form ∙ p.form; buffer = q.buffer ∙ p.buffer; drain = q.drain ∙ p.drain }
 
+-- bytes that were appended to what waits, and what was then handed over
+pub rewritten_writes : {D A : Type 0} (contents : D → Option (List ℕ)) (old mid new : LineOut D A) (w : List ℕ) → mid.drain.now ≡ old.drain.now → mid.buffer.now ≡ old.buffer.now ++ w →
+    Writes contents mid [] new → Writes contents old w new
+rewritten_writes contents old mid new w d e h =
+    subst (λ x. Moves (contents x) (contents new.drain.now) (old.buffer.now ++ w) new.buffer.now) d
+    (subst (λ b. Moves (contents mid.drain.now) (contents new.drain.now) b new.buffer.now) (append-nil mid.buffer.now ∙ e) h)
+
+-- and what was then not handed over
+pub rewritten_halts : {D A : Type 0} (contents : D → Option (List ℕ)) (failed : D → Bool) (old mid new : LineOut D A) (w : List ℕ) (reported : StreamFault) → mid.drain.now ≡ old.drain.now →
+    mid.buffer.now ≡ old.buffer.now ++ w → (reported ≡ stream.Write) × PutHalts contents failed reported mid [] new → PutHalts contents failed reported old w new
+rewritten_halts contents failed old mid new w reported d e h =
+    subst (λ f. PutHalts contents failed f old w new) (sym h.0) (write (subst (λ f. PutHalts contents failed f mid [] new) h.0 h.1))
+  where
+    write : PutHalts contents failed stream.Write mid [] new → PutHalts contents failed stream.Write old w new
+    write k = (
+      k.0,
+      k.1,
+      subst (λ x. Moves (contents x) (contents new.drain.now) (old.buffer.now ++ w) k.1) d
+          (subst (λ b. Moves (contents mid.drain.now) (contents new.drain.now) b k.1) (append-nil mid.buffer.now ∙ e) k.2),
+    )
+
 module _ {D A : Type 0} (contents : D → Option (List ℕ)) (failed : D → Bool) where
   abbrev Puts : LineOut D A → List Quad → LineOut D A → Type 0
   Puts a qs b = sink.Appends (Takes contents failed) a qs b

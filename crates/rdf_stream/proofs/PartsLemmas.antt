@@ -112,6 +112,10 @@ module _ {R : Type 0} (taken : R → List ℕ → R → Type 0) where
   pub takes_to : (a b c : R) (rest part : List ℕ) (at n : ℕ) → TakesMore taken a (take at rest) b → TakesMore taken b part c → part ≡ take n (drop at rest) → TakesMore taken a (take (at + n) rest) c
   takes_to a b c rest part at n p q e = subst (λ l. TakesMore taken a l c) (ap (λ l. take at rest ++ l) e ∙ sym (take-add at n rest)) (takes_both a b c (take at rest) part p q)
 
+  -- nothing was taken, and then a part
+  pub takes_after : (a b c : R) (text part : List ℕ) (n : ℕ) → n ≡ 0 → TakesMore taken a (take n text) b → TakesMore taken b part c → TakesMore taken a part c
+  takes_after a b c text part n z p q = takes_both a b c [] part (subst (λ k. TakesMore taken a (take k text) b) z p) q
+
   module _ (halts : StreamFault → R → List ℕ → Bool → R → Type 0) (f : StreamFault) where
     -- a part more was taken, and then the bytes are not read on
     pub halts_later : (a b c : R) (part more : List ℕ) → TakesMore taken a part b → HaltsOn taken halts f b (λ bytes. bytes ++ more) false c → HaltsOn taken halts f a (λ bytes. bytes ++ (part ++ more)) false c
@@ -126,3 +130,7 @@ module _ {R : Type 0} (taken : R → List ℕ → R → Type 0) where
         HaltsOn taken halts f a (λ bytes. bytes ++ rest) false c
     halts_from a b c rest part at n p e h =
         subst (λ l. HaltsOn taken halts f a (λ bytes. bytes ++ l) false c) (take-append-drop at rest) (halts_later a b c (take at rest) (drop at rest) p (halts_in b c part (drop at rest) n e h))
+
+    -- nothing was taken, and then the bytes are not read on
+    pub halts_after : (a b c : R) (text : List ℕ) (n : ℕ) → n ≡ 0 → TakesMore taken a (take n text) b → HaltsWithin taken halts f b text c → HaltsWithin taken halts f a text c
+    halts_after a b c text n z p h more = halts_later a b c [] (text ++ more) (subst (λ k. TakesMore taken a (take k text) b) z p) (h more)

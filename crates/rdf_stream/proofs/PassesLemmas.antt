@@ -17,7 +17,8 @@ use Rattle.rdf_lines.specs.Writing.{Writable}
 use Rattle.rdf_lines.proofs.NodePrefixLemmas.{text_unprefixed}
 use Rattle.rdf_lines.proofs.WithoutCrs.{lines_written}
 use Rattle.std.specs.List.{AllByRecursion}
-use Rattle.rdf_stream.specs.Passes.{PassesText}
+use Rattle.rdf_lines.specs.Escaped.{PassesInto}
+use Rattle.rdf_stream.specs.Passes.{PassesText, RewritesText}
 
 -- no text was passed
 none_written : (ending : LineEnding) → written_as ending [] ≡ []
@@ -25,7 +26,7 @@ none_written Lf = refl
 none_written CrLf = refl
 
 -- a run that passes nothing leaves the reader as it is, for grammars whose lines are never passed
-pub passes_none : {G X : Type 0} (w : Words G X Quad) (style : Style) (ending : LineEnding) (r : Driven G) → PassesText w style ending r [] r
+pub passes_none : {G X : Type 0} (w : Words G X Quad) (style : Style) (ending : LineEnding) (r : Driven G) → PassesText w style (written_as ending []) r [] r
 passes_none w style ending r = record {
   given = [];
   is = none_written ending;
@@ -40,11 +41,29 @@ taken_writable form token iri [] h = tt
 taken_writable form token iri (q ∷ qs) h = ((h.0.quad, h.0.labels), taken_writable form token iri qs h.1)
 
 -- lines are text
-pub lines_passed : (ending : LineEnding) (old : Driven LineAt) (bytes : List ℕ) (new : Driven LineAt) → PassesLines ending old bytes new → PassesText line_words Kept ending old bytes new
+pub lines_passed : (ending : LineEnding) (old : Driven LineAt) (bytes : List ℕ) (new : Driven LineAt) → PassesLines ending old bytes new → PassesText line_words Kept (written_as ending bytes) old bytes new
 lines_passed ending old bytes new h = record {
   given = h.given;
   is = lines_written ending old.grammar.rules.form old.scanner.limit old.grammar.rules.iri bytes h.given h.canonical ∙ ap encode_utf8_all (sym (text_unprefixed Kept Plain h.given));
   writable = taken_writable old.grammar.rules.form old.scanner.limit old.grammar.rules.iri h.given h.canonical.each;
   limit = h.limit;
   read = h.read;
+}
+
+-- so does one that rewrites nothing
+pub rewrites_none : {G X : Type 0} (w : Words G X Quad) (style : Style) (r : Driven G) (lines : List ℕ) → RewritesText w style r [] r lines lines
+rewrites_none w style r lines = record { written = []; appended = sym (append-nil lines); passes = passes_none w style Lf r }
+
+-- lines with any escapes are text
+pub lines_rewritten : (old : Driven LineAt) (bytes : List ℕ) (new : Driven LineAt) (before after : List ℕ) → PassesInto old bytes new before after → RewritesText line_words Kept old bytes new before after
+lines_rewritten old bytes new before after h = record {
+  written = h.lines;
+  appended = h.appended;
+  passes = record {
+    given = h.passes.given;
+    is = h.passes.are ∙ ap encode_utf8_all (sym (text_unprefixed Kept Plain h.passes.given));
+    writable = h.passes.writable;
+    limit = h.passes.limit;
+    read = h.passes.read;
+  };
 }

@@ -189,6 +189,16 @@ impl<A: Allocator + Copy, G: Passes<A>> Parts<NoQuads> for Reader<G, A> {
         Ok(G::pass(self, text, ending))
     }
 
+    // None, since nothing is put.
+    fn pass_escaped(
+        &mut self,
+        _: &str,
+        _: LineEnding,
+        _: &mut NoQuads,
+    ) -> Result<usize, StreamFault> {
+        Ok(0)
+    }
+
     fn read_part(&mut self, part: &[u8], sink: &mut NoQuads) -> Result<(), StreamFault> {
         match self.feed(part, sink) {
             Ok(()) => Ok(()),

@@ -261,6 +261,23 @@ impl<'a, A: Allocator + Copy, G: Passes<A>, D: Drain> Parts<LineOut<'a, D, A>> f
         }
     }
 
+    // Passes lines with any escapes, and puts what is written for them, where plain lines are written so.
+    fn pass_escaped(
+        &mut self,
+        text: &str,
+        ending: LineEnding,
+        lines: &mut LineOut<'a, D, A>,
+    ) -> Result<usize, StreamFault> {
+        if !lines.keeps_lines(false) {
+            return Ok(0);
+        }
+        let passed = lines.pass_escaped(self, text, ending);
+        match lines.settle() {
+            Ok(()) => Ok(passed),
+            Err(fault) => Err(fault),
+        }
+    }
+
     fn read_part(&mut self, part: &[u8], lines: &mut LineOut<'a, D, A>) -> Result<(), StreamFault> {
         match self.feed(part, lines) {
             Ok(()) => Ok(()),

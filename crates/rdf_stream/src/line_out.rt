@@ -1,6 +1,6 @@
 // The sink that hands lines on to a drain.
 
-ghost use Rattle.std.specs.Prelude.{◌≡◌, ◌↔◌, [], ◌<◌, length, true, false, Bool, List, ℕ, Option, is_err, OnOk, OnErr, IfErr};
+ghost use Rattle.std.specs.Prelude.{◌≡◌, ◌↔◌, [], ◌<◌, ◌≤◌, length, take, true, false, Bool, List, ℕ, Option, is_err, OnOk, OnErr, IfErr};
 ghost use Rattle.std.specs.Io.KnownBytes.{Appends};
 ghost use Rattle.rdf_terms.specs.Views.{quad_of};
 ghost use Rattle.rdf_lines.specs.Canonical.{without_crs, written_as};
@@ -10,16 +10,19 @@ ghost use Rattle.rdf_stream.specs.Faults.{IsSentOn};
 ghost use Rattle.rdf_tokens.specs.Scans.{token_of};
 ghost use Rattle.rdf_stream.specs.LineOut.{Leaves, LeavesBytes, PutHalts, SameOut, Takes, TakesBytes, Writes, line_bytes, most_waiting};
 ghost use Rattle.rdf_stream.specs.Outputs.{line_of};
+ghost use Rattle.rdf_stream.specs.Passes.{RewritesText};
 ghost use Rattle.rdf_stream.specs.Showing.{LeavesToken, TakesToken};
 ghost use Rattle.rdf_stream.specs.WrittenForms.{keeps_lines};
 
 use crate::devices::{Drain, Failed};
 use crate::fault::StreamFault;
 use crate::output::{OutputView, in_graph};
+use crate::passes::Passes;
 use crate::put::put_all;
 use crate::token_line::put_token_line;
 use crate::views::see_quad;
 use crate::without_crs::put_without_crs;
+use rdf_driver::Reader;
 use rdf_lines::{Escapes, LabelFault, LineBuffer, LineEnding};
 use rdf_terms::{PutFault, QuadRef, QuadSink};
 use rdf_tokens::{Fault, Token};
@@ -120,6 +123,38 @@ impl<'a, D: Drain, A: Allocator + Copy> LineOut<'a, D, A> {
         match ending {
             LineEnding::Lf => self.append_as_is(lines),
             LineEnding::CrLf => self.append_without_crs(lines),
+        }
+    }
+
+    /// Passes lines with any escapes. What is written for them waits.
+    pub(crate) fn pass_escaped<G: Passes<A>>(
+        &mut self,
+        reader: &mut Reader<G, A>,
+        text: &str,
+        ending: LineEnding,
+    ) -> usize
+        ensures within { result ≤ length text.now }
+        ensures same { SameOut self.old self.new }
+        ensures drain { self.new.drain.now ≡ self.old.drain.now }
+        ensures passes { RewritesText G.words G.style reader.old (take result text.now) reader.new self.old.buffer.now self.new.buffer.now }
+    {
+        G::pass_escaped(reader, text, ending, self.buffer)
+    }
+
+    /// Hands over what waits, where that is much.
+    pub(crate) fn settle(&mut self) -> Result<(), StreamFault>
+        requires live { D.has_failed self.old.drain.now ≡ false }
+        ensures same { SameOut self.old self.new }
+        ensures writes { OnOk result (Writes D.contents self.old [] self.new) }
+        ensures live { OnOk result (D.has_failed self.new.drain.now ≡ false) }
+        ensures halts { IfErr result (λ reported. (reported ≡ StreamFault.Write) × PutHalts D.contents D.has_failed reported self.old [] self.new) }
+    {
+        if self.buffer.len() < WAITING_LEN {
+            return Ok(());
+        }
+        match self.hand_over() {
+            Ok(()) => Ok(()),
+            Err(Failed) => Err(StreamFault::Write),
         }
     }
 

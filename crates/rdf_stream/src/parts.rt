@@ -52,6 +52,19 @@ pub(crate) trait Parts<L> {
         ensures stays { StaysOn stays (self.old, out.old) (self.new, out.new) }
         ensures halts { IfErr result (λ f. HaltsWithin taken halts f (self.old, out.old) text.now (self.new, out.new)) };
 
+    /// The same of text for which other text is put.
+    fn pass_escaped(
+        &mut self,
+        text: &str,
+        ending: LineEnding,
+        out: &mut L,
+    ) -> Result<usize, StreamFault>
+        requires begun { HasBegun taken (self.old, out.old) }
+        ensures within { IfOk result (λ n. n ≤ length text.now) }
+        ensures takes { IfOk result (λ n. TakesMore taken (self.old, out.old) (take n text.now) (self.new, out.new)) }
+        ensures stays { StaysOn stays (self.old, out.old) (self.new, out.new) }
+        ensures halts { IfErr result (λ f. HaltsWithin taken halts f (self.old, out.old) text.now (self.new, out.new)) };
+
     /// Reads a part.
     fn read_part(&mut self, part: &[u8], out: &mut L) -> Result<(), StreamFault>
         requires begun { HasBegun taken (self.old, out.old) }
@@ -102,7 +115,7 @@ fn take_rest<L, R: Parts<L>>(
     let mut least = 0;
     while at < rest.len() {
         let front = front_from(left, text, at, is_ascii);
-        let passed = match run.pass_front(front, ending, is_ascii, out) {
+        let passed = match pass_some(run, front, ending, is_ascii, out) {
             Ok(passed) => passed,
             Err(fault) => return Err(fault),
         };
@@ -118,6 +131,34 @@ fn take_rest<L, R: Parts<L>>(
         at = to;
     }
     Ok(())
+}
+
+// Passes a front of the text: lines that stand as they are written, or where none do, lines with any escapes.
+fn pass_some<L, R: Parts<L>>(
+    run: &mut R,
+    text: &str,
+    ending: LineEnding,
+    is_ascii: bool,
+    out: &mut L,
+) -> Result<usize, StreamFault>
+    requires begun { HasBegun R.taken (run.old, out.old) }
+    requires ascii { is_ascii ≡ true → IsAsciiText text.now }
+    ensures within { IfOk result (λ n. n ≤ length text.now) }
+    ensures takes { IfOk result (λ n. TakesMore R.taken (run.old, out.old) (take n text.now) (run.new, out.new)) }
+    ensures stays { StaysOn R.stays (run.old, out.old) (run.new, out.new) }
+    ensures halts { IfErr result (λ f. HaltsWithin R.taken R.halts f (run.old, out.old) text.now (run.new, out.new)) }
+{
+    let passed = match run.pass_front(text, ending, is_ascii, out) {
+        Ok(passed) => passed,
+        Err(fault) => return Err(fault),
+    };
+    if passed > 0 {
+        return Ok(passed);
+    }
+    match run.pass_escaped(text, ending, out) {
+        Ok(more) => Ok(more),
+        Err(fault) => Err(fault),
+    }
 }
 
 // How the last line of a part ends.

@@ -3,11 +3,12 @@
 ghost use Rattle.std.specs.Prelude.{◌≤◌, ◌<◌, length, take};
 ghost use Rattle.rdf_lines.specs.declared.form.Style.{Style};
 ghost use Rattle.rdf_lines.specs.declared.form.Style.TheVariants.{Kept, Tagged};
-ghost use Rattle.rdf_stream.specs.Passes.{PassesText};
+ghost use Rattle.rdf_lines.specs.Canonical.{written_as};
+ghost use Rattle.rdf_stream.specs.Passes.{PassesText, RewritesText};
 
 use memchr::memchr;
 use rdf_driver::{Foresees, Holds, QuadGrammar, Reader};
-use rdf_lines::{LineEnding, LineGrammar, pass_lines};
+use rdf_lines::{LineBuffer, LineEnding, LineGrammar, pass_escaped, pass_lines};
 use rdf_trig::TreeGrammar;
 use std::alloc::Allocator;
 
@@ -24,7 +25,17 @@ pub(crate) trait Passes<A: Allocator + Copy>: QuadGrammar + Foresees + Holds + D
     /// Passes a front of the text, whose lines end so and which may be empty, and answers how many bytes it has.
     fn pass(reader: &mut Reader<Self, A>, text: &str, ending: LineEnding) -> usize
         ensures within { result ≤ length text.now }
-        ensures passes { PassesText Self.words style ending reader.old (take result text.now) reader.new };
+        ensures passes { PassesText Self.words style (written_as ending (take result text.now)) reader.old (take result text.now) reader.new };
+
+    /// The same of text with any escapes, for which what is written is appended.
+    fn pass_escaped(
+        reader: &mut Reader<Self, A>,
+        text: &str,
+        ending: LineEnding,
+        out: &mut LineBuffer<A>,
+    ) -> usize
+        ensures within { result ≤ length text.now }
+        ensures passes { RewritesText Self.words style reader.old (take result text.now) reader.new out.old out.new };
 }
 
 impl<A: Allocator + Copy> Passes<A> for LineGrammar<A> {
@@ -44,6 +55,15 @@ impl<A: Allocator + Copy> Passes<A> for LineGrammar<A> {
     fn pass(reader: &mut Reader<LineGrammar<A>, A>, text: &str, ending: LineEnding) -> usize {
         pass_lines(reader, text, ending)
     }
+
+    fn pass_escaped(
+        reader: &mut Reader<LineGrammar<A>, A>,
+        text: &str,
+        ending: LineEnding,
+        out: &mut LineBuffer<A>,
+    ) -> usize {
+        pass_escaped(reader, text, ending, out)
+    }
 }
 
 impl<A: Allocator + Copy> Passes<A> for TreeGrammar<A> {
@@ -55,6 +75,15 @@ impl<A: Allocator + Copy> Passes<A> for TreeGrammar<A> {
     }
 
     fn pass(_: &mut Reader<TreeGrammar<A>, A>, _: &str, _: LineEnding) -> usize {
+        0
+    }
+
+    fn pass_escaped(
+        _: &mut Reader<TreeGrammar<A>, A>,
+        _: &str,
+        _: LineEnding,
+        _: &mut LineBuffer<A>,
+    ) -> usize {
         0
     }
 }

@@ -160,6 +160,25 @@ fn the_lines_of_a_piece_are_few_calls(rt: HostRuntime) {
     assert!(rt; is_written_in_calls(rt.alloc(), Form::TriG, 2));
 }
 
+static ESCAPED: &str = "<a:b> <a:c> \"x\" .\n\
+    <a:\\u00E9> <a:\\U0001F600> \"\\t\\b\\f\\'\\\"\\\\\\n\\r\\u0416\\u000A\"@ru <a:g\\u0067> .\n\
+    _:x <a:p> <a:\\u0070> .\n\
+    _:x <a:p> \"\\u0041\"^^<a:\\u0074> .\n\
+    _:x <a:p> \"\\t\"^^<a:t> .\n";
+
+static WRITTEN: &str = "<a:b> <a:c> \"x\" .\n\
+    <a:é> <a:😀> \"\t\u{8}\u{C}'\\\"\\\\\\n\\rЖ\\n\"@ru <a:gg> .\n\
+    _:x <a:p> <a:p> .\n\
+    _:x <a:p> \"A\"^^<a:t> .\n\
+    _:x <a:p> \"\t\"^^<a:t> .\n";
+
+/// Lines with escapes are written by what they mean, whether they are read or passed, as all but the first can be.
+#[test]
+fn lines_with_escapes_are_written_anew(rt: HostRuntime) {
+    let asked = Asked::of(Task::Convert, Form::NQuads, ESCAPED.as_bytes());
+    assert!(rt; has_text(rt.alloc(), &asked, WRITTEN.as_bytes()));
+}
+
 /// What kind of term it is, its text, and that of its tag or type. Of a node without a label there is no text.
 fn texts(term: TermRef<'_>) -> (&str, &str, &str) {
     match term {

@@ -20,7 +20,7 @@ append-requires g c =
 pub returns-in-Ok-clause-takes : goal.returns-in-Ok-clause-takes
 returns-in-Ok-clause-takes g c = λ first bytes i.
     let is : c.as_bytes.result.now ≡ c.args.text.now = search rules in
-    run_passes g.D.Drain.contents g.D.Drain.has_failed g.G.Grammar.words g.G.Passes.style first.0 first.1 bytes c.args.self.now c.args.lines.now i (take c.pass-passed.result c.args.text.now) c.args.ending (kept_where c.args.lines.now.form c.args.is_ascii _ (search rules) (λ e. low_written c.args.ending _ (ascii_take c.pass-passed.result c.args.text.now (c.requires.ascii e)))) _ c.pass-passed.ensures.passes _
+    run_passes g.D.Drain.contents g.D.Drain.has_failed g.G.Grammar.words g.G.Passes.style first.0 first.1 bytes c.args.self.now c.args.lines.now i (take c.pass-passed.result c.args.text.now) _ (kept_where c.args.lines.now.form c.args.is_ascii _ (search rules) (λ e. low_written c.args.ending _ (ascii_take c.pass-passed.result c.args.text.now (c.requires.ascii e)))) _ c.pass-passed.ensures.passes _
     c.in-Ok.ensures.same (subst (λ t. Writes g.D.Drain.contents c.args.lines.now (written_as c.args.ending (take c.pass-passed.result t)) c.append.new.self) is c.in-Ok.ensures.writes) c.in-Ok.ensures.live
 
 pub returns-in-Err-clause-halts : goal.returns-in-Err-clause-halts
@@ -30,7 +30,7 @@ returns-in-Err-clause-halts g c = λ more first bytes i.
     let reported = subst (λ t. PutHalts g.D.Drain.contents g.D.Drain.has_failed c.in-Err.fault c.args.lines.now (written_as c.args.ending (take c.pass-passed.result t)) c.append.new.self) is c.in-Err.ensures.halts in
     let part = take c.pass-passed.result text in
     let rest = drop c.pass-passed.result text in
-    let halts = pass_halts g.D.Drain.contents g.D.Drain.has_failed g.G.Grammar.words g.G.Passes.style first.0 first.1 bytes c.args.self.now c.args.lines.now i part c.args.ending (kept_where c.args.lines.now.form c.args.is_ascii _ (search rules) (λ e. low_written c.args.ending _ (ascii_take c.pass-passed.result c.args.text.now (c.requires.ascii e)))) _ c.pass-passed.ensures.passes _ _ c.in-Err.ensures.same reported in
+    let halts = pass_halts g.D.Drain.contents g.D.Drain.has_failed g.G.Grammar.words g.G.Passes.style first.0 first.1 bytes c.args.self.now c.args.lines.now i part _ (kept_where c.args.lines.now.form c.args.is_ascii _ (search rules) (λ e. low_written c.args.ending _ (ascii_take c.pass-passed.result c.args.text.now (c.requires.ascii e)))) _ c.pass-passed.ensures.passes _ _ c.in-Err.ensures.same reported in
     let whole : (bytes ++ part) ++ (rest ++ more) ≡ bytes ++ (text ++ more) = append_assoc bytes part (rest ++ more)
     ∙ (ap (λ l. bytes ++ l) (sym (append_assoc part rest more)) ∙ ap (λ l. bytes ++ (l ++ more)) (take-append-drop c.pass-passed.result text)) in (
       subst (λ b. RunHalts g.D.Drain.contents g.D.Drain.has_failed g.G.Grammar.words c.in-Err.fault first.0 first.1 b false c.append.new.self) whole

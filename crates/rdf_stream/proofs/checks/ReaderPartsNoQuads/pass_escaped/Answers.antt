@@ -1,0 +1,7 @@
+use Rattle.std.proofs.Common.{◌++◌, [], subst, sym}
+use Rattle.std.proofs.lemmas.List.{append-nil}
+use Rattle.rdf_stream.specs.Checks.{IsChecking}
+use Rattle.rdf_stream.proofs.checks.ReaderPartsNoQuads.pass_escaped.Goals as goal
+
+pub returns-clause-takes : goal.returns-clause-takes
+returns-clause-takes g c = λ first bytes t. subst (λ b. IsChecking g.G.Grammar.words first.0 b c.args.self.now) (sym (append-nil bytes)) t
