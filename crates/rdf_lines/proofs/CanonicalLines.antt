@@ -29,7 +29,7 @@ use Rattle.rdf_lines.proofs.SpelledLine.{AllShort, Spells, Written, alone, upto_
 use Rattle.rdf_lines.proofs.WrittenText.{scalars_append, statement_scalars}
 
 -- those of a line's end
-abbrev end_tokens : LineEnding → Place → List Token
+abbrev pub end_tokens : LineEnding → Place → List Token
 end_tokens Lf p = alone LineEnd (10 ∷ []) p
 end_tokens CrLf p = alone LineEnd (13 ∷ []) p ++ alone LineEnd (10 ∷ []) (past p (13 ∷ []))
 
@@ -94,7 +94,7 @@ graph_counted p None = refl
 graph_counted p (Some g) = subject_counted p g
 
 -- the end of a line: one token, or two with a CR
-end_counted : (ending : LineEnding) (p : Place) → length (end_tokens ending p) ≡ end_count ending
+pub end_counted : (ending : LineEnding) (p : Place) → length (end_tokens ending p) ≡ end_count ending
 end_counted Lf p = refl
 end_counted CrLf p = refl
 
@@ -146,7 +146,7 @@ written_quads form limit iri (q ∷ qs) h = ((h.0.quad, h.0.labels), written_qua
 
 module _ (ending : LineEnding) (form : LineForm) (limit iri : ℕ) where
   -- they are spelled
-  spells_end : (e : LineEnding) → Spells limit (end_text e) (end_tokens e)
+  pub spells_end : (e : LineEnding) → Spells limit (end_text e) (end_tokens e)
   spells_end Lf = spells_line_end Plain limit
   spells_end CrLf = spells_then limit (13 ∷ []) (10 ∷ []) (alone LineEnd (13 ∷ [])) (alone LineEnd (10 ∷ [])) (spells_cr Plain limit) (spells_line_end Plain limit)
 
@@ -159,7 +159,7 @@ module _ (ending : LineEnding) (form : LineForm) (limit iri : ℕ) where
       (spells_lines qs h.1)
 
   -- the end of a line keeps every limit of at least two
-  end_short : 2 ≤ limit → (e : LineEnding) (p : Place) → AllShort limit (end_tokens e p)
+  pub end_short : 2 ≤ limit → (e : LineEnding) (p : Place) → AllShort limit (end_tokens e p)
   end_short l Lf p = (omega arith, tt)
   end_short l CrLf p = (omega arith, (omega arith, tt))
 
@@ -177,7 +177,7 @@ module _ (ending : LineEnding) (form : LineForm) (limit iri : ℕ) where
   fits NQuads p g h = tt
 
   -- after the end of a line the machine is where a statement begins
-  end_ran : (e : LineEnding) (p : Place) → run (is_taken iri) form AfterDot (end_tokens e p) ≡ ran Begin []
+  pub end_ran : (e : LineEnding) (p : Place) → run (is_taken iri) form AfterDot (end_tokens e p) ≡ ran Begin []
   end_ran Lf p = refl
   end_ran CrLf p = refl
 

@@ -55,17 +55,17 @@ pub iri_taken : (bs : List ℕ) (end : ℕ) → IsRun iri_byte bs 0 end → IsUt
 iri_taken bs end r u = sym (iri_bytes (take end bs) u) ∙ run_taken iri_byte bs end r
 
 -- one text after another
-stands_then : (u w a b c : List ℕ) → Stands u a b → Stands w b c → Stands (u ++ w) a c
+pub stands_then : (u w a b c : List ℕ) → Stands u a b → Stands w b c → Stands (u ++ w) a c
 stands_then u w a b c f g =
     f ∙ (ap (λ x. encode_utf8_all u ++ x) g
     ∙ (sym (append_assoc (encode_utf8_all u) (encode_utf8_all w) c) ∙ ap (λ x. x ++ c) (sym (encodes-append u w))))
 
 -- a character of ASCII is its byte
-stands_byte : (c : ℕ) (a b : List ℕ) → c < 128 → a ≡ c ∷ b → Stands (c ∷ []) a b
+pub stands_byte : (c : ℕ) (a b : List ℕ) → c < 128 → a ≡ c ∷ b → Stands (c ∷ []) a b
 stands_byte c a b l e = e ∙ ap (λ x. x ++ b) (sym (low c [] l))
 
 -- a text by its bytes
-stands_text : (part a b : List ℕ) → IsUtf8 part → a ≡ part ++ b → Stands (chars part) a b
+pub stands_text : (part a b : List ℕ) → IsUtf8 part → a ≡ part ++ b → Stands (chars part) a b
 stands_text part a b u e = e ∙ ap (λ x. x ++ b) (sym (encodes-chars part u))
 
 -- a run of such bytes with a scheme, up to the closing bracket, is an IRI of the line
@@ -89,7 +89,7 @@ scalar_same : (c : ℕ) → Utf8.scalar c ≡ true → scalar c ≡ true
 scalar_same c e = grind (arith, nat_tests)
 
 -- so the characters of UTF-8 may all stand in a string
-all_scalar : (w : List ℕ) → scalars w ≡ true → all_have scalar w ≡ true
+pub all_scalar : (w : List ℕ) → scalars w ≡ true → all_have scalar w ≡ true
 all_scalar [] e = refl
 all_scalar (c ∷ w) e = let p = and_parts (Utf8.scalar c) (scalars w) e in and_from (scalar c) (all_have scalar w) (scalar_same c p.0) (all_scalar w p.1)
 
@@ -180,7 +180,7 @@ module _ (limit : ℕ) where
       }
 
   -- the datatype that is not written is an IRI all the same
-  xsd_iri : IsIri xsd_string
+  pub xsd_iri : IsIri xsd_string
   unfolding has
   xsd_iri = record { characters = refl; scheme = refl }
 
@@ -275,7 +275,7 @@ module _ (n : ℕ) (roomy : 64 ≤ n) where
       }
 
 -- the end of a line
-end_stands : (ending : LineEnding) (a b : List ℕ) → a ≡ end_text ending ++ b → Stands (end_text ending) a b
+pub end_stands : (ending : LineEnding) (a b : List ℕ) → a ≡ end_text ending ++ b → Stands (end_text ending) a b
 end_stands Lf a b e = stands_byte 10 a b (omega arith) e
 end_stands CrLf a b e = stands_then (13 ∷ []) (10 ∷ []) a (10 ∷ b) b (stands_byte 13 a (10 ∷ b) (omega arith) e) (stands_byte 10 (10 ∷ b) b (omega arith) refl)
 

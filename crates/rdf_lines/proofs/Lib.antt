@@ -19,6 +19,10 @@ mod Lag
 mod Due
 pub mod EncodedLine
 pub mod EscapedRuns
+pub mod EscapedTokens
+pub mod EscapedParts
+pub mod EscapedLine
+pub mod EscapedPassing
 pub mod PlainRuns
 pub mod WrittenBytesLemmas
 pub mod PlacedLines

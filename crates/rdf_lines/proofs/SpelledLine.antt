@@ -38,7 +38,7 @@ abbrev pub AllShort : ℕ → List Token → Type 0
 AllShort limit ts = AllByRecursion (λ t. length t.text ≤ limit) ts
 
 -- how many characters the tokens have
-abbrev total : List Token → ℕ
+abbrev pub total : List Token → ℕ
 total [] = 0
 total (t ∷ ts) = length t.text + total ts
 
@@ -63,7 +63,7 @@ short_rest limit [] us h = h
 short_rest limit (t ∷ ts) us h = short_rest limit ts us h.1
 
 -- where all of them have no more, each has none
-total_short : (limit : ℕ) (ts : List Token) → total ts ≤ limit → AllShort limit ts
+pub total_short : (limit : ℕ) (ts : List Token) → total ts ≤ limit → AllShort limit ts
 total_short limit [] l = tt
 total_short limit (t ∷ ts) l = (omega arith, total_short limit ts (omega arith))
 
@@ -97,7 +97,7 @@ spells_then limit u w f g a b = record { size = size; reads = reads }
         ∙ ap (λ q. with_tokens (f p ++ g (past p u)) (tokens Lines limit tail false q v)) (sym (past-append u w p)))))
 
 -- a text is one token, if what follows cuts it
-spells_alone : (limit c : ℕ) (w : List ℕ) (k : Kind) → ((v : List ℕ) → blank Lines false (c ∷ v) ≡ 0) → kind_of Lines (c ∷ w) ≡ Some k → is_fit k (c ∷ w) ≡ true →
+pub spells_alone : (limit c : ℕ) (w : List ℕ) (k : Kind) → ((v : List ℕ) → blank Lines false (c ∷ v) ≡ 0) → kind_of Lines (c ∷ w) ≡ Some k → is_fit k (c ∷ w) ≡ true →
     ((v : List ℕ) → Cut (c ∷ w) v) → is_live Lines (c ∷ w) ≡ false → Spells limit (c ∷ w) (alone k (c ∷ w))
 spells_alone limit c w k z e f t dead = record {
   size = λ p. omega arith;
@@ -105,7 +105,7 @@ spells_alone limit c w k z e f t dead = record {
 }
 
 -- a space cuts it
-spells_before_space : (limit c : ℕ) (w : List ℕ) (k : Kind) → ((v : List ℕ) → blank Lines false (c ∷ v) ≡ 0) → kind_of Lines (c ∷ w) ≡ Some k → is_fit k (c ∷ w) ≡ true →
+pub spells_before_space : (limit c : ℕ) (w : List ℕ) (k : Kind) → ((v : List ℕ) → blank Lines false (c ∷ v) ≡ 0) → kind_of Lines (c ∷ w) ≡ Some k → is_fit k (c ∷ w) ≡ true →
     ((v : List ℕ) → Cut (c ∷ w) (32 ∷ v)) → Spells limit (c ∷ w ++ space) (alone k (c ∷ w))
 spells_before_space limit c w k z e f t = record {
   size = λ p. let s = length-append (c ∷ w) space in omega arith;
@@ -116,21 +116,21 @@ spells_before_space limit c w k z e f t = record {
 }
 
 -- a space is no token
-spells_space : (limit : ℕ) → Spells limit space (λ p. [])
+pub spells_space : (limit : ℕ) → Spells limit space (λ p. [])
 spells_space limit = record { size = λ p. omega arith; reads = λ tail p v h. skip_space tail limit p v }
 
 -- the parts of a line
-iri_space : uses (shape Lines IriRef) 32 ≡ false
+pub iri_space : uses (shape Lines IriRef) 32 ≡ false
 unfolding shape has
 iri_space = refl
 
 -- a label has no space in it
-label_space : uses (shape Lines LabelNode) 32 ≡ false
+pub label_space : uses (shape Lines LabelNode) 32 ≡ false
 unfolding shape has
 label_space = refl
 
 -- a tag has no space in it
-tag_space : uses (shape Lines LangTag) 32 ≡ false
+pub tag_space : uses (shape Lines LangTag) 32 ≡ false
 unfolding shape has
 tag_space = refl
 
@@ -150,12 +150,12 @@ module _ (form : Escapes) where
       (λ v. cut_by_other 60 IriRef begins_iri (flat_map (written form) i ++ 62 ∷ []) 32 v iri_space)
 
   -- a label has the shape of its token
-  label_shape : (x : List ℕ) → IsLabel x → Matches (shape Lines LabelNode) (95 ∷ 58 ∷ x)
+  pub label_shape : (x : List ℕ) → IsLabel x → Matches (shape Lines LabelNode) (95 ∷ 58 ∷ x)
   unfolding shape has
   label_shape x h = (95 ∷ 58 ∷ [], x, (95 ∷ [], 58 ∷ [], (95, refl, refl), (58 ∷ [], [], (58, refl, refl), refl, refl), refl), h, refl)
 
   -- and no escape that could be wrong
-  label_fit : (w : List ℕ) → is_fit LabelNode w ≡ true
+  pub label_fit : (w : List ℕ) → is_fit LabelNode w ≡ true
   unfolding is_fit
   label_fit w = refl
 
@@ -166,12 +166,12 @@ module _ (form : Escapes) where
       (λ v. cut_by_other 95 LabelNode begins_label (58 ∷ x) 32 v label_space)
 
   -- a language tag has the shape of its token
-  tag_shape : (t : List ℕ) → IsTag t → Matches (shape Lines LangTag) (64 ∷ t)
+  pub tag_shape : (t : List ℕ) → IsTag t → Matches (shape Lines LangTag) (64 ∷ t)
   unfolding shape has
   tag_shape t h = (64 ∷ [], t, (64, refl, refl), h, refl)
 
   -- and no escape that could be wrong
-  tag_fit : (w : List ℕ) → is_fit LangTag w ≡ true
+  pub tag_fit : (w : List ℕ) → is_fit LangTag w ≡ true
   unfolding is_fit
   tag_fit w = refl
 
@@ -195,12 +195,12 @@ module _ (form : Escapes) where
       (λ v. cut_by_shape 34 ShortString begins_string _ v (string_ends form w a)) (string_dead w a)
 
   -- two carets are a token, which nothing makes longer
-  spells_carets : (limit : ℕ) → Spells limit (94 ∷ 94 ∷ []) (alone Carets (94 ∷ 94 ∷ []))
+  pub spells_carets : (limit : ℕ) → Spells limit (94 ∷ 94 ∷ []) (alone Carets (94 ∷ 94 ∷ []))
   unfolding kind_of is_live shape has is_fit
   spells_carets limit = spells_alone limit 94 (94 ∷ []) Carets (λ v. refl) refl refl (λ v. cut_by_dead (94 ∷ 94 ∷ []) v refl) refl
 
   -- so is the dot
-  spells_dot : (limit : ℕ) → Spells limit (46 ∷ []) (alone Dot (46 ∷ []))
+  pub spells_dot : (limit : ℕ) → Spells limit (46 ∷ []) (alone Dot (46 ∷ []))
   unfolding kind_of is_live shape has is_fit
   spells_dot limit = spells_alone limit 46 [] Dot (λ v. refl) refl refl (λ v. cut_by_dead (46 ∷ []) v refl) refl
 
@@ -435,7 +435,7 @@ module _ (form : Escapes) where
   graph_meant p (Some g) h c = let m = name_meant p g h c in (ap (λ x. Some x) m.0, m.1)
 
   -- a quad is the same where its four parts are
-  same_quad : (q : Quad) (s : Subject) (v : List ℕ) (o : Term) (g : Option Subject) → s ≡ q.subject → v ≡ q.predicate → o ≡ q.object → g ≡ q.graph →
+  pub same_quad : (q : Quad) (s : Subject) (v : List ℕ) (o : Term) (g : Option Subject) → s ≡ q.subject → v ≡ q.predicate → o ≡ q.object → g ≡ q.graph →
       (let r : Quad = record { subject = s; predicate = v; object = o; graph = g } in r) ≡ q
   same_quad q s v o g a b c d =
       ap (λ (x : Subject). let r : Quad = record { subject = x; predicate = v; object = o; graph = g } in r) a

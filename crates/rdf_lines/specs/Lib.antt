@@ -16,3 +16,4 @@ pub mod Spelled
 pub mod Accepting
 pub mod Canonical
 pub mod Fronts
+pub mod Escaped

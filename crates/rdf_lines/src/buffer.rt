@@ -3,12 +3,17 @@
 ghost use Rattle.std.specs.Prelude.{◌≡◌, ◌↔◌, ◌≤◌, ◌++◌, [], length, take, encode_utf8_all, OnErr, OnOk};
 ghost use Rattle.std.specs.Result.{IsErrOf};
 ghost use Rattle.rdf_terms.specs.Views.{quad_of};
+ghost use Rattle.rdf_lines.specs.Escaped.{PassesInto};
 ghost use Rattle.rdf_lines.specs.Forms.{form_of};
 ghost use Rattle.rdf_lines.specs.NodePrefixes.{line_in};
 ghost use Rattle.rdf_lines.specs.Writing.{CanWrite};
 
-use crate::form::WrittenForm;
+use crate::canonical::end_tokens;
+use crate::escaped::{EscapedLine, Values, escaped_line};
+use crate::form::{Escapes, LineEnding, Style, WrittenForm};
+use crate::grammar::LineGrammar;
 use crate::writer::{LabelFault, Usual, put_quad};
+use rdf_driver::Reader;
 use rdf_terms::QuadRef;
 use rdf_terms::place::place_all;
 use std::alloc::{AllocError, Allocator, Global};
@@ -26,6 +31,7 @@ const KEPT_LEN: usize = 1_048_576;
 pub struct LineBuffer<A: Allocator = Global> {
     bytes: Vec<u8, A>,
     len: usize,
+    values: Values<A>,
 }
 
 impl<A: Allocator> Model for LineBuffer<A> {
@@ -46,6 +52,7 @@ impl<A: Allocator + Copy> LineBuffer<A> {
         LineBuffer {
             bytes: Vec::new(alloc),
             len: 0,
+            values: Values::new(alloc),
         }
     }
 
@@ -122,5 +129,37 @@ impl<A: Allocator + Copy> LineBuffer<A> {
     {
         self.len = put_quad::<C, A>(quad, &form, self.len, &mut self.bytes)?;
         Ok(())
+    }
+
+    /// Passes the line that the text begins with, as `pass_escaped` does, and answers how many bytes it has, or none.
+    pub(crate) fn pass_line(
+        &mut self,
+        reader: &mut Reader<LineGrammar<A>, A>,
+        text: &str,
+        ending: LineEnding,
+    ) -> usize
+        ensures within { result ≤ length text.now }
+        ensures passes { PassesInto reader.old (take result text.now) reader.new self.old self.new }
+    {
+        if !reader.can_pass(text.len()) {
+            return 0;
+        }
+        let rules = match reader.grammar().rules_at(text.len() as u64) {
+            Some(rules) => rules,
+            None => return 0,
+        };
+        let line = match escaped_line(text, ending, rules, &mut self.values) {
+            Some(line) => line,
+            None => return 0,
+        };
+        let tokens = line.tokens + end_tokens(ending);
+        let passed = text.len() - line.rest.len();
+        let form = WrittenForm::new(Style::Kept, Escapes::Plain);
+        match put_quad::<EscapedLine<'static>, A>(&line.quad, &form, self.len, &mut self.bytes) {
+            Ok(end) => self.len = end,
+            Err(_) => return 0,
+        }
+        reader.pass(&text.as_bytes()[..passed], 1, tokens);
+        passed
     }
 }

@@ -35,9 +35,9 @@ struct Part<'a> {
 
 // An IRI, and what comes after its closing bracket.
 #[derive(Clone, Copy)]
-struct IriPart<'a> {
-    iri: &'a str,
-    rest: &'a str,
+pub(crate) struct IriPart<'a> {
+    pub(crate) iri: &'a str,
+    pub(crate) rest: &'a str,
 }
 
 /// Passes lines at the front of the text that end so and stand as they are written, where the reader stands between two lines, and
@@ -122,7 +122,7 @@ fn ended_front(text: &str, ending: LineEnding, rules: Rules, token: u64) -> Fron
 }
 
 // How many tokens the end of a line has.
-fn end_tokens(ending: LineEnding) -> u64
+pub(crate) fn end_tokens(ending: LineEnding) -> u64
     ensures { result ≡ end_count ending }
 {
     match ending {
@@ -146,7 +146,7 @@ fn canonical_line(text: &str, ending: LineEnding, rules: Rules) -> Option<Part<'
 }
 
 // The text after a line's end.
-fn after_end(text: &str, ending: LineEnding) -> Option<&str>
+pub(crate) fn after_end(text: &str, ending: LineEnding) -> Option<&str>
     ensures { IfSome result (λ rest. text.now ≡ end_text ending ++ rest.now) }
 {
     match ending {
@@ -234,7 +234,7 @@ fn graph(text: &str, rules: Rules) -> Option<Part<'_>>
 }
 
 // An IRI, whose opening bracket came before.
-fn iri(text: &str, limit: u64) -> Option<IriPart<'_>>
+pub(crate) fn iri(text: &str, limit: u64) -> Option<IriPart<'_>>
     ensures stands { IfSome result (λ p. IriStands limit (chars p.iri.now) text.now p.rest.now) }
     ensures utf8 { IfSome result (λ p. IsUtf8 p.iri.now) }
 {
@@ -330,7 +330,7 @@ fn after_letter(text: &str) -> Option<&str>
 }
 
 // The text after an ASCII character that it begins with.
-fn after_byte(text: &str, byte: u8) -> Option<&str>
+pub(crate) fn after_byte(text: &str, byte: u8) -> Option<&str>
     requires { byte < 128 }
     ensures { IfSome result (λ rest. text.now ≡ byte ∷ rest.now) }
 {
@@ -338,7 +338,7 @@ fn after_byte(text: &str, byte: u8) -> Option<&str>
 }
 
 // The text after an ASCII character at a place.
-fn after_byte_at(text: &str, at: usize, byte: u8) -> Option<&str>
+pub(crate) fn after_byte_at(text: &str, at: usize, byte: u8) -> Option<&str>
     requires ascii { byte < 128 }
     requires within { at ≤ length text.now }
     ensures is { IfSome result (λ rest. text.now ≡ take at text.now ++ byte ∷ rest.now) }

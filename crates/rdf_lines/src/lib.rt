@@ -4,6 +4,7 @@
 mod accept;
 mod buffer;
 mod canonical;
+mod escaped;
 mod form;
 mod grammar;
 pub mod laws;
@@ -17,6 +18,7 @@ mod writer;
 
 pub use buffer::LineBuffer;
 pub use canonical::pass_lines;
+pub use escaped::pass_escaped;
 pub use form::{Escapes, LineEnding, LineForm, Style, WrittenForm};
 pub use grammar::LineGrammar;
 pub use prefix::{NodePrefix, NodePrefixView};

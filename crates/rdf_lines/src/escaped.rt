@@ -1,0 +1,431 @@
+// Lines whose strings and IRIs may have any escapes.
+
+ghost use Rattle.std.specs.Prelude.{◌≡◌, ◌<◌, ◌≤◌, ◌+◌, false, drop, length, take, option_map, true, IfSome};
+ghost use Rattle.std.specs.Str.{chars};
+ghost use Rattle.rdf_terms.specs.Terms.{IsLabel, IsTag, Resource};
+ghost use Rattle.rdf_terms.specs.Views.{quad_of, subject_by, term_by, tail_by};
+ghost use Rattle.rdf_lines.specs.Escaped.{is_clear, GraphSpelled, IriSpelled, LineSpelled, NameStands, PassesInto, StringSpelled, SubjectSpelled, TailSpelled, TermSpelled};
+
+use crate::buffer::LineBuffer;
+use crate::canonical::{IriPart, after_byte, after_byte_at, after_end, iri};
+use crate::form::{LineEnding, LineForm};
+use crate::grammar::LineGrammar;
+use crate::rules::Rules;
+use rdf_driver::Reader;
+use rdf_terms::runs::{Run, run_end};
+use rdf_terms::{
+    IriView, Known, LabelView, LiteralRef, NodeRef, QuadRef, SubjectRef, TagView, TailRef, TermRef,
+    has_scheme, is_label, is_tag, known, set_iri_value, string_value,
+};
+use std::alloc::{Allocator, Global};
+
+/// How many bytes are looked at for the end of a string.
+const LONGEST: usize = 2048;
+
+/// What the escapes of a line mean: the texts of its subject, its predicate, its object and its graph label. Their memory is used again from line to line.
+#[derive(Drop)]
+pub(crate) struct Values<A: Allocator = Global> {
+    alloc: A,
+    subject: String<A>,
+    predicate: String<A>,
+    object: String<A>,
+    graph: String<A>,
+}
+
+/// A line: its quad, how many tokens it has before its end, and what comes after it.
+#[derive(Clone, Copy)]
+pub(crate) struct EscapedLine<'a> {
+    pub(crate) quad: QuadRef<'a>,
+    pub(crate) tokens: u64,
+    pub(crate) rest: &'a str,
+}
+
+// An IRI or a label, and what comes after it.
+#[derive(Clone, Copy)]
+struct SubjectPart<'a> {
+    subject: SubjectRef<'a>,
+    rest: &'a str,
+}
+
+// A label or a tag, and what comes after it.
+#[derive(Clone, Copy)]
+struct NamePart<'a> {
+    name: &'a str,
+    rest: &'a str,
+}
+
+// A string, and what comes after it.
+#[derive(Clone, Copy)]
+struct StringPart<'a> {
+    lexical: &'a str,
+    rest: &'a str,
+}
+
+// An object, how many tokens it has, and what comes after it.
+#[derive(Clone, Copy)]
+struct ObjectPart<'a> {
+    object: TermRef<'a>,
+    tokens: u64,
+    rest: &'a str,
+}
+
+// What follows a string, how many tokens it has, and what comes after it.
+#[derive(Clone, Copy)]
+struct TailPart<'a> {
+    tail: TailRef<'a>,
+    tokens: u64,
+    rest: &'a str,
+}
+
+// A graph label or none, how many tokens it has, and what comes after it.
+#[derive(Clone, Copy)]
+struct GraphPart<'a> {
+    graph: Option<SubjectRef<'a>>,
+    tokens: u64,
+    rest: &'a str,
+}
+
+impl<A: Allocator + Copy> Values<A> {
+    /// Before the first line. It takes no memory.
+    pub(crate) fn new(alloc: A) -> Values<A> {
+        Values {
+            alloc,
+            subject: String::new(alloc),
+            predicate: String::new(alloc),
+            object: String::new(alloc),
+            graph: String::new(alloc),
+        }
+    }
+}
+
+/// Passes lines at the front of the text that end so and whose parts stand with one space after each, where the reader stands between two lines, and
+/// appends what is written for their quads with the labels kept. Strings and IRIs may have any escapes. Answers how many bytes they have. After a line
+/// that has as many bytes as what is written for it, it passes no more. It passes none with limits below 64, of a text that is longer than a token may
+/// be, and where there is no memory for what a line means or for what is written.
+pub fn pass_escaped<A: Allocator + Copy>(
+    reader: &mut Reader<LineGrammar<A>, A>,
+    text: &str,
+    ending: LineEnding,
+    out: &mut LineBuffer<A>,
+) -> usize
+    ensures within { result ≤ length text.now }
+    ensures passes { PassesInto reader.old (take result text.now) reader.new out.old out.new }
+{
+    let mut at = 0;
+    'lines: loop {
+        let len = out.len();
+        let passed = out.pass_line(reader, text_from(text, at), ending);
+        if passed == 0 {
+            return at;
+        }
+        at += passed;
+        let stands = stands_as_written(len, out.len(), passed);
+        if stands {
+            return at;
+        }
+    }
+}
+
+// Whether so many bytes were appended as were passed, so that lines come that `pass_lines` may pass, which is faster.
+fn stands_as_written(old: usize, new: usize, passed: usize) -> bool {
+    new >= old && new - old == passed
+}
+
+// The text from a place on, if a character begins there, or else none of it.
+fn text_from(text: &str, at: usize) -> &str
+    ensures { result.now ≡ take (length result.now) (drop at text.now) }
+{
+    match text.split_at_checked(at) {
+        Some((_, rest)) => rest,
+        None => "",
+    }
+}
+
+/// The line that the text begins with, if its parts stand with one space after each, it ends so, and there is memory for what it means.
+pub(crate) fn escaped_line<'a, A: Allocator + Copy>(
+    text: &'a str,
+    ending: LineEnding,
+    rules: Rules,
+    values: &'a mut Values<A>,
+) -> Option<EscapedLine<'a>>
+    requires iri { 64 ≤ rules.iri }
+    ensures spelled { IfSome result (λ l. LineSpelled ending rules.form rules.iri l.tokens (quad_of l.quad) text.now l.rest.now) }
+    ensures few { IfSome result (λ l. l.tokens ≤ 7) }
+{
+    let alloc = values.alloc;
+    let subject = subject(text, rules.iri, &mut values.subject)?;
+    let after = after_byte(subject.rest, b' ')?;
+    let predicate = any_iri(after_byte(after, b'<')?, rules.iri, &mut values.predicate)?;
+    let object = object(
+        after_byte(predicate.rest, b' ')?,
+        rules.iri,
+        alloc,
+        &mut values.object,
+    )?;
+    let graph = graph(after_byte(object.rest, b' ')?, rules, &mut values.graph)?;
+    Some(EscapedLine {
+        quad: QuadRef {
+            subject: subject.subject,
+            predicate: IriView::new(predicate.iri),
+            object: object.object,
+            graph: graph.graph,
+        },
+        tokens: object.tokens + graph.tokens + 3,
+        rest: after_end(after_byte(graph.rest, b'.')?, ending)?,
+    })
+}
+
+// An IRI or a label.
+fn subject<'a, A: Allocator>(
+    text: &'a str,
+    limit: u64,
+    value: &'a mut String<A>,
+) -> Option<SubjectPart<'a>>
+    ensures { IfSome result (λ p. SubjectSpelled limit (subject_by chars p.subject) text.now p.rest.now) }
+{
+    match after_byte(text, b'<') {
+        Some(text) => {
+            let part = any_iri(text, limit, value)?;
+            Some(SubjectPart {
+                subject: SubjectRef::Iri(IriView::new(part.iri)),
+                rest: part.rest,
+            })
+        }
+        None => {
+            let part = label(after_byte(after_byte(text, b'_')?, b':')?)?;
+            Some(SubjectPart {
+                subject: SubjectRef::Node(NodeRef::Label(LabelView::new(part.name))),
+                rest: part.rest,
+            })
+        }
+    }
+}
+
+// A label, whose `_:` came before.
+fn label(text: &str) -> Option<NamePart<'_>>
+    ensures { IfSome result (λ p. NameStands IsLabel (chars p.name.now) text.now p.rest.now) }
+{
+    let end = run_end(Run::Iri, text.as_bytes(), 0);
+    after_byte_at(text, end, b' ')?;
+    let name = &text[..end];
+    if !is_label(name) {
+        return None;
+    }
+    Some(NamePart {
+        name,
+        rest: &text[end..],
+    })
+}
+
+// An IRI, whose opening bracket came before. One without escapes stands in the text.
+#[inline(always)]
+fn any_iri<'a, A: Allocator>(
+    text: &'a str,
+    limit: u64,
+    value: &'a mut String<A>,
+) -> Option<IriPart<'a>>
+    ensures { IfSome result (λ p. IriSpelled limit (chars p.iri.now) text.now p.rest.now) }
+{
+    match iri(text, limit) {
+        Some(part) => Some(IriPart {
+            iri: part.iri,
+            rest: part.rest,
+        }),
+        None => escaped_iri(text, limit, value),
+    }
+}
+
+// One with escapes stands where its value was put.
+fn escaped_iri<'a, A: Allocator>(
+    text: &'a str,
+    limit: u64,
+    value: &'a mut String<A>,
+) -> Option<IriPart<'a>>
+    ensures { IfSome result (λ p. IriSpelled limit (chars p.iri.now) text.now p.rest.now) }
+{
+    let end = iri_end(text.as_bytes());
+    let rest = after_byte_at(text, end, b'>')?;
+    match set_iri_value(value, &text[..end]) {
+        Ok(()) => {}
+        Err(_) => return None,
+    }
+    let iri = value.as_str();
+    if iri.len() as u64 > limit || !has_scheme(iri) {
+        return None;
+    }
+    Some(IriPart { iri, rest })
+}
+
+// Where the inside of an IRI ends, whatever its escapes are.
+fn iri_end(bytes: &[u8]) -> usize
+    ensures { result ≤ length bytes.now }
+{
+    let mut at = run_end(Run::Iri, bytes, 0);
+    while at < bytes.len() && bytes[at] == b'\\' {
+        at = run_end(Run::Iri, bytes, at + 1);
+    }
+    at
+}
+
+fn object<'a, A: Allocator + Copy>(
+    text: &'a str,
+    limit: u64,
+    alloc: A,
+    value: &'a mut String<A>,
+) -> Option<ObjectPart<'a>>
+    requires iri { 64 ≤ limit }
+    ensures spelled { IfSome result (λ p. TermSpelled limit p.tokens (term_by chars p.object) text.now p.rest.now) }
+    ensures few { IfSome result (λ p. p.tokens ≤ 3) }
+{
+    match after_byte(text, b'"') {
+        Some(text) => {
+            let string = string(text, alloc, value)?;
+            let tail = tail(string.rest, limit)?;
+            Some(ObjectPart {
+                object: TermRef::Literal(LiteralRef::new(string.lexical, tail.tail)),
+                tokens: tail.tokens + 1,
+                rest: tail.rest,
+            })
+        }
+        None => {
+            let part = subject(text, limit, value)?;
+            Some(ObjectPart {
+                object: term_of(part.subject),
+                tokens: 1,
+                rest: part.rest,
+            })
+        }
+    }
+}
+
+fn term_of(subject: SubjectRef<'_>) -> TermRef<'_>
+    ensures { term_by chars result ≡ Resource (subject_by chars subject.entry) }
+{
+    match subject {
+        SubjectRef::Iri(iri) => TermRef::Iri(iri),
+        SubjectRef::Node(node) => TermRef::Node(node),
+    }
+}
+
+// A string, whose opening quote came before.
+fn string<'a, A: Allocator + Copy>(
+    text: &'a str,
+    alloc: A,
+    value: &'a mut String<A>,
+) -> Option<StringPart<'a>>
+    ensures { IfSome result (λ p. StringSpelled (chars p.lexical.now) text.now p.rest.now) }
+{
+    let end = string_end(text.as_bytes());
+    let rest = after_byte_at(text, end, b'"')?;
+    match string_value(alloc, &text[..end]) {
+        Ok(meant) => *value = meant,
+        Err(_) => return None,
+    }
+    Some(StringPart {
+        lexical: value.as_str(),
+        rest,
+    })
+}
+
+// Where the inside of a string ends, whatever its escapes are.
+fn string_end(bytes: &[u8]) -> usize
+    ensures within { result ≤ length bytes.now }
+    ensures clear { is_clear false (take result bytes.now) ≡ true }
+{
+    clear_front(&bytes[..bytes.len().min(LONGEST)])
+}
+
+// How many bytes at the front of some are clear.
+fn clear_front(bytes: &[u8]) -> usize
+    ensures within { result ≤ length bytes.now }
+    ensures clear { is_clear false (take result bytes.now) ≡ true }
+{
+    let mut at = clear_end(bytes, 0);
+    while bytes.len() - at >= 2 && bytes[at] == b'\\' {
+        at = clear_end(bytes, at + 2);
+    }
+    at
+}
+
+// Where a run ends after a place up to which a string is clear.
+#[inline(always)]
+fn clear_end(bytes: &[u8], from: usize) -> usize
+    requires within { from ≤ length bytes.now }
+    requires clear { is_clear false (take from bytes.now) ≡ true }
+    ensures on { from ≤ result }
+    ensures within { result ≤ length bytes.now }
+    ensures clear { is_clear false (take result bytes.now) ≡ true }
+{
+    run_end(Run::QuoteText, bytes, from)
+}
+
+// What follows a string: nothing, a tag, or a datatype.
+fn tail(text: &str, limit: u64) -> Option<TailPart<'_>>
+    requires iri { 64 ≤ limit }
+    ensures spelled { IfSome result (λ p. TailSpelled limit p.tokens (tail_by chars p.tail) text.now p.rest.now) }
+    ensures few { IfSome result (λ p. p.tokens ≤ 2) }
+{
+    if let Some(text) = after_byte(text, b'@') {
+        let part = tag(text)?;
+        return Some(TailPart {
+            tail: TailRef::Lang(TagView::new(part.name)),
+            tokens: 1,
+            rest: part.rest,
+        });
+    }
+    if let Some(text) = after_byte(text, b'^') {
+        let part = iri(after_byte(after_byte(text, b'^')?, b'<')?, limit)?;
+        return Some(TailPart {
+            tail: TailRef::Typed(IriView::new(part.iri)),
+            tokens: 2,
+            rest: part.rest,
+        });
+    }
+    Some(TailPart {
+        tail: TailRef::Typed(known(Known::XsdString)),
+        tokens: 0,
+        rest: text,
+    })
+}
+
+// A language tag, whose `@` came before.
+fn tag(text: &str) -> Option<NamePart<'_>>
+    ensures { IfSome result (λ p. NameStands IsTag (chars p.name.now) text.now p.rest.now) }
+{
+    let end = run_end(Run::Name, text.as_bytes(), 0);
+    after_byte_at(text, end, b' ')?;
+    let name = &text[..end];
+    if !is_tag(name) {
+        return None;
+    }
+    Some(NamePart {
+        name,
+        rest: &text[end..],
+    })
+}
+
+fn graph<'a, A: Allocator>(
+    text: &'a str,
+    rules: Rules,
+    value: &'a mut String<A>,
+) -> Option<GraphPart<'a>>
+    ensures spelled { IfSome result (λ p. GraphSpelled rules.form rules.iri p.tokens (option_map (subject_by chars) p.graph) text.now p.rest.now) }
+    ensures few { IfSome result (λ p. p.tokens ≤ 1) }
+{
+    match (rules.form, after_byte(text, b'.')) {
+        (_, Some(_)) => Some(GraphPart {
+            graph: None,
+            tokens: 0,
+            rest: text,
+        }),
+        (LineForm::NTriples, None) => None,
+        (LineForm::NQuads, None) => {
+            let part = subject(text, rules.iri, value)?;
+            Some(GraphPart {
+                graph: Some(part.subject),
+                tokens: 1,
+                rest: after_byte(part.rest, b' ')?,
+            })
+        }
+    }
+}
