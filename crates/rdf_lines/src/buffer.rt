@@ -1,6 +1,6 @@
 // Lines in memory that is filled once and used again.
 
-ghost use Rattle.std.specs.Prelude.{◌≡◌, ◌↔◌, ◌≤◌, ◌++◌, [], length, take, encode_utf8_all, OnErr, OnOk};
+ghost use Rattle.std.specs.Prelude.{◌≡◌, ◌↔◌, ◌≤◌, ◌++◌, [], length, take, encode_utf8_all, IfOk, OnErr, OnOk};
 ghost use Rattle.std.specs.Result.{IsErrOf};
 ghost use Rattle.rdf_terms.specs.Views.{quad_of};
 ghost use Rattle.rdf_lines.specs.Escaped.{PassesInto};
@@ -9,7 +9,7 @@ ghost use Rattle.rdf_lines.specs.NodePrefixes.{line_in};
 ghost use Rattle.rdf_lines.specs.Writing.{CanWrite};
 
 use crate::canonical::end_tokens;
-use crate::escaped::{EscapedLine, Values, escaped_line};
+use crate::escaped::{EscapedLine, Unpassed, Values, escaped_line};
 use crate::form::{Escapes, LineEnding, Style, WrittenForm};
 use crate::grammar::LineGrammar;
 use crate::writer::{LabelFault, Usual, put_quad};
@@ -131,35 +131,38 @@ impl<A: Allocator + Copy> LineBuffer<A> {
         Ok(())
     }
 
-    /// Passes the line that the text begins with, as `pass_escaped` does, and answers how many bytes it has, or none.
+    /// Passes the line that the text begins with, as `pass_escaped` does, and answers how many bytes it has, or none. Where memory is refused, it is not passed.
     pub(crate) fn pass_line(
         &mut self,
         reader: &mut Reader<LineGrammar<A>, A>,
         text: &str,
         ending: LineEnding,
-    ) -> usize
-        ensures within { result ≤ length text.now }
-        ensures passes { PassesInto reader.old (take result text.now) reader.new self.old self.new }
+    ) -> Result<usize, AllocError>
+        ensures within { IfOk result (λ n. n ≤ length text.now) }
+        ensures passes { IfOk result (λ n. PassesInto reader.old (take n text.now) reader.new self.old self.new) }
+        ensures refused { OnErr result ((reader.new ≡ reader.old) × (self.new ≡ self.old)) }
     {
         if !reader.can_pass(text.len()) {
-            return 0;
+            return Ok(0);
         }
         let rules = match reader.grammar().rules_at(text.len() as u64) {
             Some(rules) => rules,
-            None => return 0,
+            None => return Ok(0),
         };
         let line = match escaped_line(text, ending, rules, &mut self.values) {
-            Some(line) => line,
-            None => return 0,
+            Ok(line) => line,
+            Err(Unpassed::Other) => return Ok(0),
+            Err(Unpassed::Memory) => return Err(AllocError),
         };
         let tokens = line.tokens + end_tokens(ending);
         let passed = text.len() - line.rest.len();
         let form = WrittenForm::new(Style::Kept, Escapes::Plain);
         match put_quad::<EscapedLine<'static>, A>(&line.quad, &form, self.len, &mut self.bytes) {
             Ok(end) => self.len = end,
-            Err(_) => return 0,
+            Err(LabelFault::NotLabelled) => return Ok(0),
+            Err(LabelFault::Memory) => return Err(AllocError),
         }
         reader.pass(&text.as_bytes()[..passed], 1, tokens);
-        passed
+        Ok(passed)
     }
 }

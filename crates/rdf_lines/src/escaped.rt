@@ -1,7 +1,9 @@
 // Lines whose strings and IRIs may have any escapes.
 
-ghost use Rattle.std.specs.Prelude.{◌≡◌, ◌<◌, ◌≤◌, ◌+◌, false, drop, length, take, option_map, true, IfSome};
-ghost use Rattle.std.specs.Str.{chars};
+ghost use Rattle.std.specs.Prelude.{◌≡◌, ◌<◌, ◌≤◌, ◌+◌, ◌++◌, ◌∷◌, ℕ, false, drop, length, take, option_map, true, IfOk, IfSome, OnErr};
+ghost use Rattle.std.specs.Str.{chars, IsUtf8};
+ghost use Rattle.rdf_lines.specs.Canonical.{end_text};
+ghost use Rattle.rdf_lines.specs.Fronts.{IriStands};
 ghost use Rattle.rdf_terms.specs.Terms.{IsLabel, IsTag, Resource};
 ghost use Rattle.rdf_terms.specs.Views.{quad_of, subject_by, term_by, tail_by};
 ghost use Rattle.rdf_lines.specs.Escaped.{is_clear, GraphSpelled, IriSpelled, LineSpelled, NameStands, PassesInto, StringSpelled, SubjectSpelled, TailSpelled, TermSpelled};
@@ -15,9 +17,9 @@ use rdf_driver::Reader;
 use rdf_terms::runs::{Run, run_end};
 use rdf_terms::{
     IriView, Known, LabelView, LiteralRef, NodeRef, QuadRef, SubjectRef, TagView, TailRef, TermRef,
-    has_scheme, is_label, is_tag, known, set_iri_value, string_value,
+    ValueFault, has_scheme, is_label, is_tag, known, set_iri_value, string_value,
 };
-use std::alloc::{Allocator, Global};
+use std::alloc::{AllocError, Allocator, Global};
 
 /// How many bytes are looked at for the end of a string.
 const LONGEST: usize = 2048;
@@ -30,6 +32,30 @@ pub(crate) struct Values<A: Allocator = Global> {
     predicate: String<A>,
     object: String<A>,
     graph: String<A>,
+}
+
+/// Why a line is not passed.
+#[derive(Clone, Copy)]
+pub(crate) enum Unpassed {
+    /// It does not stand so.
+    Other,
+    /// A growth of memory was refused.
+    Memory,
+}
+
+impl From<ValueFault> for Unpassed {
+    ghost use Rattle.std.specs.Prelude.{◌≡◌, ◌↔◌};
+    ghost use Rattle.rdf_terms.specs.declared.values.ValueFault.TheVariants.{Memory};
+    ghost use Rattle.rdf_lines.specs.declared.escaped.Unpassed.TheVariants as unpassed;
+
+    ghost from_gives = { λ fault why. (fault ≡ Memory) ↔ (why ≡ unpassed.Memory) };
+
+    fn from(fault: ValueFault) -> Unpassed {
+        match fault {
+            ValueFault::BadEscape => Unpassed::Other,
+            ValueFault::Memory => Unpassed::Memory,
+        }
+    }
 }
 
 /// A line: its quad, how many tokens it has before its end, and what comes after it.
@@ -100,28 +126,29 @@ impl<A: Allocator + Copy> Values<A> {
 
 /// Passes lines at the front of the text that end so and whose parts stand with one space after each, where the reader stands between two lines, and
 /// appends what is written for their quads with the labels kept. Strings and IRIs may have any escapes. Answers how many bytes they have. After a line
-/// that has as many bytes as what is written for it, it passes no more. It passes none with limits below 64, of a text that is longer than a token may
-/// be, and where there is no memory for what a line means or for what is written.
+/// that has as many bytes as what is written for it, it passes no more. It passes none with limits below 64, and none of a text that is longer than a
+/// token may be. Where memory for what a line means or for what is written is refused, some lines may have been passed, and that one was not.
 pub fn pass_escaped<A: Allocator + Copy>(
     reader: &mut Reader<LineGrammar<A>, A>,
     text: &str,
     ending: LineEnding,
     out: &mut LineBuffer<A>,
-) -> usize
-    ensures within { result ≤ length text.now }
-    ensures passes { PassesInto reader.old (take result text.now) reader.new out.old out.new }
+) -> Result<usize, AllocError>
+    ensures within { IfOk result (λ n. n ≤ length text.now) }
+    ensures passes { IfOk result (λ n. PassesInto reader.old (take n text.now) reader.new out.old out.new) }
+    ensures refused { OnErr result ((n : ℕ) × PassesInto reader.old (take n text.now) reader.new out.old out.new) }
 {
     let mut at = 0;
     'lines: loop {
         let len = out.len();
-        let passed = out.pass_line(reader, text_from(text, at), ending);
+        let passed = out.pass_line(reader, text_from(text, at), ending)?;
         if passed == 0 {
-            return at;
+            return Ok(at);
         }
         at += passed;
         let stands = stands_as_written(len, out.len(), passed);
         if stands {
-            return at;
+            return Ok(at);
         }
     }
 }
@@ -141,29 +168,29 @@ fn text_from(text: &str, at: usize) -> &str
     }
 }
 
-/// The line that the text begins with, if its parts stand with one space after each, it ends so, and there is memory for what it means.
+/// The line that the text begins with, if its parts stand with one space after each and it ends so.
 pub(crate) fn escaped_line<'a, A: Allocator + Copy>(
     text: &'a str,
     ending: LineEnding,
     rules: Rules,
     values: &'a mut Values<A>,
-) -> Option<EscapedLine<'a>>
+) -> Result<EscapedLine<'a>, Unpassed>
     requires iri { 64 ≤ rules.iri }
-    ensures spelled { IfSome result (λ l. LineSpelled ending rules.form rules.iri l.tokens (quad_of l.quad) text.now l.rest.now) }
-    ensures few { IfSome result (λ l. l.tokens ≤ 7) }
+    ensures spelled { IfOk result (λ l. LineSpelled ending rules.form rules.iri l.tokens (quad_of l.quad) text.now l.rest.now) }
+    ensures few { IfOk result (λ l. l.tokens ≤ 7) }
 {
     let alloc = values.alloc;
     let subject = subject(text, rules.iri, &mut values.subject)?;
-    let after = after_byte(subject.rest, b' ')?;
-    let predicate = any_iri(after_byte(after, b'<')?, rules.iri, &mut values.predicate)?;
+    let after = skip_byte(subject.rest, b' ')?;
+    let predicate = any_iri(skip_byte(after, b'<')?, rules.iri, &mut values.predicate)?;
     let object = object(
-        after_byte(predicate.rest, b' ')?,
+        skip_byte(predicate.rest, b' ')?,
         rules.iri,
         alloc,
         &mut values.object,
     )?;
-    let graph = graph(after_byte(object.rest, b' ')?, rules, &mut values.graph)?;
-    Some(EscapedLine {
+    let graph = graph(skip_byte(object.rest, b' ')?, rules, &mut values.graph)?;
+    Ok(EscapedLine {
         quad: QuadRef {
             subject: subject.subject,
             predicate: IriView::new(predicate.iri),
@@ -171,7 +198,7 @@ pub(crate) fn escaped_line<'a, A: Allocator + Copy>(
             graph: graph.graph,
         },
         tokens: object.tokens + graph.tokens + 3,
-        rest: after_end(after_byte(graph.rest, b'.')?, ending)?,
+        rest: skip_end(skip_byte(graph.rest, b'.')?, ending)?,
     })
 }
 
@@ -180,20 +207,20 @@ fn subject<'a, A: Allocator>(
     text: &'a str,
     limit: u64,
     value: &'a mut String<A>,
-) -> Option<SubjectPart<'a>>
-    ensures { IfSome result (λ p. SubjectSpelled limit (subject_by chars p.subject) text.now p.rest.now) }
+) -> Result<SubjectPart<'a>, Unpassed>
+    ensures { IfOk result (λ p. SubjectSpelled limit (subject_by chars p.subject) text.now p.rest.now) }
 {
     match after_byte(text, b'<') {
         Some(text) => {
             let part = any_iri(text, limit, value)?;
-            Some(SubjectPart {
+            Ok(SubjectPart {
                 subject: SubjectRef::Iri(IriView::new(part.iri)),
                 rest: part.rest,
             })
         }
         None => {
-            let part = label(after_byte(after_byte(text, b'_')?, b':')?)?;
-            Some(SubjectPart {
+            let part = label(skip_byte(skip_byte(text, b'_')?, b':')?)?;
+            Ok(SubjectPart {
                 subject: SubjectRef::Node(NodeRef::Label(LabelView::new(part.name))),
                 rest: part.rest,
             })
@@ -202,16 +229,16 @@ fn subject<'a, A: Allocator>(
 }
 
 // A label, whose `_:` came before.
-fn label(text: &str) -> Option<NamePart<'_>>
-    ensures { IfSome result (λ p. NameStands IsLabel (chars p.name.now) text.now p.rest.now) }
+fn label(text: &str) -> Result<NamePart<'_>, Unpassed>
+    ensures { IfOk result (λ p. NameStands IsLabel (chars p.name.now) text.now p.rest.now) }
 {
     let end = run_end(Run::Iri, text.as_bytes(), 0);
-    after_byte_at(text, end, b' ')?;
+    skip_byte_at(text, end, b' ')?;
     let name = &text[..end];
     if !is_label(name) {
-        return None;
+        return Err(Unpassed::Other);
     }
-    Some(NamePart {
+    Ok(NamePart {
         name,
         rest: &text[end..],
     })
@@ -223,11 +250,11 @@ fn any_iri<'a, A: Allocator>(
     text: &'a str,
     limit: u64,
     value: &'a mut String<A>,
-) -> Option<IriPart<'a>>
-    ensures { IfSome result (λ p. IriSpelled limit (chars p.iri.now) text.now p.rest.now) }
+) -> Result<IriPart<'a>, Unpassed>
+    ensures { IfOk result (λ p. IriSpelled limit (chars p.iri.now) text.now p.rest.now) }
 {
     match iri(text, limit) {
-        Some(part) => Some(IriPart {
+        Some(part) => Ok(IriPart {
             iri: part.iri,
             rest: part.rest,
         }),
@@ -240,20 +267,17 @@ fn escaped_iri<'a, A: Allocator>(
     text: &'a str,
     limit: u64,
     value: &'a mut String<A>,
-) -> Option<IriPart<'a>>
-    ensures { IfSome result (λ p. IriSpelled limit (chars p.iri.now) text.now p.rest.now) }
+) -> Result<IriPart<'a>, Unpassed>
+    ensures { IfOk result (λ p. IriSpelled limit (chars p.iri.now) text.now p.rest.now) }
 {
     let end = iri_end(text.as_bytes());
-    let rest = after_byte_at(text, end, b'>')?;
-    match set_iri_value(value, &text[..end]) {
-        Ok(()) => {}
-        Err(_) => return None,
-    }
+    let rest = skip_byte_at(text, end, b'>')?;
+    set_iri_value(value, &text[..end])?;
     let iri = value.as_str();
     if iri.len() as u64 > limit || !has_scheme(iri) {
-        return None;
+        return Err(Unpassed::Other);
     }
-    Some(IriPart { iri, rest })
+    Ok(IriPart { iri, rest })
 }
 
 // Where the inside of an IRI ends, whatever its escapes are.
@@ -272,16 +296,16 @@ fn object<'a, A: Allocator + Copy>(
     limit: u64,
     alloc: A,
     value: &'a mut String<A>,
-) -> Option<ObjectPart<'a>>
+) -> Result<ObjectPart<'a>, Unpassed>
     requires iri { 64 ≤ limit }
-    ensures spelled { IfSome result (λ p. TermSpelled limit p.tokens (term_by chars p.object) text.now p.rest.now) }
-    ensures few { IfSome result (λ p. p.tokens ≤ 3) }
+    ensures spelled { IfOk result (λ p. TermSpelled limit p.tokens (term_by chars p.object) text.now p.rest.now) }
+    ensures few { IfOk result (λ p. p.tokens ≤ 3) }
 {
     match after_byte(text, b'"') {
         Some(text) => {
             let string = string(text, alloc, value)?;
             let tail = tail(string.rest, limit)?;
-            Some(ObjectPart {
+            Ok(ObjectPart {
                 object: TermRef::Literal(LiteralRef::new(string.lexical, tail.tail)),
                 tokens: tail.tokens + 1,
                 rest: tail.rest,
@@ -289,7 +313,7 @@ fn object<'a, A: Allocator + Copy>(
         }
         None => {
             let part = subject(text, limit, value)?;
-            Some(ObjectPart {
+            Ok(ObjectPart {
                 object: term_of(part.subject),
                 tokens: 1,
                 rest: part.rest,
@@ -312,16 +336,13 @@ fn string<'a, A: Allocator + Copy>(
     text: &'a str,
     alloc: A,
     value: &'a mut String<A>,
-) -> Option<StringPart<'a>>
-    ensures { IfSome result (λ p. StringSpelled (chars p.lexical.now) text.now p.rest.now) }
+) -> Result<StringPart<'a>, Unpassed>
+    ensures { IfOk result (λ p. StringSpelled (chars p.lexical.now) text.now p.rest.now) }
 {
     let end = string_end(text.as_bytes());
-    let rest = after_byte_at(text, end, b'"')?;
-    match string_value(alloc, &text[..end]) {
-        Ok(meant) => *value = meant,
-        Err(_) => return None,
-    }
-    Some(StringPart {
+    let rest = skip_byte_at(text, end, b'"')?;
+    *value = string_value(alloc, &text[..end])?;
+    Ok(StringPart {
         lexical: value.as_str(),
         rest,
     })
@@ -360,28 +381,28 @@ fn clear_end(bytes: &[u8], from: usize) -> usize
 }
 
 // What follows a string: nothing, a tag, or a datatype.
-fn tail(text: &str, limit: u64) -> Option<TailPart<'_>>
+fn tail(text: &str, limit: u64) -> Result<TailPart<'_>, Unpassed>
     requires iri { 64 ≤ limit }
-    ensures spelled { IfSome result (λ p. TailSpelled limit p.tokens (tail_by chars p.tail) text.now p.rest.now) }
-    ensures few { IfSome result (λ p. p.tokens ≤ 2) }
+    ensures spelled { IfOk result (λ p. TailSpelled limit p.tokens (tail_by chars p.tail) text.now p.rest.now) }
+    ensures few { IfOk result (λ p. p.tokens ≤ 2) }
 {
     if let Some(text) = after_byte(text, b'@') {
         let part = tag(text)?;
-        return Some(TailPart {
+        return Ok(TailPart {
             tail: TailRef::Lang(TagView::new(part.name)),
             tokens: 1,
             rest: part.rest,
         });
     }
     if let Some(text) = after_byte(text, b'^') {
-        let part = iri(after_byte(after_byte(text, b'^')?, b'<')?, limit)?;
-        return Some(TailPart {
+        let part = datatype(skip_byte(skip_byte(text, b'^')?, b'<')?, limit)?;
+        return Ok(TailPart {
             tail: TailRef::Typed(IriView::new(part.iri)),
             tokens: 2,
             rest: part.rest,
         });
     }
-    Some(TailPart {
+    Ok(TailPart {
         tail: TailRef::Typed(known(Known::XsdString)),
         tokens: 0,
         rest: text,
@@ -389,16 +410,16 @@ fn tail(text: &str, limit: u64) -> Option<TailPart<'_>>
 }
 
 // A language tag, whose `@` came before.
-fn tag(text: &str) -> Option<NamePart<'_>>
-    ensures { IfSome result (λ p. NameStands IsTag (chars p.name.now) text.now p.rest.now) }
+fn tag(text: &str) -> Result<NamePart<'_>, Unpassed>
+    ensures { IfOk result (λ p. NameStands IsTag (chars p.name.now) text.now p.rest.now) }
 {
     let end = run_end(Run::Name, text.as_bytes(), 0);
-    after_byte_at(text, end, b' ')?;
+    skip_byte_at(text, end, b' ')?;
     let name = &text[..end];
     if !is_tag(name) {
-        return None;
+        return Err(Unpassed::Other);
     }
-    Some(NamePart {
+    Ok(NamePart {
         name,
         rest: &text[end..],
     })
@@ -408,24 +429,65 @@ fn graph<'a, A: Allocator>(
     text: &'a str,
     rules: Rules,
     value: &'a mut String<A>,
-) -> Option<GraphPart<'a>>
-    ensures spelled { IfSome result (λ p. GraphSpelled rules.form rules.iri p.tokens (option_map (subject_by chars) p.graph) text.now p.rest.now) }
-    ensures few { IfSome result (λ p. p.tokens ≤ 1) }
+) -> Result<GraphPart<'a>, Unpassed>
+    ensures spelled { IfOk result (λ p. GraphSpelled rules.form rules.iri p.tokens (option_map (subject_by chars) p.graph) text.now p.rest.now) }
+    ensures few { IfOk result (λ p. p.tokens ≤ 1) }
 {
     match (rules.form, after_byte(text, b'.')) {
-        (_, Some(_)) => Some(GraphPart {
+        (_, Some(_)) => Ok(GraphPart {
             graph: None,
             tokens: 0,
             rest: text,
         }),
-        (LineForm::NTriples, None) => None,
+        (LineForm::NTriples, None) => Err(Unpassed::Other),
         (LineForm::NQuads, None) => {
             let part = subject(text, rules.iri, value)?;
-            Some(GraphPart {
+            Ok(GraphPart {
                 graph: Some(part.subject),
                 tokens: 1,
-                rest: after_byte(part.rest, b' ')?,
+                rest: skip_byte(part.rest, b' ')?,
             })
         }
+    }
+}
+
+// An IRI without escapes, whose opening bracket came before.
+fn datatype(text: &str, limit: u64) -> Result<IriPart<'_>, Unpassed>
+    ensures stands { IfOk result (λ p. IriStands limit (chars p.iri.now) text.now p.rest.now) }
+    ensures utf8 { IfOk result (λ p. IsUtf8 p.iri.now) }
+{
+    match iri(text, limit) {
+        Some(part) => Ok(part),
+        None => Err(Unpassed::Other),
+    }
+}
+
+// The text after an ASCII character that it begins with.
+fn skip_byte(text: &str, byte: u8) -> Result<&str, Unpassed>
+    requires { byte < 128 }
+    ensures { IfOk result (λ rest. text.now ≡ byte ∷ rest.now) }
+{
+    skip_byte_at(text, 0, byte)
+}
+
+// The text after an ASCII character at a place.
+fn skip_byte_at(text: &str, at: usize, byte: u8) -> Result<&str, Unpassed>
+    requires ascii { byte < 128 }
+    requires within { at ≤ length text.now }
+    ensures { IfOk result (λ rest. text.now ≡ take at text.now ++ byte ∷ rest.now) }
+{
+    match after_byte_at(text, at, byte) {
+        Some(rest) => Ok(rest),
+        None => Err(Unpassed::Other),
+    }
+}
+
+// The text after a line's end.
+fn skip_end(text: &str, ending: LineEnding) -> Result<&str, Unpassed>
+    ensures { IfOk result (λ rest. text.now ≡ end_text ending ++ rest.now) }
+{
+    match after_end(text, ending) {
+        Some(rest) => Ok(rest),
+        None => Err(Unpassed::Other),
     }
 }

@@ -516,6 +516,24 @@ module _ {G X D A : Type 0} (contents : D → Option (List ℕ)) (failed : D →
         );
       }
 
+  -- memory was refused, and what waited was handed over
+  pub handing_short : (after : LineOut D A) → SameOut lines after → Appends (contents lines.drain.now) (contents after.drain.now) lines.buffer.now → failed after.drain.now ≡ false →
+      Halts stream.Memory bytes false after
+  handing_short after s t live =
+      let now = (reading_of l bytes false).tokens in
+      record {
+        same = same_out first lines after o.same s;
+        halts = (
+          live,
+          record {
+            quads = o.quads;
+            due = begins_all l now o.quads (convertible.lawful.kept reader.grammar x now o.quads o.read.reached) (convertible.lawful.due reader.grammar x now o.quads o.read.reached);
+            written = moves_all (contents first.drain.now) (contents lines.drain.now) (contents after.drain.now) (lines_by (output_of first.form) o.quads) lines.buffer.now o.moves t;
+            ascii = these_ascii;
+          },
+        );
+      }
+
   module _ (summary : Summary) (mid : LineOut D A) (f : Finishes w (Takes contents failed) reader lines summary mid) where
     abbrev sums : R.Sums w x reader.scanner.limit bytes (o.quads ++ f.more) summary
     sums = f.read x bytes o.quads o.read
@@ -652,6 +670,12 @@ module _ {G X D A : Type 0} (contents : D → Option (List ℕ)) (failed : D →
   pub run_broke : (after : LineOut D A) → SameOut lines after → AppendsFront (contents lines.drain.now) (contents after.drain.now) lines.buffer.now → failed after.drain.now ≡ true →
       RunHalts contents failed w stream.Write reader first bytes false after
   run_broke after s t broke = halted stream.Write bytes false after (λ x y o. handing_broke contents failed w x old bytes first lines y o after s t broke)
+
+  -- what waited was handed over, or the drain failed
+  pub run_stops : (reported : StreamFault) (after : LineOut D A) → SameOut lines after → PutHalts contents failed reported lines [] after → RunHalts contents failed w reported reader first bytes false after
+  run_stops stream.Write after s h = run_broke after s (h.2.front, h.1, sym (append-nil lines.buffer.now) ∙ h.2.whole, h.2.taken) h.0
+  run_stops stream.Memory after s h = halted stream.Memory bytes false after (λ x y o. handing_short contents failed w x old bytes first lines y o after s h.1 h.0)
+  run_stops reported after s h = absurd h
 
   module _ (part : List ℕ) where
     -- a part more

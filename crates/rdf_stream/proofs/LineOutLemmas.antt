@@ -89,19 +89,9 @@ rewritten_writes contents old mid new w d e h =
     subst (λ x. Moves (contents x) (contents new.drain.now) (old.buffer.now ++ w) new.buffer.now) d
     (subst (λ b. Moves (contents mid.drain.now) (contents new.drain.now) b new.buffer.now) (append-nil mid.buffer.now ∙ e) h)
 
--- and what was then not handed over
-pub rewritten_halts : {D A : Type 0} (contents : D → Option (List ℕ)) (failed : D → Bool) (old mid new : LineOut D A) (w : List ℕ) (reported : StreamFault) → mid.drain.now ≡ old.drain.now →
-    mid.buffer.now ≡ old.buffer.now ++ w → (reported ≡ stream.Write) × PutHalts contents failed reported mid [] new → PutHalts contents failed reported old w new
-rewritten_halts contents failed old mid new w reported d e h =
-    subst (λ f. PutHalts contents failed f old w new) (sym h.0) (write (subst (λ f. PutHalts contents failed f mid [] new) h.0 h.1))
-  where
-    write : PutHalts contents failed stream.Write mid [] new → PutHalts contents failed stream.Write old w new
-    write k = (
-      k.0,
-      k.1,
-      subst (λ x. Moves (contents x) (contents new.drain.now) (old.buffer.now ++ w) k.1) d
-          (subst (λ b. Moves (contents mid.drain.now) (contents new.drain.now) b k.1) (append-nil mid.buffer.now ∙ e) k.2),
-    )
+-- and all of it still waits
+pub rewritten_waits : {D A : Type 0} (contents : D → Option (List ℕ)) (old mid : LineOut D A) (w : List ℕ) → mid.drain.now ≡ old.drain.now → mid.buffer.now ≡ old.buffer.now ++ w → Writes contents old w mid
+rewritten_waits contents old mid w d e = rewritten_writes contents old mid mid w d e (waits_same (contents mid.drain.now) mid.buffer.now mid.buffer.now refl)
 
 module _ {D A : Type 0} (contents : D → Option (List ℕ)) (failed : D → Bool) where
   abbrev Puts : LineOut D A → List Quad → LineOut D A → Type 0

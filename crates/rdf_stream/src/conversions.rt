@@ -16,7 +16,7 @@ use crate::expected::{Details, details_beside};
 use crate::fault::StreamFault;
 use crate::form::Kind;
 use crate::job::Job;
-use crate::line_out::{LineOut, stop};
+use crate::line_out::{LineOut, handed_over, stop};
 use crate::output::OutputView;
 use crate::parts::{Parts, take_parts};
 use crate::passes::Passes;
@@ -271,7 +271,10 @@ impl<'a, A: Allocator + Copy, G: Passes<A>, D: Drain> Parts<LineOut<'a, D, A>> f
         if !lines.keeps_lines(false) {
             return Ok(0);
         }
-        let passed = lines.pass_escaped(self, text, ending);
+        let passed = match lines.pass_escaped(self, text, ending) {
+            Ok(passed) => passed,
+            Err(_) => return Err(handed_over(lines)),
+        };
         match lines.settle() {
             Ok(()) => Ok(passed),
             Err(fault) => Err(fault),

@@ -1,6 +1,6 @@
 // The sink that hands lines on to a drain.
 
-ghost use Rattle.std.specs.Prelude.{◌≡◌, ◌↔◌, [], ◌<◌, ◌≤◌, length, take, true, false, Bool, List, ℕ, Option, is_err, OnOk, OnErr, IfErr};
+ghost use Rattle.std.specs.Prelude.{◌≡◌, ◌↔◌, [], ◌<◌, ◌≤◌, length, take, true, false, Bool, List, ℕ, Option, is_err, OnOk, OnErr, IfErr, IfOk};
 ghost use Rattle.std.specs.Io.KnownBytes.{Appends};
 ghost use Rattle.rdf_terms.specs.Views.{quad_of};
 ghost use Rattle.rdf_lines.specs.Canonical.{without_crs, written_as};
@@ -26,7 +26,7 @@ use rdf_driver::Reader;
 use rdf_lines::{Escapes, LabelFault, LineBuffer, LineEnding};
 use rdf_terms::{PutFault, QuadRef, QuadSink};
 use rdf_tokens::{Fault, Token};
-use std::alloc::{Allocator, Global};
+use std::alloc::{AllocError, Allocator, Global};
 
 /// The number of bytes that wait for the drain at most, once a line has been put.
 const WAITING_LEN: usize = 65536;
@@ -126,17 +126,18 @@ impl<'a, D: Drain, A: Allocator + Copy> LineOut<'a, D, A> {
         }
     }
 
-    /// Passes lines with any escapes. What is written for them waits.
+    /// Passes lines with any escapes. What is written for them waits, also where memory is refused for more.
     pub(crate) fn pass_escaped<G: Passes<A>>(
         &mut self,
         reader: &mut Reader<G, A>,
         text: &str,
         ending: LineEnding,
-    ) -> usize
-        ensures within { result ≤ length text.now }
+    ) -> Result<usize, AllocError>
+        ensures within { IfOk result (λ n. n ≤ length text.now) }
         ensures same { SameOut self.old self.new }
         ensures drain { self.new.drain.now ≡ self.old.drain.now }
-        ensures passes { RewritesText G.words G.style reader.old (take result text.now) reader.new self.old.buffer.now self.new.buffer.now }
+        ensures passes { IfOk result (λ n. RewritesText G.words G.style reader.old (take n text.now) reader.new self.old.buffer.now self.new.buffer.now) }
+        ensures refused { OnErr result ((n : ℕ) × RewritesText G.words G.style reader.old (take n text.now) reader.new self.old.buffer.now self.new.buffer.now) }
     {
         G::pass_escaped(reader, text, ending, self.buffer)
     }
@@ -147,7 +148,7 @@ impl<'a, D: Drain, A: Allocator + Copy> LineOut<'a, D, A> {
         ensures same { SameOut self.old self.new }
         ensures writes { OnOk result (Writes D.contents self.old [] self.new) }
         ensures live { OnOk result (D.has_failed self.new.drain.now ≡ false) }
-        ensures halts { IfErr result (λ reported. (reported ≡ StreamFault.Write) × PutHalts D.contents D.has_failed reported self.old [] self.new) }
+        ensures halts { IfErr result (λ reported. PutHalts D.contents D.has_failed reported self.old [] self.new) }
     {
         if self.buffer.len() < WAITING_LEN {
             return Ok(());

@@ -1,6 +1,6 @@
 // Grammars whose text can stand as what is written for it.
 
-ghost use Rattle.std.specs.Prelude.{◌≤◌, ◌<◌, length, take};
+ghost use Rattle.std.specs.Prelude.{◌≤◌, ◌<◌, ℕ, length, take, IfOk, OnErr};
 ghost use Rattle.rdf_lines.specs.declared.form.Style.{Style};
 ghost use Rattle.rdf_lines.specs.declared.form.Style.TheVariants.{Kept, Tagged};
 ghost use Rattle.rdf_lines.specs.Canonical.{written_as};
@@ -10,7 +10,7 @@ use memchr::memchr;
 use rdf_driver::{Foresees, Holds, QuadGrammar, Reader};
 use rdf_lines::{LineBuffer, LineEnding, LineGrammar, pass_escaped, pass_lines};
 use rdf_trig::TreeGrammar;
-use std::alloc::Allocator;
+use std::alloc::{AllocError, Allocator};
 
 /// A grammar of which text may be passed that stands as what is written for it.
 pub(crate) trait Passes<A: Allocator + Copy>: QuadGrammar + Foresees + Holds + Drop {
@@ -27,15 +27,16 @@ pub(crate) trait Passes<A: Allocator + Copy>: QuadGrammar + Foresees + Holds + D
         ensures within { result ≤ length text.now }
         ensures passes { PassesText Self.words style (written_as ending (take result text.now)) reader.old (take result text.now) reader.new };
 
-    /// The same of text with any escapes, for which what is written is appended.
+    /// The same of text with any escapes, for which what is written is appended. Where memory is refused, some of it may have been passed.
     fn pass_escaped(
         reader: &mut Reader<Self, A>,
         text: &str,
         ending: LineEnding,
         out: &mut LineBuffer<A>,
-    ) -> usize
-        ensures within { result ≤ length text.now }
-        ensures passes { RewritesText Self.words style reader.old (take result text.now) reader.new out.old out.new };
+    ) -> Result<usize, AllocError>
+        ensures within { IfOk result (λ n. n ≤ length text.now) }
+        ensures passes { IfOk result (λ n. RewritesText Self.words style reader.old (take n text.now) reader.new out.old out.new) }
+        ensures refused { OnErr result ((n : ℕ) × RewritesText Self.words style reader.old (take n text.now) reader.new out.old out.new) };
 }
 
 impl<A: Allocator + Copy> Passes<A> for LineGrammar<A> {
@@ -61,7 +62,7 @@ impl<A: Allocator + Copy> Passes<A> for LineGrammar<A> {
         text: &str,
         ending: LineEnding,
         out: &mut LineBuffer<A>,
-    ) -> usize {
+    ) -> Result<usize, AllocError> {
         pass_escaped(reader, text, ending, out)
     }
 }
@@ -83,7 +84,7 @@ impl<A: Allocator + Copy> Passes<A> for TreeGrammar<A> {
         _: &str,
         _: LineEnding,
         _: &mut LineBuffer<A>,
-    ) -> usize {
-        0
+    ) -> Result<usize, AllocError> {
+        Ok(0)
     }
 }

@@ -14,17 +14,17 @@ returns-in-Some-clause-spelled c =
 pub returns-in-Some-after_byte-clause-spelled : goal.returns-in-Some-after_byte-clause-spelled
 returns-in-Some-after_byte-clause-spelled c =
     let part = c.in_ok-part-2.part in
-    let carets = c.in-Some-after_byte.ensures ∙ ap (λ x. 94 ∷ x) c.in_ok-after_byte.ensures in
+    let carets = c.in-Some-after_byte.ensures ∙ ap (λ x. 94 ∷ x) c.in_ok-skip_byte.ensures in
     subst (λ t. TailSpelled c.args.limit 2 (Typed (chars t)) c.args.text.now part.rest.now) (sym c.new-in-Some-after_byte.ensures)
     (inr (
       refl,
       record {
-        inner = c.in_ok-after_byte.field-0.now;
+        inner = c.in_ok-skip_byte.field-0.now;
         opens = carets;
         spelled = record {
-          inner = c.in_ok-after_byte-2.field-0.now;
-          opens = c.in_ok-after_byte-2.ensures;
-          spelled = plain_spelled c.args.limit part.iri.now c.in_ok-after_byte-2.field-0.now part.rest.now c.in_ok-part-2.ensures.utf8 c.in_ok-part-2.ensures.stands;
+          inner = c.in_ok-skip_byte-2.field-0.now;
+          opens = c.in_ok-skip_byte-2.ensures;
+          spelled = plain_spelled c.args.limit part.iri.now c.in_ok-skip_byte-2.field-0.now part.rest.now c.in_ok-part-2.ensures.utf8 c.in_ok-part-2.ensures.stands;
         };
       },
     ))

@@ -1,57 +1,102 @@
--- What is written for lines with any escapes is put, or a failure to hand it over stops the run, whatever comes after it.
-use Rattle.std.proofs.Common.{◌≡◌, ◌++◌, ◌∙◌, true, false, ap, append_assoc, drop, rules, subst, sym, take}
+-- What is written for lines with any escapes is put. A failure to hand it over, or want of memory for more, stops the run, whatever comes after it.
+use Rattle.std.proofs.Common.{◌≡◌, ◌++◌, ◌∙◌, [], ℕ, Bool, List, Option, false, true, ap, append_assoc, drop, rules, subst, sym, take}
 use Rattle.std.proofs.lemmas.Bool.{false≢true}
 use Rattle.std.proofs.lemmas.List.{append-nil, take-append-drop}
+use Rattle.rdf_terms.specs.Terms.{Quad}
+use Rattle.rdf_driver.specs.Readers.{Driven}
+use Rattle.rdf_driver.specs.Words.{Words}
+use Rattle.rdf_lines.specs.declared.form.Style.{Style}
+use Rattle.rdf_stream.specs.declared.fault.StreamFault.{StreamFault}
+use Rattle.rdf_stream.specs.declared.line_out.LineOut.{LineOut}
 use Rattle.rdf_stream.specs.Converting.{IsPutting, RunHalts}
-use Rattle.rdf_stream.specs.LineOut.{PutHalts, SameOut, Writes}
-use Rattle.rdf_stream.proofs.ConvertingLemmas.{kept_where, live_now, pass_halts, run_passes}
+use Rattle.rdf_stream.specs.LineOut.{OnlyGrows, PutHalts, SameOut}
+use Rattle.rdf_stream.specs.Passes.{RewritesText}
+use Rattle.rdf_stream.specs.WrittenForms.{keeps_lines}
+use Rattle.rdf_stream.proofs.ConvertingLemmas.{kept_where, live_now, run_passes, run_stops}
 use Rattle.rdf_stream.proofs.ConvertsLemmas.{halts_more}
 use Rattle.rdf_stream.proofs.ExpectedLemmas.{stands_unput}
 use Rattle.rdf_stream.proofs.GrowthLemmas.{grows_both, grows_moved, refusal_grows}
-use Rattle.rdf_stream.proofs.LineOutLemmas.{put_sent, rewritten_halts, rewritten_writes, same_out}
+use Rattle.rdf_stream.proofs.LineOutLemmas.{put_sent, rewritten_waits, rewritten_writes, same_out}
 use Rattle.rdf_stream.proofs.conversions.ReaderPartsLineOut.pass_escaped.Goals as goal
+
+-- Some text was passed, and what is written for it waits.
+module _ {G X D A : Type 0} (contents : D → Option (List ℕ)) (failed : D → Bool) (w : Words G X Quad) (style : Style) (reader : Driven G) (first : LineOut D A) (bytes : List ℕ) (old : Driven G) (lines : LineOut D A)
+    (keeps : keeps_lines lines.form false ≡ true) (text : List ℕ) (n : ℕ) (new : Driven G) (mid : LineOut D A) (same : SameOut lines mid) (drain : mid.drain.now ≡ lines.drain.now)
+    (p : RewritesText w style old (take n text) new lines.buffer.now mid.buffer.now) where
+  -- it was put
+  waiting : IsPutting contents failed w style reader first bytes old lines → IsPutting contents failed w style reader first (bytes ++ take n text) new mid
+  waiting i =
+      run_passes contents failed w style reader first bytes old lines i (take n text) p.written (kept_where lines.form false p.written keeps (λ e. absurd (false≢true e))) new p.passes mid same
+      (rewritten_waits contents lines mid p.written drain p.appended) (ap failed drain ∙ live_now contents failed w style reader first bytes old lines i)
+
+  module _ (reported : StreamFault) (after : LineOut D A) (moved : SameOut mid after) (h : PutHalts contents failed reported mid [] after) where
+    -- then the run stops
+    stops : IsPutting contents failed w style reader first bytes old lines → (more : List ℕ) → RunHalts contents failed w reported reader first (bytes ++ (text ++ more)) false after
+    stops i more =
+        let part = take n text in
+        let rest = drop n text in
+        let whole : (bytes ++ part) ++ (rest ++ more) ≡ bytes ++ (text ++ more) = append_assoc bytes part (rest ++ more)
+        ∙ (ap (λ l. bytes ++ l) (sym (append_assoc part rest more)) ∙ ap (λ l. bytes ++ (l ++ more)) (take-append-drop n text)) in
+        subst (λ b. RunHalts contents failed w reported reader first b false after) whole
+        (halts_more contents failed w reported reader first (bytes ++ part) (rest ++ more) after (run_stops contents failed w style reader first (bytes ++ part) new mid (waiting i) reported after moved h))
+
+    -- the drain only grew
+    grown : OnlyGrows contents first lines → OnlyGrows contents first after
+    grown s =
+        grows_both contents first lines after s
+        (grows_both contents lines mid after (grows_moved contents lines mid _ _ same (rewritten_waits contents lines mid p.written drain p.appended)) (refusal_grows contents failed reported mid after [] moved h))
 
 pub settle-requires : goal.settle-requires
 settle-requires g c =
     let (first, bytes, i) = c.requires.begun in
-    record { live = ap g.D.Drain.has_failed c.pass_escaped-passed.ensures.drain ∙ live_now g.D.Drain.contents g.D.Drain.has_failed g.G.Grammar.words g.G.Passes.style first.0 first.1 bytes c.args.self.now c.args.lines.now i }
+    record { live = ap g.D.Drain.has_failed c.pass_escaped.ensures.drain ∙ live_now g.D.Drain.contents g.D.Drain.has_failed g.G.Grammar.words g.G.Passes.style first.0 first.1 bytes c.args.self.now c.args.lines.now i }
 
-pub returns-in-Ok-clause-takes : goal.returns-in-Ok-clause-takes
-returns-in-Ok-clause-takes g c = λ first bytes i.
-    let p = c.pass_escaped-passed.ensures in
-    run_passes g.D.Drain.contents g.D.Drain.has_failed g.G.Grammar.words g.G.Passes.style first.0 first.1 bytes c.args.self.now c.args.lines.now i (take c.pass_escaped-passed.result c.args.text.now) p.passes.written
-    (kept_where c.args.lines.now.form false p.passes.written (search rules) (λ e. absurd (false≢true e))) _ p.passes.passes _
-    (same_out c.args.lines.now c.pass_escaped-passed.new.self c.settle.new.self p.same c.in-Ok.ensures.same) (rewritten_writes g.D.Drain.contents c.args.lines.now c.pass_escaped-passed.new.self c.settle.new.self p.passes.written p.drain p.passes.appended c.in-Ok.ensures.writes) c.in-Ok.ensures.live
+pub handed_over-requires : goal.handed_over-requires
+handed_over-requires g c =
+    let (first, bytes, i) = c.requires.begun in
+    record { live = ap g.D.Drain.has_failed c.pass_escaped.ensures.drain ∙ live_now g.D.Drain.contents g.D.Drain.has_failed g.G.Grammar.words g.G.Passes.style first.0 first.1 bytes c.args.self.now c.args.lines.now i }
 
-pub returns-in-Ok-clause-stays : goal.returns-in-Ok-clause-stays
-returns-in-Ok-clause-stays g c = λ first s.
-    let p = c.pass_escaped-passed.ensures in
-    grows_both g.D.Drain.contents _ _ _ s (grows_moved g.D.Drain.contents _ _ _ _ (same_out c.args.lines.now c.pass_escaped-passed.new.self c.settle.new.self p.same c.in-Ok.ensures.same) (rewritten_writes g.D.Drain.contents c.args.lines.now c.pass_escaped-passed.new.self c.settle.new.self p.passes.written p.drain p.passes.appended c.in-Ok.ensures.writes))
+pub returns-in-Ok-settle-clause-takes : goal.returns-in-Ok-settle-clause-takes
+returns-in-Ok-settle-clause-takes g c = λ first bytes i.
+    let e = c.pass_escaped.ensures in
+    let p = c.in-Ok.ensures.passes in
+    run_passes g.D.Drain.contents g.D.Drain.has_failed g.G.Grammar.words g.G.Passes.style first.0 first.1 bytes c.args.self.now c.args.lines.now i (take c.in-Ok.passed c.args.text.now) p.written
+    (kept_where c.args.lines.now.form false p.written (search rules) (λ e. absurd (false≢true e))) _ p.passes _
+    (same_out c.args.lines.now c.pass_escaped.new.self c.settle.new.self e.same c.settle.ensures.same) (rewritten_writes g.D.Drain.contents c.args.lines.now c.pass_escaped.new.self c.settle.new.self p.written e.drain p.appended c.in-Ok-settle.ensures.writes) c.in-Ok-settle.ensures.live
+
+pub returns-in-Ok-settle-clause-stays : goal.returns-in-Ok-settle-clause-stays
+returns-in-Ok-settle-clause-stays g c = λ first s.
+    let e = c.pass_escaped.ensures in
+    let p = c.in-Ok.ensures.passes in
+    grows_both g.D.Drain.contents _ _ _ s (grows_moved g.D.Drain.contents _ _ _ _ (same_out c.args.lines.now c.pass_escaped.new.self c.settle.new.self e.same c.settle.ensures.same) (rewritten_writes g.D.Drain.contents c.args.lines.now c.pass_escaped.new.self c.settle.new.self p.written e.drain p.appended c.in-Ok-settle.ensures.writes))
+
+pub returns-in-Err-settle-clause-halts : goal.returns-in-Err-settle-clause-halts
+returns-in-Err-settle-clause-halts g c = λ more first bytes i. (
+  stops g.D.Drain.contents g.D.Drain.has_failed g.G.Grammar.words g.G.Passes.style first.0 first.1 bytes c.args.self.now c.args.lines.now (search rules) c.args.text.now c.in-Ok.passed _ c.pass_escaped.new.self c.pass_escaped.ensures.same c.pass_escaped.ensures.drain c.in-Ok.ensures.passes
+      c.in-Err-settle.fault c.settle.new.self c.settle.ensures.same c.in-Err-settle.ensures.halts i more,
+  put_sent g.D.Drain.contents g.D.Drain.has_failed _ _ _ c.in-Err-settle.fault _ c.in-Err-settle.ensures.halts,
+  λ x b. stands_unput g.D.Drain.contents g.D.Drain.has_failed g.G.Grammar.words x first.0.scanner.limit c.in-Err-settle.fault _ _ _ _ _ _ c.in-Err-settle.ensures.halts,
+)
+
+pub returns-in-Err-settle-clause-stays : goal.returns-in-Err-settle-clause-stays
+returns-in-Err-settle-clause-stays g c = λ first s.
+    grown g.D.Drain.contents g.D.Drain.has_failed g.G.Grammar.words g.G.Passes.style first.0 first.1 [] c.args.self.now c.args.lines.now (search rules) c.args.text.now c.in-Ok.passed _ c.pass_escaped.new.self c.pass_escaped.ensures.same c.pass_escaped.ensures.drain c.in-Ok.ensures.passes
+    c.in-Err-settle.fault c.settle.new.self c.settle.ensures.same c.in-Err-settle.ensures.halts s
 
 pub returns-in-Err-clause-halts : goal.returns-in-Err-clause-halts
 returns-in-Err-clause-halts g c = λ more first bytes i.
-    let text = c.args.text.now in
-    let p = c.pass_escaped-passed.ensures in
-    let n = c.pass_escaped-passed.result in
-    let same = same_out c.args.lines.now c.pass_escaped-passed.new.self c.settle.new.self p.same c.in-Err.ensures.same in
-    let reported = rewritten_halts g.D.Drain.contents g.D.Drain.has_failed c.args.lines.now c.pass_escaped-passed.new.self c.settle.new.self p.passes.written c.in-Err.fault p.drain p.passes.appended c.in-Err.ensures.halts in
-    let part = take n text in
-    let rest = drop n text in
-    let halts = pass_halts g.D.Drain.contents g.D.Drain.has_failed g.G.Grammar.words g.G.Passes.style first.0 first.1 bytes c.args.self.now c.args.lines.now i part p.passes.written
-    (kept_where c.args.lines.now.form false p.passes.written (search rules) (λ e. absurd (false≢true e))) _ p.passes.passes c.in-Err.fault _ same reported in
-    let whole : (bytes ++ part) ++ (rest ++ more) ≡ bytes ++ (text ++ more) = append_assoc bytes part (rest ++ more)
-    ∙ (ap (λ l. bytes ++ l) (sym (append_assoc part rest more)) ∙ ap (λ l. bytes ++ (l ++ more)) (take-append-drop n text)) in (
-      subst (λ b. RunHalts g.D.Drain.contents g.D.Drain.has_failed g.G.Grammar.words c.in-Err.fault first.0 first.1 b false c.settle.new.self) whole
-          (halts_more g.D.Drain.contents g.D.Drain.has_failed g.G.Grammar.words c.in-Err.fault first.0 first.1 (bytes ++ part) (rest ++ more) c.settle.new.self halts),
-      put_sent g.D.Drain.contents g.D.Drain.has_failed _ _ _ c.in-Err.fault _ reported,
-      λ x b. stands_unput g.D.Drain.contents g.D.Drain.has_failed g.G.Grammar.words x first.0.scanner.limit c.in-Err.fault _ _ _ _ _ _ reported,
+    let (n, p) = c.in-Err.ensures.refused in (
+      stops g.D.Drain.contents g.D.Drain.has_failed g.G.Grammar.words g.G.Passes.style first.0 first.1 bytes c.args.self.now c.args.lines.now (search rules) c.args.text.now n _ c.pass_escaped.new.self c.pass_escaped.ensures.same c.pass_escaped.ensures.drain p
+          c.handed_over.result c.handed_over.new.lines c.handed_over.ensures.same c.handed_over.ensures.halts i more,
+      put_sent g.D.Drain.contents g.D.Drain.has_failed _ _ _ c.handed_over.result _ c.handed_over.ensures.halts,
+      λ x b. stands_unput g.D.Drain.contents g.D.Drain.has_failed g.G.Grammar.words x first.0.scanner.limit c.handed_over.result _ _ _ _ _ _ c.handed_over.ensures.halts,
     )
 
 pub returns-in-Err-clause-stays : goal.returns-in-Err-clause-stays
 returns-in-Err-clause-stays g c = λ first s.
-    let p = c.pass_escaped-passed.ensures in
-    grows_both g.D.Drain.contents _ _ _ s (refusal_grows g.D.Drain.contents g.D.Drain.has_failed _ _ _ _ (same_out c.args.lines.now c.pass_escaped-passed.new.self c.settle.new.self p.same c.in-Err.ensures.same)
-    (rewritten_halts g.D.Drain.contents g.D.Drain.has_failed c.args.lines.now c.pass_escaped-passed.new.self c.settle.new.self p.passes.written c.in-Err.fault p.drain p.passes.appended c.in-Err.ensures.halts))
+    let (n, p) = c.in-Err.ensures.refused in
+    grown g.D.Drain.contents g.D.Drain.has_failed g.G.Grammar.words g.G.Passes.style first.0 first.1 [] c.args.self.now c.args.lines.now (search rules) c.args.text.now n _ c.pass_escaped.new.self c.pass_escaped.ensures.same c.pass_escaped.ensures.drain p
+    c.handed_over.result c.handed_over.new.lines c.handed_over.ensures.same c.handed_over.ensures.halts s
 
 pub returns-then-not-keeps_lines-clause-takes : goal.returns-then-not-keeps_lines-clause-takes
 returns-then-not-keeps_lines-clause-takes g c = λ first bytes i.
