@@ -1,6 +1,6 @@
 -- What passing text does to a reader, by its grammar.
-use Rattle.std.proofs.Common.{◌≡◌, ℕ, List, [], ◌∷◌, ◌++◌, refl, sym, ap, ◌∙◌, subst}
-use Rattle.std.specs.Prelude.{encode_utf8_all}
+use Rattle.std.proofs.Common.{◌≡◌, ℕ, List, [], ◌∷◌, ◌++◌, refl, sym, ap, ◌∙◌, subst, take}
+use Rattle.std.specs.Prelude.{encode_utf8_all, Result, Ok, Err, OnErr}
 use Rattle.std.proofs.lemmas.List.{append-nil}
 use Rattle.rdf_terms.specs.Terms.{Quad}
 use Rattle.rdf_driver.specs.Readers.{Driven, HasRead}
@@ -67,3 +67,9 @@ lines_rewritten old bytes new before after h = record {
     read = h.passes.read;
   };
 }
+
+-- also where memory was refused
+pub refused_rewritten : {E : Type 0} (r : Result ℕ E) (old : Driven LineAt) (text : List ℕ) (new : Driven LineAt) (before after : List ℕ) →
+    OnErr r ((n : ℕ) × PassesInto old (take n text) new before after) → OnErr r ((n : ℕ) × RewritesText line_words Kept old (take n text) new before after)
+refused_rewritten (Ok x) old text new before after h = tt
+refused_rewritten (Err e) old text new before after h = (h.0, lines_rewritten old (take h.0 text) new before after h.1)

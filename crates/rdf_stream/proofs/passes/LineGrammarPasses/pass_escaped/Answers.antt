@@ -1,9 +1,9 @@
-use Rattle.std.proofs.lemmas.Result.{IfOk-weaker, on_err_weaker}
-use Rattle.rdf_stream.proofs.PassesLemmas.{lines_rewritten}
+use Rattle.std.proofs.lemmas.Result.{IfOk-weaker}
+use Rattle.rdf_stream.proofs.PassesLemmas.{lines_rewritten, refused_rewritten}
 use Rattle.rdf_stream.proofs.passes.LineGrammarPasses.pass_escaped.Goals as goal
 
 pub returns-clause-passes : goal.returns-clause-passes
 returns-clause-passes g c = IfOk-weaker _ _ _ (λ n. lines_rewritten _ _ _ _ _) c.pass_escaped.ensures.passes
 
 pub returns-clause-refused : goal.returns-clause-refused
-returns-clause-refused g c = on_err_weaker _ (λ p. (p.0, lines_rewritten _ _ _ _ _ p.1)) c.pass_escaped.ensures.refused
+returns-clause-refused g c = refused_rewritten _ _ _ _ _ _ c.pass_escaped.ensures.refused
