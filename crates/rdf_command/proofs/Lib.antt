@@ -9,3 +9,4 @@ pub mod OutputLemmas
 pub mod AsideLemmas
 pub mod SeveralLemmas
 pub mod ReasonLemmas
+pub mod BadIriLemmas

@@ -2,6 +2,7 @@
 pub mod Words
 pub mod Addresses
 pub mod Statuses
+pub mod BadIris
 pub mod Reasons
 pub mod Runs
 pub mod Several

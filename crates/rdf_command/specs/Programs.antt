@@ -16,11 +16,12 @@ use Rattle.rdf_command.specs.declared.task.WordsFault.{WordsFault}
 use Rattle.rdf_command.specs.declared.task.WordsFault.TheVariants.{Memory}
 use Rattle.rdf_command.specs.Addresses.{Folders, IsAddress, IsFolderFor, LacksAddress}
 use Rattle.rdf_command.specs.Asides.{EndsBySkip, skip_of}
+use Rattle.rdf_command.specs.BadIris.{RefusesWith, lines_for}
 use Rattle.rdf_command.specs.Outputs.{Outputs}
 use Rattle.rdf_command.specs.Reasons.{Devices, ReportsShut, Shut}
 use Rattle.rdf_command.specs.Runs.{Ending, FilesRead, PrefixesStop}
 use Rattle.rdf_command.specs.Several.{EndsEach, GivesBindings}
-use Rattle.rdf_command.specs.Statuses.{GoesTo, RefusesWords, Reports, address_status, address_text}
+use Rattle.rdf_command.specs.Statuses.{GoesTo, Reports, address_status, address_text}
 use Rattle.rdf_command.specs.Words.{GivesNone, GivesTask, IsUsageOf, TakesFormats, further_of, name_of}
 
 -- These words give the task, as the command line of the program defines it.
@@ -35,13 +36,18 @@ IsNoTaskOf words fault = (formats : ValueParser) × TakesFormats formats × Give
 abbrev pub IsGiven : (List Text → Type 0) → Task → Type 0
 IsGiven has_words t = (words : List Text) × has_words words × IsTaskOf words t
 
--- the words of the command line give no task, for this reason
-abbrev pub GiveNone : (List Text → Type 0) → WordsFault → Type 0
-GiveNone has_words fault = (words : List Text) × has_words words × IsNoTaskOf words fault
+-- These are the lines that report and explain a fault of these words, or there are none.
+abbrev pub IsToldBy : List Text → WordsFault → Option (List ℕ) → Type 0
+IsToldBy words fault lines = (formats : ValueParser) × TakesFormats formats × (lines ≡ lines_for (rdfconv formats) words fault)
+
+-- the words of the command line give no task, for this reason, of which these lines tell where there are any
+abbrev pub GiveNone : (List Text → Type 0) → WordsFault → Option (List ℕ) → Type 0
+GiveNone has_words fault lines = (words : List Text) × has_words words × IsNoTaskOf words fault × IsToldBy words fault lines
 
 -- There is no task: the words give none, one of them is no UTF-8, or memory was refused.
-abbrev pub IsNotGiven : (List Text → Type 0) → Type 0 → WordsFault → Type 0
-IsNotGiven has_words has_bad_word fault = GiveNone has_words fault ⊎ ((has_bad_word × IsUsageOf InvalidValue fault) ⊎ (fault ≡ Memory))
+abbrev pub IsNotGiven : (List Text → Type 0) → Type 0 → WordsFault → Option (List ℕ) → Type 0
+IsNotGiven has_words has_bad_word fault lines =
+    GiveNone has_words fault lines ⊎ ((lines ≡ None) × ((has_bad_word × IsUsageOf InvalidValue fault) ⊎ (fault ≡ Memory)))
 
 -- the name of the file that the task reads, where it reads one
 abbrev pub file_of : Task → Option Text
@@ -133,8 +139,8 @@ TaskEnds folders has_document shut says t = EndsBy t.more.items folders has_docu
 abbrev pub ProgramEnds : (List Text → Type 0) → Type 0 → Folders → (Option Text → Option (List ℕ) → Type 0) → Shut → Outputs → Option FilesRead → Ending → Type 0
 ProgramEnds has_words has_bad_word folders has_document shut says files e =
     ((task : Task) × IsGiven has_words task × TaskEnds folders has_document shut says task files e)
-    ⊎ ((fault : WordsFault) × IsNotGiven has_words has_bad_word fault
-    × RefusesWords fault e.status e.err_old e.err.contents e.err.has_failed × GoesTo fault e.out_old e.out.contents e.err_old e.err.contents)
+    ⊎ ((fault : WordsFault) × (lines : Option (List ℕ)) × IsNotGiven has_words has_bad_word fault lines
+    × RefusesWith lines fault e.status e.err_old e.err.contents e.err.has_failed × GoesTo fault e.out_old e.out.contents e.err_old e.err.contents)
 
 -- what a host tells of files that are to be written
 abbrev pub outputs_of : {H I O : Type 0} → host.Ghosts H I O → H → (Written → Option Text → Type 0) → Outputs

@@ -107,7 +107,8 @@ fn is_plain(byte: u8) -> bool
     byte.is_ascii_alphanumeric() || matches!(byte, b'-' | b'.' | b'_' | b'~' | b'/')
 }
 
-fn hex_digit(value: u8) -> char
+/// A hex digit, a capital where it is a letter.
+pub(crate) fn hex_digit(value: u8) -> char
     requires { value < 16 }
     ensures digit { result ≡ digit_glyph true value }
     ensures ascii { result < 128 }

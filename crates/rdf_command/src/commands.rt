@@ -10,11 +10,13 @@ ghost use Rattle.rdf_lines.specs.declared.form.Escapes.TheVariants.{Ascii, Plain
 ghost use Rattle.rdf_iri.specs.Texts.{byte_len};
 ghost use Rattle.rdf_options.specs.Options.{rdfconv};
 ghost use Rattle.rdf_stream.specs.Skips.{HasLines};
-ghost use Rattle.rdf_command.specs.Programs.{IsTaskOf, IsNoTaskOf};
+ghost use Rattle.rdf_command.specs.BadIris.{IsOfIri, lines_by, lines_for, lines_of};
+ghost use Rattle.rdf_command.specs.Programs.{IsTaskOf, IsNoTaskOf, IsToldBy};
 ghost use Rattle.rdf_command.specs.Words.{GivesNone, GivesTask, HasLimits, HasNumber, HasSizes, IsBase, IsEntered, IsTaskBy, IsUsageOf, IsWord, number_of};
 ghost use Rattle.rdf_command.specs.Words.{NoBaseOf, NoFormOf, NoFormsOf, NoGraphOf, NoSkipOf, NoTaskBy, NoWordOf, SkipFits, base_by, escapes_by, file_by, is_addressed, is_given};
 ghost use Rattle.rdf_command.specs.Words.{AreDocuments, CanSkip, IsFormBy, IsFormatWord, format_names, further_by, further_of, name_by};
 
+use crate::bad_iris::bad_iri_lines;
 use crate::names::{FORMATS, action_of, form_by};
 use crate::task::{Document, Task, WordsFault};
 use clap::error::ErrorKind;
@@ -69,6 +71,79 @@ fn command_by<'a>(
     let task = task_of(alloc, name, found);
     drop(matches);
     task
+}
+
+/// The lines that report and explain a fault of the words, where they ask for that and the fault is a text that is no IRI.
+/// There are none where memory for them is refused.
+pub fn lines_for<'a>(alloc: Global, words: &'a [&'a str], fault: &WordsFault) -> Option<Vec<u8>>
+    ensures told { IfSome result (λ lines. IsToldBy (map (λ s. s.now) words.entry.now) fault.now (Some lines.items)) }
+    ensures iri { IfSome result (λ _. IsOfIri fault.now) }
+{
+    match fault {
+        WordsFault::BadBase | WordsFault::BadGraph => {
+            lines_by(alloc, words, FORMATS.as_slice(), fault).ok()?
+        }
+        _ => None,
+    }
+}
+
+// The same by a parse, or the fault of that.
+fn lines_by<'a>(
+    alloc: Global,
+    words: &'a [&'a str],
+    formats: &'a [&'a str],
+    fault: &WordsFault,
+) -> Result<Option<Vec<u8>>, WordsFault>
+    requires { map (λ s. s.now) formats.now ≡ format_names }
+    ensures { IfOk result (λ lines. option_map (λ l. l.items) lines ≡ lines_for (rdfconv (Names formats.entry)) (map (λ s. s.now) words.entry.now) fault.now) }
+{
+    let matches = program(alloc, formats)?.try_get_matches_from(words)?;
+    let (_, found) = matches.subcommand().unwrap();
+    let lines = lines_in(alloc, found, fault);
+    drop(matches);
+    Ok(lines?)
+}
+
+// The same by the matches of a subcommand.
+fn lines_in(
+    alloc: Global,
+    found: &ArgMatches<'_>,
+    fault: &WordsFault,
+) -> Result<Option<Vec<u8>>, AllocError>
+    requires { HasLimits (rows_of (found_of found.now)) }
+    ensures { IfOk result (λ lines. option_map (λ l. l.items) lines ≡ lines_by (rows_of (found_of found.now)) fault.now) }
+{
+    if !is_given(found.get_str("explain")) {
+        return Ok(None);
+    }
+    let most = limit_of(found, "iri");
+    match fault {
+        WordsFault::BadBase => lines_of(
+            alloc,
+            b"rdfconv: bad base\n",
+            base_by(found.get_str("base")),
+            most,
+        ),
+        WordsFault::BadGraph => {
+            lines_of(alloc, b"rdfconv: bad graph\n", found.get_str("graph"), most)
+        }
+        _ => Ok(None),
+    }
+}
+
+// The same of this text, where there is one.
+fn lines_of(
+    alloc: Global,
+    line: &[u8],
+    text: Option<&str>,
+    most: u64,
+) -> Result<Option<Vec<u8>>, AllocError>
+    ensures { IfOk result (λ lines. option_map (λ l. l.items) lines ≡ lines_of line.now (option_map (λ s. s.now) text.entry) (Some most)) }
+{
+    match text {
+        Some(text) => Ok(Some(bad_iri_lines(alloc, line, text, most)?)),
+        None => Ok(None),
+    }
 }
 
 fn task_of(alloc: Global, name: &str, found: &ArgMatches<'_>) -> Result<Task, WordsFault>

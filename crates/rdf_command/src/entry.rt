@@ -1,23 +1,24 @@
 // The whole program, over what it is started with.
 
-ghost use Rattle.std.specs.Prelude.{◌≡◌, ◌⊎◌, ◌≤◌, false, IfErr, IfOk, IfSome, List, map, option_map, Some, string_bytes};
+ghost use Rattle.std.specs.Prelude.{◌≡◌, ◌⊎◌, ◌≤◌, false, IfErr, IfOk, IfSome, List, map, Option, option_map, Some, string_bytes, ℕ};
 ghost use Rattle.clap.specs.Words.{Text};
 ghost use Rattle.rdf_iri.specs.Scope.{BaseFits};
 ghost use Rattle.std.specs.Result.{IsErrOf};
 ghost use Rattle.rdf_iri.specs.Texts.{byte_len};
 ghost use Rattle.rdf_command.specs.Addresses.{IsAddress, LacksAddress};
-ghost use Rattle.rdf_command.specs.Programs.{HasPrefixes, HostEnds, IsGiven, IsNotGiven, OneEnds, OneEndsAt, TaskEnds, file_of, folders_of, outputs_of, prefixes_of, shut_of};
+ghost use Rattle.rdf_command.specs.BadIris.{IsOfIri};
+ghost use Rattle.rdf_command.specs.Programs.{HasPrefixes, HostEnds, IsGiven, IsNotGiven, IsNoTaskOf, IsTaskOf, IsToldBy, OneEnds, OneEndsAt, TaskEnds, file_of, folders_of, outputs_of, prefixes_of, shut_of};
 ghost use Rattle.rdf_command.specs.Reasons.{devices_of, drain_tells};
 ghost use Rattle.rdf_command.specs.Runs.{AreFresh, AsWritten, files_told};
 ghost use Rattle.rdf_command.specs.Words.{SkipFits};
 
 use crate::addresses::address_within;
-use crate::commands::{command_of, name_by, not_utf8};
+use crate::commands::{command_of, lines_for, name_by, not_utf8};
 use crate::explains::Explains;
 use crate::host::{Host, NoFolder, NoWords, NotOpen};
 use crate::output::run_over;
 use crate::reasons::refuse_file;
-use crate::reports::{refuse_address, refuse_words};
+use crate::reports::{Refusal, refuse_address, refuse_task};
 use crate::runs::Files;
 use crate::several::check_each;
 use crate::task::{Task, WordsFault};
@@ -48,27 +49,49 @@ pub fn start<H: Host, O: Drain + Explains, E: Drain>(
 {
     match task_of(alloc, host) {
         Ok(task) => run_task(alloc, task, host, out, err),
-        Err(fault) => Ended {
-            status: refuse_words(alloc, &fault, out, err),
+        Err(refusal) => Ended {
+            status: refuse_task(alloc, &refusal, out, err),
             files: None,
         },
     }
 }
 
 // The task of the command line. A word that is no UTF-8 makes it no command.
-fn task_of<H: Host>(alloc: Global, host: &H) -> Result<Task, WordsFault>
+fn task_of<H: Host>(alloc: Global, host: &H) -> Result<Task, Refusal>
     ensures base { IfOk result (λ task. BaseFits task.base task.limits) }
     ensures skip { IfOk result SkipFits }
     ensures task { IfOk result (IsGiven (H.has_words host.now)) }
-    ensures refused { IfErr result (IsNotGiven (H.has_words host.now) (H.has_bad_word host.now)) }
+    ensures refused { IfErr result (λ refusal. (lines : Option (List ℕ)) × IsNotGiven (H.has_words host.now) (H.has_bad_word host.now) refusal.fault lines
+        × IfSome refusal.lines (λ told. lines ≡ Some told.items)) }
+    ensures lines { IfErr result (λ refusal. IfSome refusal.lines (λ _. IsOfIri refusal.fault)) }
 {
     let words = match host.words(alloc) {
         Ok(words) => words,
-        Err(NoWords::NotUtf8) => return Err(not_utf8(alloc)),
-        Err(NoWords::Memory) => return Err(WordsFault::Memory),
+        Err(NoWords::NotUtf8) => return Err(Refusal::unexplained(not_utf8(alloc))),
+        Err(NoWords::Memory) => return Err(Refusal::unexplained(WordsFault::Memory)),
     };
-    let texts = texts_of(alloc, words.as_slice())?;
-    command_of(alloc, texts.as_slice())
+    match texts_of(alloc, words.as_slice()) {
+        Ok(texts) => task_in(alloc, texts.as_slice()),
+        Err(AllocError) => Err(Refusal::unexplained(WordsFault::Memory)),
+    }
+}
+
+// The task of a command line of these words.
+fn task_in<'a>(alloc: Global, words: &'a [&'a str]) -> Result<Task, Refusal>
+    ensures base { IfOk result (λ task. BaseFits task.base task.limits) }
+    ensures skip { IfOk result SkipFits }
+    ensures task { IfOk result (IsTaskOf (map (λ s. s.now) words.entry.now)) }
+    ensures refused { IfErr result (λ refusal. (lines : Option (List ℕ)) × IsNoTaskOf (map (λ s. s.now) words.entry.now) refusal.fault
+        × IsToldBy (map (λ s. s.now) words.entry.now) refusal.fault lines × IfSome refusal.lines (λ told. lines ≡ Some told.items)) }
+    ensures lines { IfErr result (λ refusal. IfSome refusal.lines (λ _. IsOfIri refusal.fault)) }
+{
+    match command_of(alloc, words) {
+        Ok(task) => Ok(task),
+        Err(fault) => {
+            let lines = lines_for(alloc, words, &fault);
+            Err(Refusal { fault, lines })
+        }
+    }
 }
 
 fn texts_of(alloc: Global, words: &[String]) -> Result<Vec<&str>, AllocError>

@@ -3,6 +3,7 @@
 
 mod addresses;
 mod asides;
+mod bad_iris;
 mod commands;
 mod entry;
 mod explains;

@@ -1,8 +1,9 @@
 // Why a document was not accepted, and what is reported.
 
-ghost use Rattle.std.specs.Prelude.{◌≡◌, ◌⊎◌, ◌++◌, false, codes, decimal, IfOk, OnErr, OnOk};
+ghost use Rattle.std.specs.Prelude.{◌≡◌, ◌⊎◌, ◌++◌, false, codes, decimal, IfOk, IfSome, None, OnErr, OnOk, option_map};
 ghost use Rattle.rdf_stream.specs.Messages.{report_text};
 ghost use Rattle.rdf_stream.specs.declared.fault.StreamFault.{StreamFault};
+ghost use Rattle.rdf_command.specs.BadIris.{IsOfIri, RefusesWith};
 ghost use Rattle.rdf_command.specs.Statuses.{GoesTo, RefusesWords, Reports, ReportsExplained, ReportsExplainedOf, ReportsLoad, ReportsNoAddressOf, ReportsOf, address_status, address_text, explanation, load_status};
 ghost use Rattle.rdf_command.specs.Statuses.{ReportsCounts, counts_text, no_format_text, prefixes_text, skip_status, status_of};
 
@@ -22,6 +23,25 @@ pub struct Stop {
     pub fault: StreamFault,
     /// What is known of it, to explain it.
     pub evidence: Evidence<Near>,
+}
+
+/// Why the words are no task.
+#[derive(Drop)]
+pub struct Refusal {
+    /// The fault.
+    pub fault: WordsFault,
+    /// The lines that report and explain it, where that is asked for and there is memory for them.
+    pub lines: Option<Vec<u8>>,
+}
+
+impl Refusal {
+    /// A fault that is not explained.
+    pub fn unexplained(fault: WordsFault) -> Refusal
+        ensures fault { result.fault ≡ fault }
+        ensures lines { result.lines ≡ None }
+    {
+        Refusal { fault, lines: None }
+    }
 }
 
 /// The status of a fault.
@@ -222,6 +242,28 @@ pub fn refuse_address_of<E: Drain>(alloc: Global, name: &str, fault: TermFault, 
             2
         }
         TermFault::Memory => tell_memory(err),
+    }
+}
+
+/// The text and the status of words that are no task, or the lines that report and explain it. Help goes to the output.
+pub fn refuse_task<O: Drain, E: Drain>(
+    alloc: Global,
+    refusal: &Refusal,
+    out: &mut O,
+    err: &mut E,
+) -> u8
+    requires lines { IfSome refusal.now.lines (λ _. IsOfIri refusal.now.fault) }
+    requires out { O.has_failed out.old ≡ false }
+    requires err { E.has_failed err.old ≡ false }
+    ensures status { RefusesWith (option_map (λ l. l.items) refusal.now.lines) refusal.now.fault result (E.contents err.old) (E.contents err.new) (E.has_failed err.new) }
+    ensures goes { GoesTo refusal.now.fault (O.contents out.old) (O.contents out.new) (E.contents err.old) (E.contents err.new) }
+{
+    match &refusal.lines {
+        Some(lines) => {
+            tell_bytes(lines.as_slice(), err);
+            2
+        }
+        None => refuse_words(alloc, &refusal.fault, out, err),
     }
 }
 

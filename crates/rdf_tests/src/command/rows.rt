@@ -298,7 +298,7 @@ pub(crate) static FILES: [(&str, &str); 12] = [
     ("broken.txt", "ex: http://e/\n"),
 ];
 
-pub(crate) static STARTED: [Started; 48] = [
+pub(crate) static STARTED: [Started; 52] = [
     Started {
         line: "rdfconv show x x x x x x x x x x x x x x x x x x x x x x x x x x x x x x x x x x x x x x x x x x x x x x x x",
         status: 2,
@@ -478,6 +478,30 @@ pub(crate) static STARTED: [Started; 48] = [
         status: 2,
         written: "/a/../é.ttl: accepted, 1 quads, 13 bytes\ndata.nt: accepted, 1 quads, 18 bytes\n",
         reported: "-: bad base\né~+.ttl: bad base\n",
+    },
+    Started {
+        line: "rdfconv convert --explain --base=http://é/\tb<",
+        status: 2,
+        written: "",
+        reported: "rdfconv: bad base\nhttp://é/\u{FFFD}b<: U+0009 after 10 bytes can't stand in an IRI\n",
+    },
+    Started {
+        line: "rdfconv convert --graph a:<b> --explain",
+        status: 2,
+        written: "",
+        reported: "rdfconv: bad graph\na:<b>: \"<\" after 2 bytes can't stand in an IRI\n",
+    },
+    Started {
+        line: "rdfconv show --explain --base é",
+        status: 2,
+        written: "",
+        reported: "rdfconv: bad base\né: it has no scheme\n",
+    },
+    Started {
+        line: "rdfconv check --iri=9 --base=http://a/b --explain",
+        status: 2,
+        written: "",
+        reported: "rdfconv: bad base\nhttp://a/b: IRI too long; the limit is 9\n",
     },
     Started {
         line: "rdfconv convert --format name data.nt",
