@@ -19,6 +19,7 @@ pub mod EscapeWalksLemmas
 pub mod BadEscapesLemmas
 pub mod SightLemmas
 pub mod SightPlaces
+pub mod BracketLemmas
 pub mod ChecksLemmas
 pub mod TokenWordsLemmas
 pub mod TokenOutLemmas

@@ -12,10 +12,15 @@ use Rattle.rdf_stream.specs.declared.fault.StreamFault.TheVariants.{Refused, Rea
 use Rattle.rdf_stream.specs.declared.watch.Watching.{Watching}
 use Rattle.rdf_stream.specs.declared.watch.Words.{Words}
 use Rattle.rdf_stream.specs.Devices.{HasGiven, Reading}
-use Rattle.rdf_stream.specs.Watches.{Follows, IsNearFault, WatchesAll}
+use Rattle.rdf_terms.specs.declared.kind.Dialect.{Dialect}
+use Rattle.rdf_tokens.specs.Good.{tokens_of}
+use Rattle.rdf_stream.specs.declared.brackets.Opened.{Opened}
+use Rattle.rdf_stream.specs.declared.brackets.TokenPlace.{TokenPlace}
+use Rattle.rdf_stream.specs.Brackets.{IsOpenBefore}
+use Rattle.rdf_stream.specs.Watches.{Follows, IsNearFault, IsToldOf, WatchesAll}
 use Rattle.rdf_stream.specs.declared.watch.Nearby.{Nearby}
 use Rattle.rdf_stream.specs.declared.watch.Nearby.TheVariants.{Unasked, Asked, Told}
-use Rattle.rdf_stream.specs.Places.{HandsOut, IsNear, NearRead, TellsNear, column_after, is_feed, goes_on, last_of, line_after, next_column, reach}
+use Rattle.rdf_stream.specs.Places.{HandsOut, IsNear, IsOpenBracket, NearRead, TellsNear, column_after, is_feed, goes_on, last_of, line_after, next_column, reach}
 
 pub column_append : (n : ℕ) (u v : List ℕ) → column_after n (u ++ v) ≡ column_after (column_after n u) v
 column_append n [] v = refl
@@ -99,6 +104,13 @@ moved_front w n l =
     let all : 0 + (length w - n) ≡ length w - n = omega arith in
     ap (λ m. take m (copy_within w n (length w) 0)) (sym all)
     ∙ (take-paste w 0 (drop n w) (length w - n) (omega arith) (omega (arith, size)) ∙ take_all (length w - n) (drop n w) (omega (arith, size)))
+
+-- what is told of a bracket holds of the innermost that is open
+pub told_open : (d : Dialect) (limit : ℕ) (bytes : List ℕ) (is_end : Bool) (offset : ℕ) (bracket : Option TokenPlace) (told : Option Opened) →
+    IfSome bracket (IsOpenBefore (tokens_of d limit bytes is_end) offset) → IsToldOf bytes bracket told → IfSome told (IsOpenBracket d limit bytes is_end offset)
+told_open d limit bytes is_end offset None told h t = subst (λ o. IfSome o (IsOpenBracket d limit bytes is_end offset)) (sym t) tt
+told_open d limit bytes is_end offset (Some place) None h t = tt
+told_open d limit bytes is_end offset (Some place) (Some told) h t = record { place = place; before = h; tells = t }
 
 -- what is handed out holds of what was asked for
 pub hands_out : (old mid new : Nearby NearRead) (told : Option NearRead) (tells : NearRead → Type 0) →

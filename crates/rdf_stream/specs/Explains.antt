@@ -5,11 +5,12 @@ use Rattle.std.specs.Borrow.{Bor}
 use Rattle.std.specs.List.{list_all}
 use Rattle.rdf_iri.specs.Limits.{Sizes}
 use Rattle.rdf_terms.specs.declared.reason.Reason.{Reason}
-use Rattle.rdf_terms.specs.declared.reason.Reason.TheVariants.{NoToken, BadEscape as Bad, TokenTooLong, IriTooLong, TooDeep, TooManyBindings, Unbound, NoBase, RelativeIri}
+use Rattle.rdf_terms.specs.declared.reason.Reason.TheVariants.{NoToken, BadEscape as Bad, TokenTooLong, IriTooLong, TooDeep, TooManyBindings, Unbound, NoBase, RelativeIri, Unexpected}
 use Rattle.rdf_terms.specs.declared.kind.Kind.{Kind}
 use Rattle.rdf_terms.specs.declared.kind.Kind.TheVariants.{IriRef, LabelNode, ShortString, LongString, LangTag, Carets, Dot, LineEnd, Integer, Decimal, Double, True, False, A, AtPrefix, AtBase, Prefix, Base, Graph, PnameNs, PnameLn, Semicolon, Comma, OpenBracket, CloseBracket, OpenParen, CloseParen, OpenBrace, CloseBrace, End}
 use Rattle.rdf_tokens.specs.declared.token.Fault.{Fault}
 use Rattle.rdf_driver.specs.Kinds.{has}
+use Rattle.rdf_stream.specs.declared.brackets.Opened.{Opened}
 use Rattle.rdf_stream.specs.declared.causes.Cause.{Cause}
 use Rattle.rdf_stream.specs.declared.explains.Evidence.{Evidence}
 use Rattle.rdf_stream.specs.declared.sight.Sight.{Sight}
@@ -129,6 +130,25 @@ abbrev pub front_text : List ℕ → ℕ → Nearby NearRead → List ℕ
 front_text name line (Told near) = name ++ codes ":" ++ decimal line ++ codes ":" ++ decimal near.column ++ codes ": "
 front_text name line near = name ++ codes ":" ++ decimal line ++ codes ": "
 
+-- a column, where it is told
+abbrev pub column_text : Option ℕ → List ℕ
+column_text None = []
+column_text (Some n) = codes ", column " ++ decimal n
+
+-- a bracket that is open, and where it was opened
+abbrev pub opened_text : Opened → List ℕ
+opened_text bracket = codes "; " ++ word_of bracket.kind ++ codes " is open since line " ++ decimal bracket.line ++ column_text bracket.column
+
+-- the innermost bracket that is open before an unexpected token
+abbrev pub open_by : Reason → Option Opened → List ℕ
+open_by Unexpected (Some bracket) = opened_text bracket
+open_by reason bracket = []
+
+-- the same where it is told
+abbrev pub open_text : Reason → Nearby NearRead → List ℕ
+open_text reason (Told near) = open_by reason near.bracket
+open_text reason near = []
+
 -- after how many bytes a token stops that begins there
 abbrev pub stopped_text : ℕ → List ℕ
 stopped_text n = codes ": it stops after " ++ decimal n ++ codes " bytes"
@@ -201,10 +221,11 @@ shown_text name f (Told near) =
     ++ cause_text (front_text name f.line (Told near)) (cause_of f.reason f.offset near.before near.after)
 shown_text name f near = []
 
--- what is said of it: why the document is refused, what stands there, what could have stood there, where a token stops, and the limit that is passed
+-- what is said of it: why the document is refused, what stands there, what could have stood there, which bracket is open, where a token stops, and the
+-- limit that is passed
 abbrev pub told_text : Reason → Evidence NearRead → List ℕ
 told_text reason e =
-    reason_text reason ++ found_text e.details.found ++ expected_text e.details.expected ++ sight_text reason e.near
+    reason_text reason ++ found_text e.details.found ++ expected_text e.details.expected ++ open_text reason e.near ++ sight_text reason e.near
     ++ limit_text (limit_of reason e.limits)
 
 -- The lines, each with its LF: the name of the document and the place with what is said of the refusal; the line near the place; and the likely cause.

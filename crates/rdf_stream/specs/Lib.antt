@@ -19,6 +19,7 @@ pub mod Signs
 pub mod Causes
 pub mod BadEscapes
 pub mod Sights
+pub mod Brackets
 pub mod Shows
 pub mod Loads
 -- what need not be: functions that compute, machines and states, what the code's side speaks of, and the laws
@@ -26,6 +27,7 @@ pub mod GraphTexts
 pub mod Outputs
 pub mod LineOut
 pub mod Kept
+pub mod Opening
 pub mod Watches
 pub mod EscapeWalks
 pub mod Pieces

@@ -1,13 +1,17 @@
 -- The place of a refusal in its line, and the bytes of that line near it.
 use Prim.Native.Char.{code}
-use Rattle.std.specs.Prelude.{◌≡◌, ◌≤◌, ℕ, ◌+◌, ◌-◌, ◌/◌, ◌==◌, Bool, true, false, cond, List, [], ◌∷◌, ◌++◌, length, take, drop, Option, Result, Err}
+use Rattle.std.specs.Prelude.{◌≡◌, ◌≤◌, ℕ, ◌+◌, ◌-◌, ◌/◌, ◌==◌, Bool, true, false, cond, List, [], ◌∷◌, ◌++◌, length, take, drop, Option, IfSome, Result, Err}
 use Rattle.rdf_terms.specs.declared.kind.Dialect.{Dialect}
+use Rattle.rdf_tokens.specs.Good.{tokens_of}
 use Rattle.rdf_driver.specs.declared.summary.Summary.{Summary}
 use Rattle.rdf_stream.specs.Devices.{HasGiven, Reading}
 use Rattle.rdf_stream.specs.declared.fault.StreamFault.{StreamFault}
 use Rattle.rdf_stream.specs.declared.fault.StreamFault.TheVariants.{Refused}
 use Rattle.rdf_stream.specs.declared.sight.Sight.{Sight}
 use Rattle.rdf_stream.specs.Sights.{IsSight}
+use Rattle.rdf_stream.specs.Brackets.{IsOpenBefore}
+use Rattle.rdf_stream.specs.declared.brackets.Opened.{Opened}
+use Rattle.rdf_stream.specs.declared.brackets.TokenPlace.{TokenPlace}
 use Rattle.rdf_stream.specs.declared.watch.Nearby.{Nearby}
 use Rattle.rdf_stream.specs.declared.watch.Nearby.TheVariants.{Unasked, Asked, Told}
 
@@ -46,21 +50,36 @@ reach = 244
 abbrev pub last_of : ℕ → List ℕ → List ℕ
 last_of n bs = drop (length bs - n) bs
 
--- a place of a document: its column, in characters from 1 on; the bytes of its line in front of it and from it on; and what stands there
+-- a place of a document: its column, in characters from 1 on; the bytes of its line in front of it and from it on; what stands there; and the
+-- innermost bracket that is open, where it is told
 pub record NearRead : Type 0 where
   pub column : ℕ
   pub before : List ℕ
   pub after : List ℕ
   pub sight : Sight
+  pub bracket : Option Opened
+
+-- A bracket as it is told: its kind, its line, and its column, where this is told.
+pub record IsTold (bytes : List ℕ) (place : TokenPlace) (told : Opened) : Type 0 where
+  pub kind : told.kind ≡ place.kind
+  pub line : told.line ≡ place.line
+  pub column : IfSome told.column (λ n. n ≡ column_after 1 (take place.offset bytes))
+
+-- The innermost bracket that is open before the token at this byte.
+pub record IsOpenBracket (dialect : Dialect) (limit : ℕ) (bytes : List ℕ) (is_end : Bool) (offset : ℕ) (told : Opened) : Type 0 where
+  pub place : TokenPlace
+  pub before : IsOpenBefore (tokens_of dialect limit bytes is_end) offset place
+  pub tells : IsTold bytes place told
 
 -- The bytes of a document, as far as they have come, have a place there: its column, the bytes of its line near it, and what stands there, where the bytes
--- from there on are read by themselves.
+-- from there on are read by themselves; where a bracket is told, it is the innermost that is open before the token at the place.
 pub record IsNear (dialect : Dialect) (limit : ℕ) (bytes : List ℕ) (is_end : Bool) (offset : ℕ) (near : NearRead) : Type 0 where
   pub within : offset ≤ length bytes
   pub column : near.column ≡ column_after 1 (take offset bytes)
   pub before : near.before ≡ last_of reach (line_after [] (take offset bytes))
   pub after : near.after ≡ take reach (line_rest (drop offset bytes))
   pub sight : IsSight dialect limit (drop offset bytes) is_end near.sight
+  pub bracket : IfSome near.bracket (IsOpenBracket dialect limit bytes is_end offset)
 
 -- What is told of the place of a refusal, by the bytes that the source gave; of no other fault is anything told.
 abbrev pub TellsNear : Dialect → ℕ → Result Summary StreamFault → Option (List ℕ) → Reading → NearRead → Type 0

@@ -1,5 +1,5 @@
 -- What a run keeps of the bytes that it has read, and what it tells of the place of a refusal.
-use Rattle.std.specs.Prelude.{◌≡◌, ℕ, Bool, List, Option, None, IfSome}
+use Rattle.std.specs.Prelude.{◌≡◌, ℕ, Bool, List, Option, None, Some, IfSome}
 use Rattle.std.specs.Io.KnownBytes.{Consumes}
 use Rattle.rdf_stream.specs.declared.fault.StreamFault.{StreamFault}
 use Rattle.rdf_stream.specs.declared.fault.StreamFault.TheVariants.{Refused}
@@ -7,11 +7,19 @@ use Rattle.rdf_stream.specs.declared.watch.Watching.{Watching}
 use Rattle.rdf_stream.specs.declared.watch.Words.{Words}
 use Rattle.rdf_stream.specs.Devices.{Reading}
 use Rattle.rdf_stream.specs.Kept.{Watches}
-use Rattle.rdf_stream.specs.Places.{IsNear, NearRead}
+use Rattle.rdf_stream.specs.Places.{IsNear, IsTold, NearRead}
+use Rattle.rdf_stream.specs.Opening.{HasOpen}
+use Rattle.rdf_stream.specs.declared.brackets.Opened.{Opened}
+use Rattle.rdf_stream.specs.declared.brackets.TokenPlace.{TokenPlace}
 
--- so it is where something is kept
+-- so it is where something is kept, and so it is of the brackets where they are kept
 abbrev pub WatchesAll : {A : Type 0} → Watching A → List ℕ → Type 0
-WatchesAll w bytes = IfSome w.watch (λ watch. Watches watch bytes)
+WatchesAll w bytes = IfSome w.watch (λ watch. Watches watch bytes × IfSome w.brackets (λ b. HasOpen b w.words.dialect w.words.limit bytes))
+
+-- what is told of a bracket that is open, where one is
+abbrev pub IsToldOf : List ℕ → Option TokenPlace → Option Opened → Type 0
+IsToldOf bytes None told = told ≡ None
+IsToldOf bytes (Some place) told = IfSome told (IsTold bytes place)
 
 -- a refusal, and what is told of its place
 abbrev pub IsNearFault : Words → StreamFault → List ℕ → Bool → NearRead → Type 0

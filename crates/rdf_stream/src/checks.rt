@@ -120,7 +120,12 @@ fn check_with<A: Allocator + Copy, G: Passes<A>, S: Source>(
     let asked = near.ask_again();
     let mut piece = piece_buffer(alloc)?;
     let mut reader = reader;
-    let mut watching = Watching::new(alloc, Words::new(reader.grammar().dialect(), limit), asked);
+    let mut watching = Watching::new(
+        alloc,
+        Words::new(reader.grammar().dialect(), limit),
+        asked,
+        true,
+    );
     let result = read_pieces(
         source,
         piece.as_mut_slice(),

@@ -150,7 +150,12 @@ fn convert_with<A: Allocator + Copy, G: Passes<A>, S: Source, D: Drain>(
     let mut reader = reader;
     let mut buffer = LineBuffer::new(alloc);
     let mut lines = LineOut::new(output, &mut buffer, drain);
-    let mut watching = Watching::new(alloc, Words::new(reader.grammar().dialect(), limit), asked);
+    let mut watching = Watching::new(
+        alloc,
+        Words::new(reader.grammar().dialect(), limit),
+        asked,
+        true,
+    );
     let result = read_pieces(
         source,
         piece.as_mut_slice(),

@@ -3,8 +3,9 @@
 ghost use Rattle.std.specs.Prelude.{◌≡◌, ◌||◌, ◌&&◌, ◌++◌, IfOk, OnOk, Some, drop, length, not, option_map};
 ghost use Rattle.rdf_driver.specs.Kinds.{has};
 ghost use Rattle.std.specs.List.{list_all};
-ghost use Rattle.rdf_stream.specs.Explains.{between, escape_len, escape_text, expected_text, explain_text, found_text, front_text, is_graphic, limit_of, limit_text, listed, name_of, note_text, only_said, quoted_text, said, shown_text, sight_text, stop_text, stopped_text, texts_of, told_text, word_of, words_for};
+ghost use Rattle.rdf_stream.specs.Explains.{between, escape_len, escape_text, expected_text, explain_text, found_text, front_text, is_graphic, limit_of, limit_text, listed, name_of, note_text, column_text, open_text, opened_text, only_said, quoted_text, said, shown_text, sight_text, stop_text, stopped_text, texts_of, told_text, word_of, words_for};
 
+use crate::brackets::Opened;
 use crate::causes::{Cause, advice, cause_of};
 use crate::excerpt::put_excerpt;
 use crate::expected::Details;
@@ -30,8 +31,8 @@ pub struct Evidence<N> {
 
 /// The lines that explain the refusal of the document of this name, each with its LF. The first has the form that editors read: the
 /// name, the line and the column of the place, where that is told; why the document is refused; the kind of the token that stands
-/// there, where it was found, and the kinds of tokens that could have stood there, where there are any; where a token stops, its bad
-/// escape, or what the name or the reference is; and the limit that is passed. Where the place is told, its line follows with a caret, and what mostly
+/// there, where it was found, and the kinds of tokens that could have stood there, where there are any; the innermost bracket that is open before
+/// an unexpected token, where it is told; where a token stops, its bad escape, or what the name or the reference is; and the limit that is passed. Where the place is told, its line follows with a caret, and what mostly
 /// causes such a refusal, where the bytes there tell it.
 pub fn explain<A: Allocator + Copy>(
     alloc: A,
@@ -60,6 +61,7 @@ fn put_words<A: Allocator + Copy>(
     line.extend_from_slice(words(reason).as_bytes())?;
     put_found(evidence.details.found, line)?;
     put_expected(evidence.details.expected, line)?;
+    put_open(reason, &evidence.near, line)?;
     put_sight(reason, &evidence.near, line)?;
     put_limit(limit_of(reason, evidence.limits), line)?;
     Ok(())
@@ -103,6 +105,48 @@ fn put_sight<A: Allocator + Copy>(
             put_quoted(name_of(near.after.as_slice(), len), line)
         }
         _ => Ok(()),
+    }
+}
+
+// The innermost bracket that is open before an unexpected token, where it is told.
+fn put_open<A: Allocator + Copy>(
+    reason: Reason,
+    near: &Nearby<Near<A>>,
+    line: &mut Vec<u8, A>,
+) -> Result<(), AllocError>
+    ensures { OnOk result (line.new.items ≡ line.old.items ++ open_text reason near.now) }
+{
+    let Nearby::Told(near) = near else {
+        return Ok(())
+    };
+    match (reason, near.bracket) {
+        (Reason::Unexpected, Some(bracket)) => put_opened(bracket, line),
+        _ => Ok(()),
+    }
+}
+
+fn put_opened<A: Allocator + Copy>(bracket: Opened, line: &mut Vec<u8, A>) -> Result<(), AllocError>
+    ensures { OnOk result (line.new.items ≡ line.old.items ++ opened_text bracket) }
+{
+    line.extend_from_slice(b"; ")?;
+    line.extend_from_slice(word_of(bracket.kind).as_bytes())?;
+    line.extend_from_slice(b" is open since line ")?;
+    put_number(bracket.line, line)?;
+    put_column(bracket.column, line)
+}
+
+fn put_column<A: Allocator + Copy>(
+    column: Option<u64>,
+    line: &mut Vec<u8, A>,
+) -> Result<(), AllocError>
+    ensures { OnOk result (line.new.items ≡ line.old.items ++ column_text column) }
+{
+    match column {
+        Some(column) => {
+            line.extend_from_slice(b", column ")?;
+            put_number(column, line)
+        }
+        None => Ok(()),
     }
 }
 

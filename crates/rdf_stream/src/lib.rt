@@ -2,6 +2,7 @@
 #![tactic(auto)]
 
 mod bad_escape;
+mod brackets;
 mod causes;
 mod checks;
 mod conversions;
@@ -32,6 +33,7 @@ mod views;
 mod watch;
 mod without_crs;
 
+pub use brackets::Opened;
 pub use causes::{Cause, advice, cause_of};
 pub use checks::{check, check_expecting};
 pub use conversions::{convert, convert_expecting};

@@ -105,7 +105,7 @@ fn show_in<T: Spoken + Drop, A: Allocator + Copy, S: Source, D: Drain>(
     let limit = job.limits().token();
     let words = Words::new(spoken.dialect(), limit);
     let mut reader = Reader::new(alloc, TokenGrammar::new(spoken, limit), limit);
-    let mut watching = Watching::new(alloc, words, asked);
+    let mut watching = Watching::new(alloc, words, asked, false);
     let result = read_pieces(
         source,
         piece.as_mut_slice(),

@@ -1,16 +1,23 @@
 // What is kept of the bytes of a document, to tell of the place of a refusal.
 
 ghost use Rattle.std.specs.Prelude.{◌≡◌, ◌≤◌, ◌<◌, ◌+◌, ◌^◌, ◌++◌, [], List, ℕ, None, Some, false, true, length, take, IfOk, IfSome};
+ghost use Rattle.rdf_terms.specs.declared.kind.Dialect.{Dialect};
+ghost use Rattle.rdf_tokens.specs.Good.{tokens_of};
+ghost use Rattle.rdf_tokens.specs.Scans.{IsWaiting};
+ghost use Rattle.rdf_stream.specs.Brackets.{IsOpenBefore};
+ghost use Rattle.rdf_stream.specs.Opening.{HasOpen};
 ghost use Rattle.rdf_stream.specs.Places.{HandsOut, IsNear, is_asked, column_after, last_of, line_after, line_rest, next_column, reach};
 ghost use Rattle.rdf_stream.specs.Kept.{Watches};
-ghost use Rattle.rdf_stream.specs.Watches.{IsNearFault, WatchesAll};
+ghost use Rattle.rdf_stream.specs.Watches.{IsNearFault, IsToldOf, WatchesAll};
 
+use crate::brackets::{Brackets, Opened, TokenPlace};
 use crate::excerpt::REACH;
 use crate::fault::StreamFault;
 use crate::pieces::Run;
 use crate::sight::{Sight, sight_of};
 use memchr::memrchr;
-use rdf_terms::Dialect;
+use rdf_terms::{Dialect, Reason};
+use rdf_tokens::Fault;
 use std::alloc::{AllocError, Allocator, Global};
 use std::marker::Model;
 
@@ -28,6 +35,8 @@ pub struct Near<A: Allocator = Global> {
     pub after: Vec<u8, A>,
     /// What stands there.
     pub sight: Sight,
+    /// The innermost bracket that is open before an unexpected token, where it is known.
+    pub bracket: Option<Opened>,
 }
 
 impl<A: Allocator> Model for Near<A> {
@@ -35,7 +44,7 @@ impl<A: Allocator> Model for Near<A> {
 
     ghost Value = { NearRead };
 
-    ghost view = { λ n. record { column = n.column; before = n.before.items; after = n.after.items; sight = n.sight } };
+    ghost view = { λ n. record { column = n.column; before = n.before.items; after = n.after.items; sight = n.sight; bracket = n.bracket } };
 }
 
 /// Whether the place of a refusal is asked for, and what is told of it.
@@ -110,12 +119,14 @@ pub(crate) struct Watching<A: Allocator = Global> {
     words: Words,
     // None where the place is not asked for, or there was no memory for what is kept.
     watch: Option<Watch<A>>,
+    // None too where no token is unexpected, and in the line formats, which have no brackets.
+    brackets: Option<Brackets<A>>,
     pub(crate) near: Option<Near<A>>,
 }
 
 impl<A: Allocator + Copy> Watching<A> {
-    /// Before the first byte. Where the place is not asked for, nothing is kept.
-    pub(crate) fn new(alloc: A, words: Words, asked: bool) -> Watching<A>
+    /// Before the first byte. Where the place is not asked for, nothing is kept. `has_grammar` says that a token may be unexpected.
+    pub(crate) fn new(alloc: A, words: Words, asked: bool, has_grammar: bool) -> Watching<A>
         ensures words { result.words ≡ words }
         ensures kept { WatchesAll result [] }
         ensures untold { result.near ≡ None }
@@ -125,6 +136,11 @@ impl<A: Allocator + Copy> Watching<A> {
             alloc,
             words,
             watch: if asked { Some(Watch::new(alloc)) } else { None },
+            brackets: if asked && has_grammar {
+                new_brackets(alloc, words)
+            } else {
+                None
+            },
             near: None,
         }
     }
@@ -143,13 +159,16 @@ impl<A: Allocator + Copy> Watching<A> {
 
     /// A piece was read. The run says in how many of the last bytes a refusal may still stand, and is asked only where something is kept.
     pub(crate) fn go_on<L, R: Run<L>>(&mut self, piece: &[u8], run: &R)
+        requires kept { (bytes : List ℕ) × WatchesAll self.old bytes }
         ensures kept { (bytes : List ℕ) → WatchesAll self.old bytes → WatchesAll self.new (bytes ++ piece.now) }
         ensures words { self.new.words ≡ self.old.words }
         ensures untold { self.new.near ≡ self.old.near }
         ensures unasked { self.old.watch ≡ None → self.new.watch ≡ None }
     {
         if let Some(watch) = &mut self.watch {
-            if !watch.take(piece, run.open()) {
+            if watch.take(piece, run.open()) {
+                pass(&mut self.brackets, piece);
+            } else {
                 self.watch = None;
             }
         }
@@ -157,6 +176,7 @@ impl<A: Allocator + Copy> Watching<A> {
 
     /// Reading has stopped in a piece, or at the end behind it.
     pub(crate) fn stop(&mut self, piece: &[u8], is_end: bool, fault: &StreamFault)
+        requires kept { (bytes : List ℕ) × WatchesAll self.old bytes }
         requires untold { self.old.near ≡ None }
         ensures told { (bytes : List ℕ) → WatchesAll self.old bytes →
             IfSome self.new.near (λ n. IsNearFault self.old.words fault.now (bytes ++ piece.now) is_end n) }
@@ -165,12 +185,59 @@ impl<A: Allocator + Copy> Watching<A> {
         if let StreamFault::Refused(fault) = fault {
             if let Some(watch) = &mut self.watch {
                 if watch.add(piece) {
-                    if let Ok(near) = watch.near(self.alloc, self.words, fault.offset, is_end) {
+                    let bracket = open_before(&mut self.brackets, piece, is_end, fault);
+                    if let Ok(near) = watch.near(
+                        self.alloc,
+                        self.words,
+                        fault.offset,
+                        is_end,
+                        bracket,
+                    ) {
                         self.near = near;
                     }
                 }
             }
         }
+    }
+}
+
+// What keeps the brackets that are open, in the dialect that has some.
+fn new_brackets<A: Allocator + Copy>(alloc: A, words: Words) -> Option<Brackets<A>>
+    ensures { IfSome result (λ b. HasOpen b words.dialect words.limit []) }
+{
+    match words.dialect {
+        Dialect::Lines => None,
+        Dialect::Turtle => Some(Brackets::new(alloc, words.dialect, words.limit)),
+    }
+}
+
+// Takes a piece. Where its tokens were not passed, no brackets are kept any more.
+fn pass<A: Allocator + Copy>(brackets: &mut Option<Brackets<A>>, piece: &[u8])
+    requires { IfSome brackets.old (λ b. IsWaiting b.scanner) }
+    ensures { (d : Dialect) (limit : ℕ) (bytes : List ℕ) → IfSome brackets.old (λ b. HasOpen b d limit bytes) →
+        IfSome brackets.new (λ b. HasOpen b d limit (bytes ++ piece.now)) }
+{
+    if let Some(kept) = brackets {
+        if !kept.go_on(piece) {
+            *brackets = None;
+        }
+    }
+}
+
+// The innermost bracket that is open before an unexpected token, where it is known.
+fn open_before<A: Allocator + Copy>(
+    brackets: &mut Option<Brackets<A>>,
+    piece: &[u8],
+    is_end: bool,
+    fault: &Fault,
+) -> Option<TokenPlace>
+    requires { IfSome brackets.old (λ b. IsWaiting b.scanner) }
+    ensures { (d : Dialect) (limit : ℕ) (bytes : List ℕ) → IfSome brackets.old (λ b. HasOpen b d limit bytes) →
+        IfSome result (IsOpenBefore (tokens_of d limit (bytes ++ piece.now) is_end) fault.now.offset) }
+{
+    match (fault.reason, brackets) {
+        (Reason::Unexpected, Some(brackets)) => brackets.open_before(piece, is_end, fault.offset),
+        _ => None,
     }
 }
 
@@ -233,8 +300,11 @@ impl<A: Allocator + Copy> Watch<A> {
         words: Words,
         offset: u64,
         is_end: bool,
+        bracket: Option<TokenPlace>,
     ) -> Result<Option<Near<A>>, AllocError>
-        ensures { IfOk result (λ near. IfSome near (λ n. (bytes : List ℕ) → Watches self.now bytes → IsNear words.dialect words.limit bytes is_end offset n)) }
+        ensures { IfOk result (λ near. IfSome near (λ n. (bytes : List ℕ) → Watches self.now bytes →
+            IfSome bracket (IsOpenBefore (tokens_of words.dialect words.limit bytes is_end) offset) →
+            IsNear words.dialect words.limit bytes is_end offset n)) }
     {
         if offset < self.offset || (self.kept.len() as u64) < offset - self.offset {
             return Ok(None);
@@ -246,9 +316,35 @@ impl<A: Allocator + Copy> Watch<A> {
                 before: Vec::from_slice(alloc, line)?,
                 after: Vec::from_slice(alloc, line_after(&self.kept[at..]))?,
                 sight: sight_of(alloc, words.dialect, words.limit, &self.kept[at..], is_end)?,
+                bracket: self.told_of(bracket),
             })),
             None => Ok(None),
         }
+    }
+
+    // What is told of a bracket.
+    fn told_of(&self, bracket: Option<TokenPlace>) -> Option<Opened>
+        ensures { (bytes : List ℕ) → Watches self.now bytes → IsToldOf bytes bracket result }
+    {
+        match bracket {
+            Some(place) => Some(Opened {
+                kind: place.kind,
+                line: place.line,
+                column: self.column_at(place.offset),
+            }),
+            None => None,
+        }
+    }
+
+    // The column of this byte, where it is among those that are kept.
+    fn column_at(&self, offset: u64) -> Option<u64>
+        ensures { IfSome result (λ n. (bytes : List ℕ) → Watches self.now bytes → n ≡ column_after 1 (take offset bytes)) }
+    {
+        if offset < self.offset || (self.kept.len() as u64) < offset - self.offset {
+            return None;
+        }
+        let at = (offset - self.offset) as usize;
+        Some(column_after(self.column, &self.kept[..at]))
     }
 
     // The last bytes of the line in front of a byte that is kept. None where more of them would be told than are kept.

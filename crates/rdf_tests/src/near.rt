@@ -202,7 +202,7 @@ static EXPLAINED: [Explained; 8] = [
     Explained {
         form: Form::Turtle,
         bytes: b"<a:s>\n\t<a:p> [ <a:q> \"\xc3\xa9t\xc3\xa9\" .",
-        lines: "a:2:22: unexpected token: \".\"; expected language tag, \"^^\", \";\", \",\" or \"]\"\n\t<a:p> [ <a:q> \"\u{e9}t\u{e9}\" .\n\t                    ^\n",
+        lines: "a:2:22: unexpected token: \".\"; expected language tag, \"^^\", \";\", \",\" or \"]\"; \"[\" is open since line 2, column 8\n\t<a:p> [ <a:q> \"\u{e9}t\u{e9}\" .\n\t                    ^\n",
     },
     Explained {
         form: Form::TriG,
@@ -268,4 +268,97 @@ fn a_refusal_is_explained_with_its_line(rt: HostRuntime) {
     for row in EXPLAINED.as_slice() {
         assert!(rt; is_explained(rt.alloc(), row), "{}", row.lines);
     }
+}
+
+/// A document with a token that is unexpected, and the bracket that is open before it: its kind, line and column.
+struct Unclosed {
+    form: Form,
+    bytes: &'static [u8],
+    open: Option<(Kind, u64, u64)>,
+}
+
+static UNCLOSED: [Unclosed; 8] = [
+    Unclosed {
+        form: Form::Turtle,
+        bytes: b"<a:s> <a:p> [ <a:q> (\n1 [] [ <a:r> (2) .",
+        open: Some((Kind::OpenBracket, 2, 6)),
+    },
+    Unclosed {
+        form: Form::Turtle,
+        bytes: b"<a:s> <a:p> [ <a:q> (\n1 [] [ <a:r> () ] .",
+        open: Some((Kind::OpenParen, 1, 21)),
+    },
+    Unclosed {
+        form: Form::Turtle,
+        bytes: b"<a:s> <a:p> \"\xc3\xa9 (\", [ # (\n] <a:o>",
+        open: None,
+    },
+    Unclosed {
+        form: Form::Turtle,
+        bytes: b"<a:s> <a:p> \"\xc3\xa9\", [",
+        open: Some((Kind::OpenBracket, 1, 18)),
+    },
+    Unclosed {
+        form: Form::TriG,
+        bytes: b"<a:g> {\n<a:s> <a:p> [] . <a:t> }",
+        open: Some((Kind::OpenBrace, 1, 7)),
+    },
+    Unclosed {
+        form: Form::TriG,
+        bytes: b"{ <a:s> <a:p> ( ) } <a:s> <a:p> <a:o> }",
+        open: None,
+    },
+    Unclosed {
+        form: Form::Turtle,
+        bytes: b"<a:s> <a:p> ] .",
+        open: None,
+    },
+    Unclosed {
+        form: Form::NTriples,
+        bytes: b"<a:s> <a:p> <a:o> <a:o> .",
+        open: None,
+    },
+];
+
+/// Whether that bracket is told of the document in parts of this length.
+fn is_open(alloc: Global, row: &Unclosed, cut: usize) -> bool {
+    match told(alloc, row.form, row.bytes, cut) {
+        Some((_, near)) => match (near.bracket, row.open) {
+            (Some(open), Some((kind, line, column))) => {
+                open.kind == kind && open.line == line && open.column == Some(column)
+            }
+            (None, None) => true,
+            _ => false,
+        },
+        None => false,
+    }
+}
+
+#[test]
+fn the_innermost_open_bracket_is_told_however_the_document_is_cut(rt: HostRuntime) {
+    for row in UNCLOSED.as_slice() {
+        for cut in 0..=row.bytes.len() {
+            assert!(rt; is_open(rt.alloc(), row, cut), "{} {cut}", row.bytes.len());
+        }
+    }
+}
+
+/// The line and the column that are told of a bracket with so many objects behind it, where the document is cut there.
+fn far_bracket(alloc: Global, objects: usize, cut: usize) -> Option<(u64, Option<u64>)> {
+    let mut bytes = Vec::from_slice(alloc, b"\n<a:s> <a:p> [ <a:q> 1").ok()?;
+    for _ in 0..objects {
+        bytes.extend_from_slice(b", 1").ok()?;
+    }
+    bytes.extend_from_slice(b" ) .\n").ok()?;
+    let (_, near) = told(alloc, Form::Turtle, bytes.as_slice(), cut)?;
+    let bracket = near.bracket?;
+    Some((bracket.line, bracket.column))
+}
+
+#[test]
+fn the_column_of_a_bracket_is_told_where_its_line_is_kept(rt: HostRuntime) {
+    assert_eq!(rt; far_bracket(rt.alloc(), 100, 300), Some((2, None)));
+    assert_eq!(rt; far_bracket(rt.alloc(), 100, 0), Some((2, None)));
+    assert_eq!(rt; far_bracket(rt.alloc(), 100, 200), Some((2, Some(13))));
+    assert_eq!(rt; far_bracket(rt.alloc(), 100, 1000), Some((2, Some(13))));
 }

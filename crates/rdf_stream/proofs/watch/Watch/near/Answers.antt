@@ -3,11 +3,11 @@ use Rattle.std.proofs.Common.{◌≡◌, ◌∙◌, ◌≤◌, ◌+◌, ◌-◌,
 use Rattle.std.proofs.lemmas.List.{take_rest}
 use Rattle.rdf_stream.specs.Places.{column_after, last_of, line_after, line_rest, reach}
 use Rattle.rdf_stream.specs.Sights.{IsSight}
-use Rattle.rdf_stream.proofs.WatchLemmas.{column_append, drop_past, take_past}
+use Rattle.rdf_stream.proofs.WatchLemmas.{column_append, drop_past, take_past, told_open}
 use Rattle.rdf_stream.proofs.watch.Watch.near.Goals as goal
 
 pub returns-in_ok-sight_of-in-Some : goal.returns-in_ok-sight_of-in-Some
-returns-in_ok-sight_of-in-Some g c = λ bytes w.
+returns-in_ok-sight_of-in-Some g c = λ bytes w opened.
     let kept = c.args.self.now.bytes in
     let at = c.args.offset - c.self.inside.offset in
     let first : c.self.inside.offset ≡ length w.gone = ap (λ k. k.offset) c.self.view_is ∙ w.offset in
@@ -34,4 +34,5 @@ returns-in_ok-sight_of-in-Some g c = λ bytes w.
       before = c.in_ok-from_slice-in-Some.ensures.items ∙ (c.in-Some.ensures bytes w ∙ ap (λ v. last_of reach (line_after [] v)) (sym front));
       after = c.in_ok-from_slice-in-Some-2.ensures.items ∙ (after ∙ (ap (λ v. take reach (line_rest (drop at v))) same ∙ ap (λ v. take reach (line_rest v)) (sym rest)));
       sight = subst (λ v. IsSight c.args.words.dialect c.args.words.limit v c.args.is_end c.in_ok-sight_of-in-Some.field-0) (ap (drop at) same ∙ sym rest) seen;
+      bracket = told_open c.args.words.dialect c.args.words.limit bytes c.args.is_end c.args.offset c.args.bracket c.told_of.result opened (c.told_of.ensures bytes w);
     }

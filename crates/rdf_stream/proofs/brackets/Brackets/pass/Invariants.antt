@@ -1,0 +1,16 @@
+-- What was taken of the piece is noted, and its tokens were given.
+use Rattle.std.proofs.Common.{◌≡◌, ◌++◌, ℕ, List, length}
+use Rattle.rdf_terms.specs.declared.kind.Dialect.{Dialect}
+use Rattle.rdf_tokens.specs.Scans.{IsWaiting}
+use Rattle.rdf_stream.specs.Opening.{HasNoted}
+use Rattle.rdf_stream.proofs.brackets.Brackets.pass.Given as goal
+
+abbrev pub invariant-parts : goal.invariant-parts
+invariant-parts g l = record {
+  noted : (front : List ℕ) × (l.fn.piece ≡ front ++ l.rest)
+      × ((d : Dialect) (limit : ℕ) (bytes : List ℕ) → HasNoted l.initial.self d limit bytes → HasNoted l.self d limit (bytes ++ front));
+  waiting : IsWaiting l.self.scanner;
+}
+
+abbrev pub decreases-parts : goal.decreases-parts
+decreases-parts g l = length l.rest
