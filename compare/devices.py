@@ -191,15 +191,20 @@ def calls(tries):
         tries.expect('reads and writes of one byte: ' + ' '.join(words), found == whole, found[1:])
 
 
+def without_bracket(said):
+    """What is said of a refusal where there was no memory for the brackets that are open."""
+    return re.sub(r'; "[[({]" is open since line \d+(?:, column \d+)?', '', said, count=1)
+
+
 def without_place(said):
-    """What is said of a refusal where there was no memory for its place: no column, and neither the line nor a note."""
-    lines = said.splitlines(True)[:2]
+    """What is said of a refusal where there was no memory for its place: no column and no bracket, and neither the line nor a note."""
+    lines = without_bracket(said).splitlines(True)[:2]
     return ''.join(lines[:1] + [re.sub(r'(:\d+):\d+: ', r'\1: ', line, count=1) for line in lines[1:]])
 
 
 def fail_in_turn(tries, words, path, whole, refusal, one_byte):
     """Each answer is the refusal, behind what the run begins with, or the run's own: where only its message could not be said, without
-    it or without its place, and where the C library goes on without the memory, whole. An explanation has the system's reason."""
+    it or without its place or the bracket that is open, and where the C library goes on without the memory, whole. An explanation has the system's reason."""
     names, said, wanted = refusal
     if '--explain' in words and names != 'malloc':
         said += '%s: Interrupted system call (os error 4)\n' % path
@@ -213,7 +218,8 @@ def fail_in_turn(tries, words, path, whole, refusal, one_byte):
         os.remove(seen)
         begins = is_front(found[0], whole[0]) if names == 'malloc' else whole[0].startswith(found[0])
         is_refusal = begins and found[2] == wanted and found[1] in (said, '')
-        lacks_text = found[0] == whole[0] and found[2] == whole[2] != 0 and (whole[1].startswith(found[1]) or found[1] == without_place(whole[1]))
+        lacks_words = whole[1].startswith(found[1]) or found[1] in (without_bracket(whole[1]), without_place(whole[1]))
+        lacks_text = found[0] == whole[0] and found[2] == whole[2] != 0 and lacks_words
         tries.expect(what, found == whole or is_refusal or lacks_text, found[1:])
     sys.exit('more than 100000 calls')
 
