@@ -193,7 +193,7 @@ def calls(tries):
 
 def without_bracket(said):
     """What is said of a refusal where there was no memory for the brackets that are open."""
-    return re.sub(r'; "[[({]" is open since line \d+(?:, column \d+)?', '', said, count=1)
+    return re.sub(r'; "[\[({]" is open since line \d+(?:, column \d+)?', '', said, count=1)
 
 
 def without_place(said):
