@@ -48,7 +48,8 @@ pub fn check<A: Allocator + Copy, S: Source>(
 /// were before is dropped.
 ///
 /// Of each refusal its place in its line is told too, where `near` asks for it (`Nearby`). Then as many bytes as the reader holds are kept beside it,
-/// one piece and 244; where there is no memory for them nothing is told.
+/// one piece and 244; where there is no memory for them nothing is told. Of Turtle and TriG the token that is open is kept once more, and the place of
+/// each open bracket; where there is no memory for these, none is told.
 pub fn check_expecting<A: Allocator + Copy, S: Source>(
     alloc: A,
     job: Job<A>,
