@@ -194,11 +194,13 @@ def compare_arguments(counts):
 
 
 def compare_kinds(counts, program):
-    """Of an unexpected token its kind, and the kinds of which one could have stood there, beside the program's words."""
+    """Of an unexpected token its kind, and the kinds of which one could have stood there, beside the program's words. Column and open bracket are the program's
+    alone."""
     for format, document in UNEXPECTED:
         words = [program, 'check', '--format', format, '--explain']
         said = subprocess.run(words, input=document.encode(), capture_output=True).stderr.decode().splitlines()[1]
         said = re.sub(r'^(-:[0-9]+):[0-9]+:', r'\1:', said)
+        said = re.sub(r'; "[\[({]" is open since line [0-9]+, column [0-9]+$', '', said)
         for call in rdfconv.check, rdfconv.convert:
             try:
                 call(document, format)
