@@ -210,3 +210,16 @@ impl Known for OnlyInteger {
         Kind::Integer
     }
 }
+
+/// It is `Kind::Carets`.
+pub struct OnlyCarets;
+
+impl Known for OnlyCarets {
+    ghost is = { λ k. k ≡ KindIs.Carets };
+
+    #[inline(always)]
+    fn kind(of: Kind) -> Kind {
+        let _ = of;
+        Kind::Carets
+    }
+}

@@ -102,7 +102,7 @@ fn take(alloc: Global, scanner: &mut Scanner, step: Step) -> Answer {
 }
 
 /// What is done with a scanner, and what it answers.
-static STEPS: [(Step, Answer); 245] = [
+static STEPS: [(Step, Answer); 260] = [
     // Frequent tokens are seen before they are taken, but for the first of a document.
     (Step::Start(Dialect::Turtle, 64), Answer::Started),
     (
@@ -175,6 +175,25 @@ static STEPS: [(Step, Answer); 245] = [
     (Step::Push(b" ."), Answer::Took(2)),
     (Step::PassBlanks, Answer::Stayed),
     (Step::Next, Answer::Token(Kind::Dot, 1, 1, 1)),
+    // So are carets, and strings with escapes or between three quotes. Of names with letters of other scripts and escapes all is taken.
+    (Step::Start(Dialect::Turtle, 128), Answer::Started),
+    (
+        Step::Push(b"; \"a\\nb\"^^x:t \"\"\"a\"b\"\"\" x:\xC3\xA9t\xC3\xA9-1:b%2F\\~.c, x:\xCE\xA9\xD0\xB0\xE6\x88\x91\xEA\xB0\x80.b x:a\xC3\xB7 ;"),
+        Answer::Took(66),
+    ),
+    (Step::Next, Answer::Token(Kind::Semicolon, 0, 1, 1)),
+    (Step::See, Answer::Token(Kind::ShortString, 2, 1, 6)),
+    (Step::See, Answer::Token(Kind::Carets, 8, 1, 2)),
+    (Step::See, Answer::PlainName(10, 1, 3, 1)),
+    (Step::See, Answer::Token(Kind::LongString, 14, 1, 9)),
+    (Step::See, Answer::Unseen),
+    (Step::Next, Answer::Token(Kind::PnameLn, 24, 1, 18)),
+    (Step::See, Answer::Token(Kind::Comma, 42, 1, 1)),
+    (Step::See, Answer::Unseen),
+    (Step::Next, Answer::Token(Kind::PnameLn, 44, 1, 14)),
+    (Step::See, Answer::Unseen),
+    (Step::Next, Answer::Token(Kind::PnameLn, 59, 1, 3)),
+    (Step::Next, Answer::Fault(Reason::NoToken, 62)),
     // More bytes decide.
     (Step::Start(Dialect::Turtle, 64), Answer::Started),
     (Step::Push(b"1."), Answer::Took(2)),

@@ -1,5 +1,5 @@
 -- A text has as many characters as bytes that begin one.
-use Rattle.std.proofs.Common.{◌≡◌, ℕ, ◌+◌, List, [], ◌∷◌, ◌++◌, length, take, encode_utf8, refl, sym, ap, ◌∙◌, arith, take-add}
+use Rattle.std.proofs.Common.{◌≡◌, ℕ, ◌+◌, List, [], ◌∷◌, length, take, encode_utf8, refl, sym, ap, ◌∙◌, arith, take-add}
 use Rattle.std.specs.Prelude.{count_by, cond, encode_utf8_all, nat_lt}
 use Rattle.std.specs.Str.{chars, IsUtf8}
 use Rattle.std.specs.Simd.Lanes.{chunk}

@@ -15,7 +15,7 @@ mod NumberQuick
 mod PlainQuick
 mod TagQuick
 mod WordQuick
-mod DotLemmas
+mod LocalLemmas
 mod LongLemmas
 mod LongQuick
 pub mod NameLemmas

@@ -1,5 +1,5 @@
 -- What leaves the next token open is held.
-use Rattle.std.proofs.Common.{◌≡◌, ℕ, zero, suc, ◌+◌, ◌-◌, ◌<◌, ◌≤◌, Bool, true, false, cond, List, [], ◌∷◌, ◌++◌, ◌||◌, ◌==◌, refl, sym, ap, ◌∙◌, subst, ⊎_elim, is_some, length, take, drop, length-drop, arith, length-append}
+use Rattle.std.proofs.Common.{◌≡◌, ℕ, zero, suc, ◌+◌, ◌<◌, ◌≤◌, Bool, true, false, cond, List, [], ◌∷◌, ◌++◌, ◌||◌, ◌==◌, refl, sym, ap, ◌∙◌, subst, ⊎_elim, is_some, length, take, drop, length-drop, arith, length-append}
 use Rattle.std.proofs.lemmas.Bool.{cond-false, cases_Bool, cases_lt, ne_eqb, false≢true}
 use Rattle.std.proofs.lemmas.List.{append-nil, take_all, take-append-le, take-append-drop, length-take-le}
 use Rattle.std.proofs.lemmas.Str.{encodes-append, encodes-chars, utf8_valid_len_le}
@@ -11,7 +11,7 @@ use Rattle.rdf_terms.specs.declared.kind.Dialect.{Dialect}
 use Rattle.rdf_terms.specs.declared.kind.Kind.{Kind}
 use Rattle.rdf_terms.proofs.ValueBytes.{utf8_bytes}
 use Rattle.rdf_tokens.specs.Tokens.{Place, past, Tail, Outcome, Reading, Step, blank, is_empty, over, by_tail, step, rest_of, place_of, tokens, with_token, with_tokens, end_tokens, stop_place}
-use Rattle.rdf_tokens.specs.Tokens.Tail.{goes_on, ended, broken}
+use Rattle.rdf_tokens.specs.Tokens.Tail.{goes_on, broken}
 use Rattle.rdf_tokens.specs.Tokens.Step.{token, stop}
 use Rattle.rdf_tokens.specs.Tokens.Outcome.{undecided, complete, token_too_long, bad_utf8, no_token, bad_escape}
 use Rattle.rdf_terms.specs.Shapes.{is_live}

@@ -19,9 +19,10 @@ use Rattle.rdf_tokens.specs.declared.states.name.Name.TheVariants as name
 use Rattle.rdf_tokens.specs.declared.states.number.Number.TheVariants as number
 use Rattle.rdf_tokens.specs.Tokens.{with_length, three_quotes, only_long}
 use Rattle.rdf_tokens.specs.Fixed.{Row, fits, left, is_begun, live_by, rows_of}
-use Rattle.rdf_tokens.specs.Front.{Reached, longer_front, begins, row_front, front_by, state_of}
+use Rattle.rdf_tokens.specs.Front.{Reached, kind_here, longer_front, begins, row_front, front_by, state_of}
+use Rattle.rdf_tokens.specs.Local.{LeadsIn, RestsInLocal}
 use Rattle.rdf_tokens.specs.Machine.{step, kind_at, goes_on}
-use Rattle.rdf_tokens.specs.Quick.{IsToken, IsQuick, single, is_sought, is_named, IsPrefix, is_colon, ends_name, is_name_end, is_a, is_dot, BeginsNumber, begins_number, begins_signed, is_sign, are_carets, stands_at, is_over, is_last, ends_local, RestsInLocal}
+use Rattle.rdf_tokens.specs.Quick.{IsToken, IsQuick, single, is_sought, is_named, IsPrefix, is_colon, ends_name, is_name_end, is_a, is_dot, BeginsNumber, begins_number, begins_signed, is_sign, are_carets, stands_at, is_over, is_last, ends_local}
 use Rattle.rdf_tokens.proofs.ByteLemmas.{at-start, ascii_first}
 use Rattle.rdf_tokens.proofs.NoNamesLemmas.{implied, low-letter, letter_steps, no_long, no_quotes, one_on}
 use Rattle.rdf_tokens.proofs.RestLemmas.{reached-run}
@@ -228,12 +229,12 @@ longer-second None p n k h l = refl
 longer-second (Some x) p n k h l = let i : x.0 ≤ p = h in ap (λ t. cond t (Some (n, k)) (Some x)) (lt-ltb x.0 n (omega arith))
 
 -- a state after a character of a local part
-abbrev at_local : State → Bool
+abbrev pub at_local : State → Bool
 at_local (Name name.Local) = true
 at_local s = false
 
 -- such a state
-local-state : (s : State) → at_local s ≡ true → s ≡ Name name.Local
+pub local-state : (s : State) → at_local s ≡ true → s ≡ Name name.Local
 local-state (Name name.Local) e = refl
 local-state s e = absurd (false≢true e)
 
@@ -270,7 +271,7 @@ local-first c e h =
     local-state _ (other (c == 45) _ (implied (is_name_byte c) _ (agree_below_at local_tests (λ c. true) 128 c refl (low-name c e)) e) h)
 
 -- another byte than '-'
-no_hyphen : (c : ℕ) → (c ≡ 45 → ⊥) → (c == 45) ≡ false
+pub no_hyphen : (c : ℕ) → (c ≡ 45 → ⊥) → (c == 45) ≡ false
 no_hyphen c n = go (c == 45) refl
   where
     go : (t : Bool) → (c == 45) ≡ t → (c == 45) ≡ false
@@ -395,12 +396,13 @@ module _ (bs : List ℕ) (colon end : ℕ) (u : IsUtf8 bs) (p : IsPrefix bs colo
   pub quick_local : is_name_end bs end ≡ true → (end ≡ colon + 1 → ⊥) → (get_or bs (colon + 1) 0 ≡ 45 → ⊥) → IsToken Turtle bs end PnameLn
   quick_local z n h = over z (Name name.Local) PnameLn (local_on n h) (ended z).1 (λ w. (name-fit w).1)
 
-  -- It goes on after the run, up to a place where it ends.
-  module _ (last : ℕ) (n : end ≡ colon + 1 → ⊥) (h : get_or bs (colon + 1) 0 ≡ 45 → ⊥) (r : RestsInLocal bs end last) where
+  -- It begins up to one place, and goes on up to another, where it ends.
+  module _ (front last : ℕ) (l : LeadsIn (Name name.Colon) bs (colon + 1) front) (r : RestsInLocal bs front last) where
     last_on : Reached Turtle bs last (Name name.Local) (Some (last, PnameLn))
     last_on =
-        let kind : Some PnameLn ≡ only_long (three_quotes Turtle (chars bs)) (Some PnameLn) = sym (ap (λ x. only_long x (Some PnameLn)) quotes) in
-        reached-run Turtle bs end last (Name name.Local) (Some PnameLn) None kind r (local_on n h)
+        let kind : kind_here Turtle bs (Name name.Local) ≡ Some PnameLn = ap (λ x. only_long x (Some PnameLn)) quotes in
+        subst (λ k. Reached Turtle bs last (Name name.Local) (with_length last k (Some (colon + 1, PnameNs)))) kind
+        (r.on Turtle (Some (colon + 1, PnameNs)) (l.on Turtle (Some (colon + 1, PnameNs)) after))
 
     -- the states end after a byte
     last_at : (at : ℕ) (s : State) → Reached Turtle bs at s (Some (last, PnameLn)) → is_last bs at ≡ true →
@@ -410,7 +412,7 @@ module _ (bs : List ℕ) (colon end : ℕ) (u : IsUtf8 bs) (p : IsPrefix bs colo
         let p = and_parts (nat_lt at (length bs)) _ z in
         let o = and_parts (ends_name c) _ p.1 in
         let i = inside in
-        let from = q.from in
+        let from = l.from in
         let more = r.from in
         let f = front_by (rows_of Turtle fixed) bs in
         let low : c < 128 = ltb-true c 128 (and_parts (nat_lt c 128) _ o.0).0 in
@@ -419,8 +421,8 @@ module _ (bs : List ℕ) (colon end : ℕ) (u : IsUtf8 bs) (p : IsPrefix bs colo
         (rows-none (rows_of Turtle fixed) bs colon refl i is_58)
         (longer-second f colon last PnameLn (rows-short (rows_of Turtle fixed) bs colon refl is_58) (omega arith)) (name-fit _).1
 
-    pub quick_dotted : ends_local bs last ≡ true → IsToken Turtle bs last PnameLn
-    quick_dotted e = by_end (is_last bs last) refl e
+    pub quick_far : ends_local bs last ≡ true → IsToken Turtle bs last PnameLn
+    quick_far e = by_end (is_last bs last) refl e
       where
         by_end : (t : Bool) → is_last bs last ≡ t → (t || (stands_at 46 bs last && is_last bs (last + 1))) ≡ true → IsToken Turtle bs last PnameLn
         by_end true z e = last_at last (Name name.Local) last_on z (λ o. (over-steps (get_or bs last 0) o).0)

@@ -1,5 +1,5 @@
 -- The words `true` and `false` before a byte with which no name goes on: the states have no token there, and the spellings have one.
-use Rattle.std.proofs.Common.{◌≡◌, ℕ, ◌+◌, ◌<◌, true, false, nat_lt, List, [], ◌∷◌, ◌++◌, ◌==◌, refl, sym, ap, ◌∙◌, subst, length, get_or, take, drop, arith, Some, None, IsUtf8}
+use Rattle.std.proofs.Common.{◌≡◌, ℕ, ◌+◌, ◌<◌, true, false, nat_lt, List, [], ◌∷◌, ◌++◌, ◌==◌, refl, sym, ap, ◌∙◌, length, get_or, take, drop, arith, Some, None, IsUtf8}
 use Rattle.std.proofs.lemmas.Bool.{agree_below_at, and_parts, false≢true, eqb-true, ltb-true}
 use Rattle.std.proofs.lemmas.List.{drop_more, get_or_append_left}
 use Rattle.std.proofs.lemmas.Str.{encode_ascii, length-encode}

@@ -25,6 +25,7 @@ pub mod Count
 pub mod Walk
 pub mod NoNames
 pub mod Quick
+pub mod Local
 pub mod Strings
 pub mod Over
 pub mod Plain

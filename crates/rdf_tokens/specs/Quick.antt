@@ -14,7 +14,6 @@ use Rattle.rdf_terms.specs.Shapes.{is_live}
 use Rattle.rdf_terms.specs.Values.{is_fit}
 use Rattle.rdf_tokens.specs.declared.front.NoNames.{NoNames}
 use Rattle.rdf_tokens.specs.declared.states.machine.State.TheVariants as state
-use Rattle.rdf_tokens.specs.declared.states.name.Name.TheVariants as name
 use Rattle.rdf_tokens.specs.declared.states.text.Text.TheVariants as text
 use Rattle.rdf_tokens.specs.declared.states.text.Quote.{Quote}
 use Rattle.rdf_tokens.specs.declared.states.text.Quote.TheVariants.{Double, Single}
@@ -78,10 +77,6 @@ is_last bs at = nat_lt at (length bs) && is_over (get_or bs at 0)
 -- it does, or it stands after a dot there: a local part before the place does not go on
 abbrev pub ends_local : List ℕ → ℕ → Bool
 ends_local bs at = is_last bs at || (stands_at 46 bs at && is_last bs (at + 1))
-
--- the bytes between two places lead back to the state within a local part
-abbrev pub RestsInLocal : List ℕ → ℕ → ℕ → Type 0
-RestsInLocal bs at end = Rests (state.Name name.Local) bs at end
 
 -- a byte that ends a name stands at a place
 abbrev pub is_name_end : List ℕ → ℕ → Bool

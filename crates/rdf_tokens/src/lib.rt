@@ -9,6 +9,7 @@ mod front;
 mod good;
 mod iris;
 pub mod laws;
+mod local;
 mod look;
 mod over;
 mod peek;

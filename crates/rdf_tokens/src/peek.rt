@@ -4,15 +4,18 @@ ghost use Rattle.std.specs.Prelude.{◌≡◌, ℕ, ◌<◌, List, true, length,
 ghost use Rattle.rdf_terms.specs.Classes.{is_digit, is_letter};
 ghost use Rattle.rdf_terms.specs.declared.kind.Dialect.TheVariants.{Turtle};
 ghost use Rattle.rdf_tokens.specs.Peek.{IsBare, IsSeen, Sees, is_local, one_space};
-ghost use Rattle.rdf_terms.specs.declared.kind.Kind.TheVariants.{Decimal, Integer, IriRef, LabelNode, LangTag, PnameLn, PnameNs, ShortString};
+ghost use Rattle.rdf_terms.specs.declared.kind.Kind.TheVariants.{Carets, Decimal, Integer, IriRef, LabelNode, LangTag, LongString, PnameLn, PnameNs, ShortString};
 ghost use Rattle.rdf_tokens.specs.Quick.{IsToken, begins_iri, is_colon, opens_with, single};
 ghost use Rattle.rdf_tokens.specs.declared.states.text.Quote.TheVariants.{Double};
 
 use crate::front::NoNames;
 use crate::quick::{
-    begins_label, begins_tag, digits_end, is_a, is_colon, is_decimal_end, is_dot, is_integer_end,
-    is_name_end, is_point, is_sought, quick_named, quick_tag, stands_at,
+    are_carets, begins_label, begins_tag, digits_end, is_a, is_colon, is_decimal_end, is_dot,
+    is_integer_end, is_name_end, is_point, is_sought, quick_long, quick_named, quick_tag,
+    stands_at,
 };
+use crate::states::text::Quote;
+use crate::strings::quoted_len;
 use rdf_terms::runs::{Run, run_end, two_run_ends};
 use rdf_terms::{Dialect, Kind};
 
@@ -74,10 +77,11 @@ fn seen(blank: usize, text: &str, no_names: &Option<NoNames>) -> Option<Peeked>
         b'}' => seen_byte(blank, text, Kind::CloseBrace),
         b'<' => seen_as(Kind::IriRef, blank, iri_len(text)),
         b'_' => seen_as(Kind::LabelNode, blank, label_len(text)),
-        b'"' => seen_as(Kind::ShortString, blank, string_len(text)),
+        b'"' => seen_string(blank, text),
         b'0'..=b'9' => seen_number(blank, text),
         b':' => seen_local(blank, text),
         b'@' => seen_as(Kind::LangTag, blank, tag_len(text)),
+        b'^' => seen_as(Kind::Carets, blank, carets_len(text)),
         _ => None,
     }
 }
@@ -205,6 +209,18 @@ fn seen_number(blank: usize, text: &str) -> Option<Peeked>
     }
 }
 
+/// A string in double quotes, one at each end or three.
+#[inline(always)]
+fn seen_string(blank: usize, text: &str) -> Option<Peeked>
+    requires { opens_with Turtle Double text.now ≡ true }
+    ensures { Sees text.now blank result }
+{
+    match string_len(text) {
+        Some(len) => seen_as(Kind::ShortString, blank, Some(len)),
+        None => seen_as(Kind::LongString, blank, long_len(text)),
+    }
+}
+
 /// A name with an empty prefix. Its local part may be empty too.
 #[inline(always)]
 fn seen_local(blank: usize, text: &str) -> Option<Peeked>
@@ -257,7 +273,31 @@ fn string_len(text: &str) -> Option<usize>
     if end > 1 && stands_at(b'"', bytes, end) {
         return Some(end + 1);
     }
+    if stands_at(b'\\', bytes, end) {
+        return escaped_len(text);
+    }
     None
+}
+
+/// The length of such a string with escapes.
+fn escaped_len(text: &str) -> Option<usize>
+    requires { opens_with Turtle Double text.now ≡ true }
+    ensures { IfSome result (λ n. IsToken Turtle text.now n ShortString) }
+{
+    let mut walk = None;
+    quoted_len(Dialect::Turtle, Quote::Double, text, &mut walk)
+}
+
+/// The length of a string between three double quotes each.
+fn long_len(text: &str) -> Option<usize>
+    requires { opens_with Turtle Double text.now ≡ true }
+    ensures { IfSome result (λ n. IsToken Turtle text.now n LongString) }
+{
+    let quick = quick_long(Quote::Double, text);
+    match quick.kind {
+        Some(Kind::LongString) => Some(quick.len),
+        _ => None,
+    }
 }
 
 /// The length of an integer without a sign.
@@ -326,5 +366,16 @@ fn tag_len(text: &str) -> Option<usize>
     match quick.kind {
         Some(Kind::LangTag) => Some(quick.len),
         _ => None,
+    }
+}
+
+/// The length of two carets.
+fn carets_len(text: &str) -> Option<usize>
+    ensures { IfSome result (λ n. IsToken Turtle text.now n Carets) }
+{
+    if are_carets(text.as_bytes()) {
+        Some(2)
+    } else {
+        None
     }
 }

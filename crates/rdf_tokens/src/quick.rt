@@ -4,18 +4,20 @@ ghost use Rattle.std.specs.Prelude.{◌≡◌, ◌+◌, ◌<◌, ◌≤◌, true
 ghost use Rattle.rdf_terms.specs.Classes.{is_digit, is_letter};
 ghost use Rattle.rdf_terms.specs.declared.kind.Dialect.{Dialect};
 ghost use Rattle.rdf_terms.specs.declared.kind.Dialect.TheVariants.{Turtle};
-ghost use Rattle.rdf_tokens.specs.Quick.{IsQuick, single, stands_at};
+ghost use Rattle.rdf_terms.specs.declared.kind.Kind.TheVariants.{PnameLn};
+ghost use Rattle.rdf_tokens.specs.Quick.{IsQuick, IsToken, single, stands_at};
 ghost use Rattle.rdf_tokens.specs.Quick.{is_sought, is_named, IsPrefix, is_colon, ends_name, is_name_end, is_a, is_word};
 ghost use Rattle.rdf_tokens.specs.Quick.{BeginsNumber, IsMantissa, begins_signed, is_exponent, after_sign, is_double_end};
 ghost use Rattle.rdf_tokens.specs.Quick.{is_dot, begins_number, is_point, is_integer_end, is_decimal_end, ends_integer, ends_number};
 ghost use Rattle.rdf_tokens.specs.Quick.{begins_iri, quote_byte, opens_with, begins_string, is_empty_string, begins_label, begins_label_name};
 ghost use Rattle.rdf_tokens.specs.Quick.{begins_tag, begins_directive, is_part_byte, is_tag_end, is_later_end, are_carets};
 ghost use Rattle.rdf_tokens.specs.Escapes.{FitsInString};
-ghost use Rattle.rdf_tokens.specs.Quick.{RestsInLocal, is_over, is_last, ends_local, RestsInLong, is_plain, long_run, stands_thrice};
+ghost use Rattle.rdf_tokens.specs.Quick.{is_over, is_last, ends_local, RestsInLong, is_plain, long_run, stands_thrice};
 ghost use Rattle.rdf_terms.specs.Runs.{IsRun, is_name_byte};
 
 use crate::escapes::{escape_end, short_run};
 use crate::front::{NoNames, begins_in_letter};
+use crate::local::{front_end, local_end};
 use crate::states::text::Quote;
 use rdf_terms::runs::{Run, run_end, two_run_ends};
 use rdf_terms::{Dialect, Kind};
@@ -95,7 +97,7 @@ fn quick_plain(text: &str) -> Quick
 
 /// Whether two carets come first.
 #[inline(always)]
-fn are_carets(bytes: &[u8]) -> bool
+pub(crate) fn are_carets(bytes: &[u8]) -> bool
     ensures { result ≡ are_carets bytes.now }
 {
     stands_at(b'^', bytes, 0) && stands_at(b'^', bytes, 1)
@@ -209,7 +211,7 @@ fn quick_string(dialect: Dialect, quote: Quote, text: &str) -> Quick
 
 /// A string of Turtle between three quotes, up to the next three.
 #[inline(never)]
-fn quick_long(quote: Quote, text: &str) -> Quick
+pub(crate) fn quick_long(quote: Quote, text: &str) -> Quick
     requires { opens_with Turtle quote text.now ≡ true }
     ensures { IsQuick Turtle text.now result.len result.kind }
 {
@@ -508,8 +510,8 @@ fn quick_word(text: &str, end: usize) -> Quick
     Quick { len: 0, kind: None }
 }
 
-/// A name of Turtle, whose prefix ends before the colon at this place, and its local part, of letters, digits, `_` and `-`, or empty, at
-/// the other.
+/// A name of Turtle, whose prefix ends before the colon at this place, and after it the run of letters, digits, `_` and `-`, which may be
+/// empty, at the other.
 #[inline(always)]
 fn quick_local(text: &str, colon: usize, end: usize) -> Quick
     requires prefix { IsPrefix text.now colon }
@@ -519,11 +521,14 @@ fn quick_local(text: &str, colon: usize, end: usize) -> Quick
 {
     let bytes = text.as_bytes();
     let local = colon + 1;
-    if end > local && stands_at(b'.', bytes, end) {
-        return quick_dotted(text, colon, end);
-    }
     if !is_name_end(bytes, end) {
-        return Quick { len: 0, kind: None };
+        return match far_len(text, colon, end) {
+            Some(len) => Quick {
+                len,
+                kind: Some(Kind::PnameLn),
+            },
+            None => Quick { len: 0, kind: None },
+        };
     }
     if end == local {
         return Quick {
@@ -540,51 +545,22 @@ fn quick_local(text: &str, colon: usize, end: usize) -> Quick
     }
 }
 
-/// The same where a dot comes after a run that is not empty: more of the local part may come after the dot.
+/// How many bytes the name has where its local part goes on after the run: with a dot, a colon, an escape or a letter of another script.
 #[inline(never)]
-fn quick_dotted(text: &str, colon: usize, end: usize) -> Quick
+fn far_len(text: &str, colon: usize, end: usize) -> Option<usize>
     requires prefix { IsPrefix text.now colon }
     requires colon { is_colon text.now colon ≡ true }
     requires local { IsRun is_name_byte text.now (colon + 1) end }
-    requires some { colon + 1 < end }
-    ensures { IsQuick Turtle text.now result.len result.kind }
+    ensures { IfSome result (λ len. IsToken Turtle text.now len PnameLn) }
 {
     let bytes = text.as_bytes();
-    let last = dotted_end(bytes, end);
-    if bytes[colon + 1] == b'-' || !ends_local(bytes, last) {
-        return Quick { len: 0, kind: None };
+    let front = front_end(bytes, colon + 1, end)?;
+    let last = local_end(bytes, front);
+    if ends_local(bytes, last) {
+        Some(last)
+    } else {
+        None
     }
-    Quick {
-        len: last,
-        kind: Some(Kind::PnameLn),
-    }
-}
-
-/// The end of the dots from a place on that each have a run after them, and of these runs.
-#[inline(always)]
-fn dotted_end(bytes: &[u8], from: usize) -> usize
-    requires { from ≤ length bytes.now }
-    ensures { RestsInLocal bytes.now from result }
-{
-    let mut at = from;
-    while let Some(next) = after_dot(bytes, at) {
-        at = next;
-    }
-    at
-}
-
-/// The end of the run after the dot at a place, where both are there.
-#[inline(always)]
-fn after_dot(bytes: &[u8], at: usize) -> Option<usize>
-    requires { at ≤ length bytes.now }
-    ensures rests { IfSome result (λ end. RestsInLocal bytes.now at end) }
-    ensures on { IfSome result (λ end. at < end) }
-{
-    if !stands_at(b'.', bytes, at) {
-        return None;
-    }
-    let end = run_end(Run::Name, bytes, at + 1);
-    if end > at + 1 { Some(end) } else { None }
 }
 
 /// Whether a local part ends at a place, where no name goes on with the byte there, or with a dot and the byte after it.

@@ -47,7 +47,12 @@ fn quote_of(dialect: Dialect, bytes: &[u8]) -> Option<Quote>
 
 /// The same of a string in this quote. After fewer than three bytes nothing is kept, as by the states.
 #[inline(never)]
-fn quoted_len(dialect: Dialect, quote: Quote, text: &str, walk: &mut Option<Walk>) -> Option<usize>
+pub(crate) fn quoted_len(
+    dialect: Dialect,
+    quote: Quote,
+    text: &str,
+    walk: &mut Option<Walk>,
+) -> Option<usize>
     requires opens { opens_with dialect quote text.now ≡ true }
     requires walked { Walked dialect text.now walk.old }
     requires none { walk.old ≡ None }

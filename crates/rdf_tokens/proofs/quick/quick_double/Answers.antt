@@ -1,5 +1,5 @@
 -- A double, by the end of its digits, its exponent's sign and digits, and the byte after them.
-use Rattle.std.proofs.Common.{◌≡◌, ◌+◌, ◌∙◌, true, sym, ap, subst, IsUtf8}
+use Rattle.std.proofs.Common.{◌∙◌, sym, subst, IsUtf8}
 use Rattle.rdf_terms.specs.declared.kind.Dialect.TheVariants.{Turtle}
 use Rattle.rdf_terms.specs.declared.kind.Kind.TheVariants.{Double}
 use Rattle.rdf_tokens.specs.Quick.{BeginsNumber, IsMantissa, IsToken}

@@ -1,6 +1,5 @@
 -- The first byte tells the token, or a name is sought.
 use Rattle.std.proofs.Common.{◌≡◌, ◌<◌, ◌∙◌, true, sym, ap, subst, length, get_or, IsUtf8}
-use Rattle.rdf_terms.specs.declared.kind.Dialect.TheVariants.{Turtle}
 use Rattle.rdf_terms.specs.declared.kind.Kind.TheVariants.{Dot}
 use Rattle.rdf_terms.specs.Classes.{is_letter}
 use Rattle.rdf_tokens.specs.Quick.{BeginsNumber, IsQuick, IsToken, single, is_colon}

@@ -1,10 +1,8 @@
 -- The parts of a number, by its runs of digits and the bytes between them.
-use Rattle.std.proofs.Common.{◌≡◌, ◌+◌, ◌∙◌, true, inl, inr, refl, sym, subst, IsUtf8}
+use Rattle.std.proofs.Common.{◌∙◌, sym, subst, IsUtf8}
 use Rattle.rdf_terms.specs.declared.kind.Dialect.TheVariants.{Turtle}
 use Rattle.rdf_terms.specs.declared.kind.Kind.TheVariants.{Integer, Decimal}
-use Rattle.rdf_terms.specs.Classes.{is_digit}
-use Rattle.rdf_terms.specs.Runs.{IsRun}
-use Rattle.rdf_tokens.specs.Quick.{BeginsNumber, IsToken, is_point}
+use Rattle.rdf_tokens.specs.Quick.{BeginsNumber, IsToken}
 use Rattle.rdf_tokens.proofs.NumberQuick.{quick_integer, quick_decimal}
 use Rattle.rdf_tokens.proofs.quick.quick_number.Goals as goal
 

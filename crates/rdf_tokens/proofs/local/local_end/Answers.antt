@@ -1,10 +1,10 @@
--- Each dot and its run lead back to the state.
+-- Each part leads back to the state.
 use Rattle.std.proofs.Common.{arith}
 use Rattle.rdf_tokens.specs.declared.states.machine.State.TheVariants.{Name}
 use Rattle.rdf_tokens.specs.declared.states.name.Name.TheVariants as name
-use Rattle.rdf_tokens.proofs.DotLemmas.{rests_none}
+use Rattle.rdf_tokens.proofs.LocalLemmas.{rests_none}
 use Rattle.rdf_tokens.proofs.RestLemmas.{rests-more}
-use Rattle.rdf_tokens.proofs.quick.dotted_end.Goals as goal
+use Rattle.rdf_tokens.proofs.local.local_end.Goals as goal
 
 pub loop-next-init : goal.loop-next-init
 loop-next-init c = record { within = c.requires; rests = rests_none c.args.bytes.now c.args.from c.requires }

@@ -1,6 +1,6 @@
 use Rattle.std.proofs.Common.{◌-◌, ◌≤◌, length}
-use Rattle.rdf_tokens.specs.Quick.{RestsInLocal}
-use Rattle.rdf_tokens.proofs.quick.dotted_end.Given as goal
+use Rattle.rdf_tokens.specs.Local.{RestsInLocal}
+use Rattle.rdf_tokens.proofs.local.local_end.Given as goal
 
 abbrev pub invariant-loop-next : goal.invariant-loop-next
 invariant-loop-next l = record {
