@@ -4,7 +4,7 @@ use Rattle.std.specs.Str.{IsUtf8, IsCharBoundary}
 use Rattle.std.proofs.lemmas.Bool.{cases_Bool, cases_lt, cond-true, cond-false}
 use Rattle.std.proofs.lemmas.Bool.Decides.{nat_tests}
 use Rattle.std.proofs.lemmas.Str.{IsCharBoundary-from_take}
-use Rattle.std.proofs.lemmas.List.{append-nil, drop-append-le, drop-drop, length-drop, length-take-le, take-append-drop, take-append-le}
+use Rattle.std.proofs.lemmas.List.{drop-append-le, drop-drop, length-drop, length-take-le, take-append-drop, take-append-le}
 use Rattle.std.proofs.Math.Seq.{take-add, take-length}
 use Rattle.rdf_terms.specs.Runs.{IsRun, is_ascii_byte}
 use Rattle.rdf_tokens.specs.Scans.{most_bytes}
@@ -14,7 +14,7 @@ use Rattle.rdf_lines.specs.Canonical.{written_as}
 use Rattle.rdf_lines.proofs.AsciiLemmas.{low_encodes, low_scalars}
 use Rattle.rdf_stream.specs.declared.fault.StreamFault.{StreamFault}
 use Rattle.rdf_stream.specs.Parts.{HaltsWithin, IsAsciiText, MayPass}
-use Rattle.rdf_stream.specs.Pieces.{HaltsOn, HasBegun, TakesMore}
+use Rattle.rdf_stream.specs.Pieces.{HaltsOn, HasBegun, StaysOn, TakesMore}
 
 -- a front of an ASCII text is ASCII
 pub ascii_take : (n : ℕ) (w : List ℕ) → IsAsciiText w → IsAsciiText (take n w)
@@ -38,6 +38,10 @@ ascii_drop : (n : ℕ) (w : List ℕ) → IsAsciiText w → IsAsciiText (drop n 
 ascii_drop zero w a = a
 ascii_drop (suc n) [] a = tt
 ascii_drop (suc n) (b ∷ w) a = ascii_drop n w a.1
+
+-- and a front of that
+pub ascii_from : (text rest : List ℕ) (at : ℕ) → rest ≡ take (length rest) (drop at text) → IsAsciiText text → IsAsciiText rest
+ascii_from text rest at e a = subst IsAsciiText (sym e) (ascii_take (length rest) (drop at text) (ascii_drop at text a))
 
 -- the text may be cut where a run of ASCII ends
 module _ (w : List ℕ) (n : ℕ) (r : IsRun is_ascii_byte w 0 n) where
@@ -80,7 +84,7 @@ pub pass_later : (text front later : List ℕ) (at n to : ℕ) (b : Bool) → to
 pass_later text front later at n to b t m e = record {
   stands = sym (take-length later) ∙ (front_at (drop at text) front later (length front) n (length later) m.stands e (omega arith)
       ∙ ap (take (length later)) (drop-drop n at text ∙ ap (λ k. drop k text) (sym t)));
-  ascii = λ h. subst IsAsciiText (sym e) (ascii_take (length later) (drop n front) (ascii_drop n front (m.ascii h)));
+  ascii = λ h. ascii_from front later n e (m.ascii h);
 }
 
 -- such a front ends within the bytes
@@ -89,10 +93,6 @@ front_within rest text front v at n t f h w =
     omega (arith, ap length (front_at rest text front v at n t f h), length-take-le n front h, length-take n (drop at rest), length-drop at rest, w)
 
 module _ {R : Type 0} (taken : R → List ℕ → R → Type 0) where
-  -- nothing more was taken
-  pub takes_none : (a : R) → TakesMore taken a [] a
-  takes_none a first bytes t = subst (λ b. taken first b a) (sym (append-nil bytes)) t
-
   -- a part more was taken, and then another
   pub takes_both : (a b c : R) (part more : List ℕ) → TakesMore taken a part b → TakesMore taken b more c → TakesMore taken a (part ++ more) c
   takes_both a b c part more p q first bytes t = subst (λ l. taken first l c) (append_assoc bytes part more) (q first (bytes ++ part) (p first bytes t))
@@ -116,6 +116,23 @@ module _ {R : Type 0} (taken : R → List ℕ → R → Type 0) where
   pub takes_after : (a b c : R) (text part : List ℕ) (n : ℕ) → n ≡ 0 → TakesMore taken a (take n text) b → TakesMore taken b part c → TakesMore taken a part c
   takes_after a b c text part n z p q = takes_both a b c [] part (subst (λ k. TakesMore taken a (take k text) b) z p) q
 
+  -- the text before the place was taken, and what stays has stayed
+  pub record HasPassed (stays : R → R → Type 0) (a b : R) (text : List ℕ) (at : ℕ) : Type 0 where
+    pub within : at ≤ length text
+    pub takes : TakesMore taken a (take at text) b
+    pub stays_on : StaysOn stays a b
+
+  -- and a front of what stands from there on
+  pub passes_on : (stays : R → R → Type 0) (a b c : R) (text rest : List ℕ) (at n to : ℕ) → to ≡ at + n → HasPassed stays a b text at → rest ≡ take (length rest) (drop at text) →
+      n ≤ length rest → TakesMore taken b (take n rest) c → StaysOn stays b c → HasPassed stays a c text to
+  passes_on stays a b c text rest at n to t h e l q s =
+      let all = sym (take-length text) in
+      record {
+        within = omega (arith, t, front_within text text rest (length text) at n all e l h.within);
+        takes = subst (λ k. TakesMore taken a (take k text) c) (sym t) (takes_to a b c text (take n rest) at n h.takes q (front_at text text rest (length text) at n all e l));
+        stays_on = λ first x. s first (h.stays_on first x);
+      }
+
   module _ (halts : StreamFault → R → List ℕ → Bool → R → Type 0) (f : StreamFault) where
     -- a part more was taken, and then the bytes are not read on
     pub halts_later : (a b c : R) (part more : List ℕ) → TakesMore taken a part b → HaltsOn taken halts f b (λ bytes. bytes ++ more) false c → HaltsOn taken halts f a (λ bytes. bytes ++ (part ++ more)) false c
@@ -134,3 +151,14 @@ module _ {R : Type 0} (taken : R → List ℕ → R → Type 0) where
     -- nothing was taken, and then the bytes are not read on
     pub halts_after : (a b c : R) (text : List ℕ) (n : ℕ) → n ≡ 0 → TakesMore taken a (take n text) b → HaltsWithin taken halts f b text c → HaltsWithin taken halts f a text c
     halts_after a b c text n z p h more = halts_later a b c [] (text ++ more) (subst (λ k. TakesMore taken a (take k text) b) z p) (h more)
+
+    -- the same behind a place of a text
+    pub halts_at : (a b c : R) (text rest : List ℕ) (at : ℕ) → TakesMore taken a (take at text) b → rest ≡ take (length rest) (drop at text) →
+        HaltsWithin taken halts f b rest c → HaltsWithin taken halts f a text c
+    halts_at a b c text rest at p e h more =
+        let left = drop (length rest) (drop at text) in
+        let split : rest ++ left ≡ drop at text = ap (λ l. l ++ left) e ∙ take-append-drop (length rest) (drop at text) in
+        let whole : take at text ++ (rest ++ (left ++ more)) ≡ text ++ more =
+        ap (λ l. take at text ++ l) (sym (append_assoc rest left more) ∙ ap (λ l. l ++ more) split)
+        ∙ (sym (append_assoc (take at text) (drop at text) more) ∙ ap (λ l. l ++ more) (take-append-drop at text)) in
+        subst (λ l. HaltsOn taken halts f a (λ bytes. bytes ++ l) false c) whole (halts_later a b c (take at text) (rest ++ (left ++ more)) p (h (left ++ more)))

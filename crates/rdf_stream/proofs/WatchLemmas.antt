@@ -17,6 +17,7 @@ use Rattle.rdf_tokens.specs.Good.{tokens_of}
 use Rattle.rdf_stream.specs.declared.brackets.Opened.{Opened}
 use Rattle.rdf_stream.specs.declared.brackets.TokenPlace.{TokenPlace}
 use Rattle.rdf_stream.specs.Brackets.{IsOpenBefore}
+use Rattle.rdf_stream.specs.Kept.{Kept, Watches}
 use Rattle.rdf_stream.specs.Watches.{Follows, IsNearFault, IsToldOf, WatchesAll}
 use Rattle.rdf_stream.specs.declared.watch.Nearby.{Nearby}
 use Rattle.rdf_stream.specs.declared.watch.Nearby.TheVariants.{Unasked, Asked, Told}
@@ -92,6 +93,20 @@ take_past (c ∷ u) v n = let e : length (c ∷ u) + n ≡ suc (length u + n) = 
 pub drop_past : (u v : List ℕ) (n : ℕ) → drop (length u + n) (u ++ v) ≡ drop n v
 drop_past [] v n = ap (λ k. drop k v) (let e : 0 + n ≡ n = omega arith in e)
 drop_past (c ∷ u) v n = let e : length (c ∷ u) + n ≡ suc (length u + n) = omega arith in ap (λ k. drop k (c ∷ u ++ v)) e ∙ drop_past u v n
+
+-- the bytes before one that is kept, those from it on, and its column
+module _ (kept : Kept) (bytes : List ℕ) (w : Watches kept bytes) (offset at : ℕ) (e : offset ≡ kept.offset + at) where
+  past : offset ≡ length w.gone + at
+  past = e ∙ ap (λ n. n + at) w.offset
+
+  pub front_kept : take offset bytes ≡ w.gone ++ take at kept.bytes
+  front_kept = ap (take offset) w.whole ∙ (ap (λ n. take n (w.gone ++ kept.bytes)) past ∙ take_past w.gone kept.bytes at)
+
+  pub rest_kept : drop offset bytes ≡ drop at kept.bytes
+  rest_kept = ap (drop offset) w.whole ∙ (ap (λ n. drop n (w.gone ++ kept.bytes)) past ∙ drop_past w.gone kept.bytes at)
+
+  pub column_kept : column_after kept.column (take at kept.bytes) ≡ column_after 1 (take offset bytes)
+  column_kept = ap (λ n. column_after n (take at kept.bytes)) w.column ∙ (sym (column_append 1 w.gone (take at kept.bytes)) ∙ ap (column_after 1) (sym front_kept))
 
 -- the last bytes are those of the part that has enough
 pub last_part : (u w : List ℕ) → reach ≤ length w → last_of reach (u ++ w) ≡ last_of reach w

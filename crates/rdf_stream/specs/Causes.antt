@@ -4,7 +4,8 @@ use Rattle.rdf_terms.specs.declared.reason.Reason.{Reason}
 use Rattle.rdf_terms.specs.declared.reason.Reason.TheVariants as reason
 use Rattle.rdf_stream.specs.declared.causes.Cause.{Cause}
 use Rattle.rdf_stream.specs.declared.causes.Cause.TheVariants as cause
-use Rattle.rdf_stream.specs.Signs.{has_space_before, has_surrogate, is_badly_escaped, is_direction, is_directive, is_in_directive, is_json_ld, is_latin1, is_mark, is_month, is_open_string, is_packed, is_prefix_without_colon, is_slash_in_name, is_triple_term, is_turtle, is_underscore_in_tag, is_utf16, is_web_page, is_xml, starts_word}
+use Rattle.rdf_stream.specs.Signs.{has_space_before, has_surrogate, is_badly_escaped, is_direction, is_directive, is_in_directive, is_json_ld, is_latin1, is_mark, is_month, is_open_string}
+use Rattle.rdf_stream.specs.Signs.{is_packed, is_prefix_without_colon, is_slash_in_name, is_triple_term, is_turtle, is_underscore_in_tag, is_utf16, is_web_page, is_xml, starts_word}
 
 -- a row of a table: the cause, where its sign is there
 abbrev pub row : Bool → Cause → Option Cause

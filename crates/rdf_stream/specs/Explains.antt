@@ -7,7 +7,8 @@ use Rattle.rdf_iri.specs.Limits.{Sizes}
 use Rattle.rdf_terms.specs.declared.reason.Reason.{Reason}
 use Rattle.rdf_terms.specs.declared.reason.Reason.TheVariants.{NoToken, BadEscape as Bad, TokenTooLong, IriTooLong, TooDeep, TooManyBindings, Unbound, NoBase, RelativeIri, Unexpected}
 use Rattle.rdf_terms.specs.declared.kind.Kind.{Kind}
-use Rattle.rdf_terms.specs.declared.kind.Kind.TheVariants.{IriRef, LabelNode, ShortString, LongString, LangTag, Carets, Dot, LineEnd, Integer, Decimal, Double, True, False, A, AtPrefix, AtBase, Prefix, Base, Graph, PnameNs, PnameLn, Semicolon, Comma, OpenBracket, CloseBracket, OpenParen, CloseParen, OpenBrace, CloseBrace, End}
+use Rattle.rdf_terms.specs.declared.kind.Kind.TheVariants.{IriRef, LabelNode, ShortString, LongString, LangTag, Carets, Dot, LineEnd, Integer, Decimal, Double, True, False, A, AtPrefix}
+use Rattle.rdf_terms.specs.declared.kind.Kind.TheVariants.{AtBase, Prefix, Base, Graph, PnameNs, PnameLn, Semicolon, Comma, OpenBracket, CloseBracket, OpenParen, CloseParen, OpenBrace, CloseBrace, End}
 use Rattle.rdf_tokens.specs.declared.token.Fault.{Fault}
 use Rattle.rdf_driver.specs.Kinds.{has}
 use Rattle.rdf_stream.specs.declared.brackets.Opened.{Opened}

@@ -18,6 +18,9 @@ const FIRST_LEAST: usize = 8;
 /// From so many bytes on they are no more.
 const LAST_LEAST: usize = 4096;
 
+/// After so many tries in a row that passed no lines with escapes, none of a piece are tried behind lines that stand as they are written.
+const MOST_TRIES: usize = 3;
+
 /// Takes the parts of pieces: passes what it can, and reads the others.
 pub(crate) trait Parts<L> {
     /// From the first state on, these bytes were taken.
@@ -113,9 +116,10 @@ fn take_rest<L, R: Parts<L>>(
     let mut left = "";
     let mut at = 0;
     let mut least = 0;
+    let mut tries = MOST_TRIES;
     while at < rest.len() {
         let front = front_from(left, text, at, is_ascii);
-        let passed = match pass_some(run, front, ending, is_ascii, out) {
+        let passed = match pass_some(run, front, ending, is_ascii, &mut tries, out) {
             Ok(passed) => passed,
             Err(fault) => return Err(fault),
         };
@@ -133,12 +137,14 @@ fn take_rest<L, R: Parts<L>>(
     Ok(())
 }
 
-// Passes a front of the text: lines that stand as they are written, or where none do, lines with any escapes.
+// Passes a front of the text: lines that stand as they are written, and lines with any escapes in turn with them; or where none stand so, the others.
+// Behind some that stand so the others are tried until so many tries in a row have passed none.
 fn pass_some<L, R: Parts<L>>(
     run: &mut R,
     text: &str,
     ending: LineEnding,
     is_ascii: bool,
+    tries: &mut usize,
     out: &mut L,
 ) -> Result<usize, StreamFault>
     requires begun { HasBegun R.taken (run.old, out.old) }
@@ -148,17 +154,33 @@ fn pass_some<L, R: Parts<L>>(
     ensures stays { StaysOn R.stays (run.old, out.old) (run.new, out.new) }
     ensures halts { IfErr result (λ f. HaltsWithin R.taken R.halts f (run.old, out.old) text.now (run.new, out.new)) }
 {
-    let passed = match run.pass_front(text, ending, is_ascii, out) {
+    let mut at = match run.pass_front(text, ending, is_ascii, out) {
         Ok(passed) => passed,
         Err(fault) => return Err(fault),
     };
-    if passed > 0 {
-        return Ok(passed);
+    if at == 0 {
+        return match run.pass_escaped(text, ending, out) {
+            Ok(more) => Ok(more),
+            Err(fault) => Err(fault),
+        };
     }
-    match run.pass_escaped(text, ending, out) {
-        Ok(more) => Ok(more),
-        Err(fault) => Err(fault),
+    while *tries > 0 {
+        match run.pass_escaped(text_from(text, at), ending, out) {
+            Ok(0) => {
+                *tries -= 1;
+                return Ok(at);
+            }
+            Ok(more) => at += more,
+            Err(fault) => return Err(fault),
+        }
+        *tries = MOST_TRIES;
+        match run.pass_front(text_from(text, at), ending, is_ascii, out) {
+            Ok(0) => return Ok(at),
+            Ok(passed) => at += passed,
+            Err(fault) => return Err(fault),
+        }
     }
+    Ok(at)
 }
 
 // How the last line of a part ends.

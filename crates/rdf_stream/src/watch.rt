@@ -306,10 +306,10 @@ impl<A: Allocator + Copy> Watch<A> {
             IfSome bracket (IsOpenBefore (tokens_of words.dialect words.limit bytes is_end) offset) →
             IsNear words.dialect words.limit bytes is_end offset n)) }
     {
-        if offset < self.offset || (self.kept.len() as u64) < offset - self.offset {
-            return Ok(None);
-        }
-        let at = (offset - self.offset) as usize;
+        let at = match self.place_of(offset) {
+            Some(at) => at,
+            None => return Ok(None),
+        };
         match self.line_before(at) {
             Some(line) => Ok(Some(Near {
                 column: column_after(self.column, &self.kept[..at]),
@@ -340,11 +340,19 @@ impl<A: Allocator + Copy> Watch<A> {
     fn column_at(&self, offset: u64) -> Option<u64>
         ensures { IfSome result (λ n. (bytes : List ℕ) → Watches self.now bytes → n ≡ column_after 1 (take offset bytes)) }
     {
+        let at = self.place_of(offset)?;
+        Some(column_after(self.column, &self.kept[..at]))
+    }
+
+    // Where this byte stands in what is kept, if it is among that.
+    fn place_of(&self, offset: u64) -> Option<usize>
+        ensures within { IfSome result (λ at. at ≤ length self.now.bytes) }
+        ensures is { IfSome result (λ at. offset ≡ self.now.offset + at) }
+    {
         if offset < self.offset || (self.kept.len() as u64) < offset - self.offset {
             return None;
         }
-        let at = (offset - self.offset) as usize;
-        Some(column_after(self.column, &self.kept[..at]))
+        Some((offset - self.offset) as usize)
     }
 
     // The last bytes of the line in front of a byte that is kept. None where more of them would be told than are kept.

@@ -531,7 +531,9 @@ pub(crate) static STARTED: [Started; 52] = [
         line: "rdfconv check --explain open.ttl no.nt - data.ttl",
         status: 3,
         written: "-: accepted, 1 quads, 19 bytes\n",
-        reported: "open.ttl: unexpected token at byte 19, line 2\nopen.ttl:2:1: unexpected token: \".\"; expected \";\", \",\" or \"]\"; \"[\" is open since line 1, column 11\n.\n^\nno.nt: cannot open file\nno.nt: no such file in memory\ndata.ttl: unbound prefix at byte 0, line 1\ndata.ttl:1:1: unbound prefix: \"ex:s\"\nex:s ex:p ex:o .\n^\n",
+        reported: "open.ttl: unexpected token at byte 19, line 2\nopen.ttl:2:1: unexpected token: \".\"; expected \";\", \",\" or \"]\"; \"[\" is open since line 1, column 11\n.\n^\n\
+            no.nt: cannot open file\nno.nt: no such file in memory\n\
+            data.ttl: unbound prefix at byte 0, line 1\ndata.ttl:1:1: unbound prefix: \"ex:s\"\nex:s ex:p ex:o .\n^\n",
     },
     Started {
         line: "rdfconv convert --explain --prefixes=no.txt data.ttl",

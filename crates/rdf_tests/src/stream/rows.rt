@@ -25,7 +25,7 @@ pub(crate) enum Set {
     WithBase,
 }
 
-pub(crate) static ROWS: [(Set, &[u8], &str); 45] = [
+pub(crate) static ROWS: [(Set, &[u8], &str); 48] = [
     (
         Set::Statements,
         b"PREFIX : <http://e/>\n:s :p [ :q ( 1 2 ) ] .",
@@ -127,6 +127,40 @@ _:b <a:p> \"q\\\"r\\n\" .
 <a:s> <a:p> <a:o> .
 _:b <a:p> <a:o> .
 ",
+    ),
+    // Lines with escapes among such, and one that is read.
+    (
+        Set::Lines,
+        b"<a:s> <a:p> <a:o> .\n<a:s> <a:p> \"x\" .\n<a:s> <a:p> \"\\u00e9\" .\n_:b <a:p> \"y\"@en .\n<a:s> <a:\\u0070> \"\\u0041\" .\n<a:s> <a:p> \"\\u007a\"^^<a:t> .\n<a:s> <a:p> \"\xC3\xA9\" .\n<a:s> <a:p> <a:o> . # c\n<a:s> <a:p> <a:t> .\n",
+        "<a:s> <a:p> <a:o> .
+<a:s> <a:p> \"x\" .
+<a:s> <a:p> \"é\" .
+_:b <a:p> \"y\"@en .
+<a:s> <a:p> \"A\" .
+<a:s> <a:p> \"z\"^^<a:t> .
+<a:s> <a:p> \"é\" .
+<a:s> <a:p> <a:o> .
+<a:s> <a:p> <a:t> .
+",
+    ),
+    (
+        Set::Lines,
+        b"<a:s> <a:p> <a:o> .\r\n<a:s> <a:p> \"x\" .\r\n<a:s> <a:p> \"\\u00e9\" .\r\n_:b <a:p> \"y\"@en .\r\n<a:s> <a:\\u0070> \"\\u0041\" .\r\n<a:s> <a:p> \"\\u007a\"^^<a:t> .\r\n<a:s> <a:p> \"\xC3\xA9\" .\r\n<a:s> <a:p> <a:o> . # c\r\n<a:s> <a:p> <a:t> .\r\n",
+        "<a:s> <a:p> <a:o> .
+<a:s> <a:p> \"x\" .
+<a:s> <a:p> \"é\" .
+_:b <a:p> \"y\"@en .
+<a:s> <a:p> \"A\" .
+<a:s> <a:p> \"z\"^^<a:t> .
+<a:s> <a:p> \"é\" .
+<a:s> <a:p> <a:o> .
+<a:s> <a:p> <a:t> .
+",
+    ),
+    (
+        Set::Lines,
+        b"<a:s> <a:p> <a:o> .\n<a:s> <a:p> \"x\" .\n<a:s> <a:p> \"\\u0041\" .\n<a:s> <a:p> <a:o> .\n<a:s> <a:p> <o> .\n",
+        "<a:s> <a:p> <a:o> .\n<a:s> <a:p> \"x\" .\n<a:s> <a:p> \"A\" .\n<a:s> <a:p> <a:o> .\nrdfconv: relative IRI at byte 93, line 5\n",
     ),
     (
         Set::Lines,
