@@ -18,7 +18,7 @@ const FIRST_LEAST: usize = 8;
 /// From so many bytes on they are no more.
 const LAST_LEAST: usize = 4096;
 
-/// After so many tries in a row that passed no lines with escapes, none of a piece are tried behind lines that stand as they are written.
+/// After so many tries in a row that passed no line with escapes, no more are made behind lines that stand as they are written, up to the end of the piece.
 const MOST_TRIES: usize = 3;
 
 /// Takes the parts of pieces: passes what it can, and reads the others.
@@ -137,8 +137,9 @@ fn take_rest<L, R: Parts<L>>(
     Ok(())
 }
 
-// Passes a front of the text: lines that stand as they are written, and lines with any escapes in turn with them; or where none stand so, the others.
-// Behind some that stand so the others are tried until so many tries in a row have passed none.
+// Passes a front of the text: lines that stand as they are written and, in turn with them, lines with any escapes. Where the text begins with none
+// of the former, the latter are tried once. Behind some of the former they are tried while tries are left: one that passes none takes one of these,
+// and one that passes some gives all back.
 fn pass_some<L, R: Parts<L>>(
     run: &mut R,
     text: &str,
