@@ -1,15 +1,14 @@
 -- Lines whose strings and IRIs may have any escapes are read.
-use Rattle.std.proofs.Common.{◌≡◌, ℕ, ◌+◌, ◌<◌, ◌≤◌, Bool, true, false, List, [], ◌∷◌, ◌++◌, refl, sym, ap, ◌∙◌, subst, append_assoc, Option, Some, None, length, is_some, arith, length-append}
-use Rattle.std.specs.Prelude.{flat_map, option_map, unwrap_or, encode_utf8_all}
-use Rattle.std.specs.Str.{chars, IsUtf8}
-use Rattle.std.proofs.lemmas.List.{append-nil}
-use Rattle.std.proofs.lemmas.Str.{encodes-append, encodes-chars, chars-encodes, length-le-encodes, scalars-chars}
+use Rattle.std.proofs.Common.{◌≡◌, ℕ, ◌+◌, ◌≤◌, true, false, List, [], ◌∷◌, ◌++◌, refl, sym, ap, ◌∙◌, subst, Option, Some, None, length, is_some, arith, length-append}
+use Rattle.std.specs.Prelude.{option_map, unwrap_or, encode_utf8_all}
+use Rattle.std.specs.Str.{chars}
+use Rattle.std.proofs.lemmas.Str.{chars-encodes, length-le-encodes, scalars-chars}
 use Rattle.std.proofs.Math.Utf8.{encodes, scalars}
 use Rattle.rdf_terms.specs.declared.kind.Dialect.TheVariants.{Lines}
 use Rattle.rdf_terms.specs.declared.kind.Kind.{Kind}
-use Rattle.rdf_terms.specs.declared.kind.Kind.TheVariants.{IriRef, LabelNode, ShortString, LangTag, Carets, Dot, LineEnd}
+use Rattle.rdf_terms.specs.declared.kind.Kind.TheVariants.{IriRef, LabelNode, ShortString, LangTag, Carets, Dot}
 use Rattle.rdf_terms.specs.Regex.{Matches}
-use Rattle.rdf_terms.specs.Shapes.{shape, any_shape, kinds, is_live}
+use Rattle.rdf_terms.specs.Shapes.{any_shape, kinds, is_live}
 use Rattle.rdf_terms.specs.Values.{is_fit, iri_value, string_value}
 use Rattle.rdf_terms.specs.Terms.{IsSubject, IsTail, IsTerm, IsGraph, Label, Anon, Cell, Tail, Lang, Typed, Subject, Iri, Blank, Term, Resource, Literal, Quad, xsd_string, has_scheme, IsIri, IsLabel, IsTag, IsQuad}
 use Rattle.rdf_terms.proofs.ShapesLemmas.{live-matches}
@@ -27,23 +26,23 @@ use Rattle.rdf_lines.specs.declared.form.Escapes.TheVariants.{Plain}
 use Rattle.rdf_lines.specs.declared.form.Style.TheVariants.{Kept}
 use Rattle.rdf_lines.specs.declared.rules.Rules.{Rules}
 use Rattle.rdf_lines.specs.Accepting.{LineAt, line_words}
-use Rattle.rdf_lines.specs.Canonical.{end_text, end_count, LabelFits}
+use Rattle.rdf_lines.specs.Canonical.{end_text, end_count}
 use Rattle.rdf_lines.specs.Escaped.{is_clear, IriSpelled, StringSpelled, NamedIri, NameStands, LabelSpelled, SubjectSpelled, Spaced, TagSpelled, TypeSpelled, TailSpelled, LiteralSpelled, TermSpelled, GraphSpelled, LineSpelled}
 use Rattle.rdf_lines.specs.Fronts.{Stands}
 use Rattle.rdf_lines.specs.Laws.{IrisWithin, SubjectWithin, TailWithin, TermWithin, GraphWithin}
 use Rattle.rdf_lines.specs.Lines as L
 use Rattle.rdf_lines.specs.Lines.{Name, Ref, Lab, Object, Named, Plain as PlainString, WithType, WithTag, Statement, name_tokens, object_tokens, graph_tokens, statement_tokens, string_of, subject_of, term_of, quad_of, name_bound, object_bound, graph_bound, graph_fits, GoodStatement}
-use Rattle.rdf_lines.specs.Machine.{Begin, AfterDot, ran, with_quad, run, is_taken}
+use Rattle.rdf_lines.specs.Machine.{Begin, ran, with_quad, run, is_taken}
 use Rattle.rdf_lines.specs.Writing.{CanWrite, CanWriteSubject, CanWriteTerm, CanWriteGraph}
 use Rattle.rdf_lines.proofs.AcceptedLemmas.{statement_taken}
 use Rattle.rdf_lines.proofs.CanonicalLines.{end_tokens, end_counted, end_ran, end_short, spells_end}
 use Rattle.rdf_lines.proofs.Complete.{run_statement}
-use Rattle.rdf_lines.proofs.EncodedLine.{low, xsd}
+use Rattle.rdf_lines.proofs.EncodedLine.{xsd}
 use Rattle.rdf_lines.proofs.EscapedTokens.{clear_chars, clear_ends, iri_shaped, string_shaped}
 use Rattle.rdf_lines.proofs.FrontsLemmas.{stands_then, stands_byte, stands_text, end_stands, xsd_iri}
 use Rattle.rdf_lines.proofs.NextToken.{cut_by_other, cut_by_shape, kind_at, shape_at}
 use Rattle.rdf_lines.proofs.Runs.{with_quads, then, run_append}
-use Rattle.rdf_lines.proofs.SpelledLine.{AllShort, Spells, same_quad, alone, leaf, iri_space, label_fit, label_shape, label_space, tag_fit, tag_shape, tag_space, total, total_short, short_both, spells_alone, spells_before_space, spells_carets, spells_dot, spells_nothing, spells_space, spells_then}
+use Rattle.rdf_lines.proofs.SpelledLine.{AllShort, Spells, same_quad, leaf, iri_space, label_fit, label_shape, label_space, tag_fit, tag_shape, tag_space, total, total_short, short_both, spells_alone, spells_before_space, spells_carets, spells_dot, spells_nothing, spells_space, spells_then}
 use Rattle.rdf_lines.proofs.WritingLemmas.{begins_iri, begins_label, begins_string, begins_tag, inside_one}
 use Rattle.rdf_lines.proofs.WrittenText.{scalars_append}
 

@@ -1,6 +1,5 @@
 -- What the code finds in lines whose strings and IRIs may have any escapes.
-use Rattle.std.proofs.Common.{◌≡◌, ℕ, zero, suc, ◌+◌, ◌-◌, ◌<◌, ◌≤◌, Bool, true, false, ◌&&◌, ◌==◌, List, [], ◌∷◌, ◌++◌, refl, sym, ap, ◌∙◌, subst, ⊎_elim, append_assoc, Some, length, take, drop, get_or, arith, length-take}
-use Rattle.std.specs.Prelude.{flat_map}
+use Rattle.std.proofs.Common.{◌≡◌, ℕ, zero, suc, ◌+◌, ◌-◌, ◌<◌, ◌≤◌, Bool, true, false, ◌==◌, List, [], ◌∷◌, ◌++◌, refl, sym, ap, ◌∙◌, subst, ⊎_elim, append_assoc, Some, length, take, drop, get_or, arith, length-take}
 use Rattle.std.specs.Str.{chars, IsUtf8}
 use Rattle.std.proofs.Math.Utf8.{encodes}
 use Rattle.std.proofs.lemmas.Bool.{cases_Bool, cond-true, cond-false, false≢true, and_parts, and_from}
@@ -13,7 +12,6 @@ use Rattle.rdf_terms.specs.Values.{iri_value, string_value}
 use Rattle.rdf_lines.specs.declared.form.Escapes.TheVariants.{Plain}
 use Rattle.rdf_lines.specs.Escaped.{is_clear, IriSpelled, StringSpelled}
 use Rattle.rdf_lines.specs.Fronts.{IriStands}
-use Rattle.rdf_lines.specs.Writing.{written}
 use Rattle.rdf_lines.proofs.EncodedLine.{low}
 use Rattle.rdf_lines.proofs.EscapedRuns.{each}
 use Rattle.rdf_lines.proofs.EscapedTokens.{plain_step}

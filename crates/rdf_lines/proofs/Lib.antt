@@ -18,6 +18,7 @@ mod Refusals
 mod Lag
 mod Due
 pub mod EncodedLine
+mod PlainTypeLemmas
 pub mod EscapedRuns
 pub mod EscapedTokens
 pub mod EscapedParts

@@ -1,6 +1,6 @@
 // Terms as they are written (N-Quads 4).
 
-ghost use Rattle.std.specs.Prelude.{◌≡◌, ◌↔◌, ◌∷◌, ◌++◌, bytes_eq, encode_utf8_all, IfSome, None, OnErr, OnOk};
+ghost use Rattle.std.specs.Prelude.{◌≡◌, ◌↔◌, ◌∷◌, ◌++◌, ◌+◌, ◌≤◌, bytes_eq, drop, encode_utf8_all, length, take, IfSome, None, OnErr, OnOk};
 ghost use Rattle.rdf_terms.specs.Terms.{xsd_string};
 ghost use Rattle.rdf_terms.specs.Views.{iri_chars, node_of};
 ghost use Rattle.rdf_lines.specs.Forms.{form_of};
@@ -12,6 +12,7 @@ use crate::writer::string::{put_characters, put_string};
 use itoa::Buffer;
 use rdf_terms::{IriView, NodeRef, SubjectRef, TailRef, TermRef};
 use std::alloc::{AllocError, Allocator};
+use std::simd::prelude::*;
 
 pub fn put_term<A: Allocator + Copy>(
     term: TermRef<'_>,
@@ -148,7 +149,24 @@ fn put_tail<A: Allocator + Copy>(
 pub fn is_plain(datatype: &[u8]) -> bool
     ensures { result ≡ bytes_eq datatype.now xsd_string }
 {
-    datatype == b"http://www.w3.org/2001/XMLSchema#string".as_slice()
+    if datatype.len() != 39 {
+        return false;
+    }
+    let first = stand_at(b"http://www.w3.or", datatype, 0);
+    let second = stand_at(b"g/2001/XMLSchema", datatype, 16);
+    let third = stand_at(b"XMLSchema#string", datatype, 23);
+    first & second & third
+}
+
+// Whether these sixteen bytes stand at a place, by one load.
+#[inline(always)]
+fn stand_at(these: &[u8], bytes: &[u8], at: usize) -> bool
+    requires sixteen { length these.now ≡ 16 }
+    requires inside { at + 16 ≤ length bytes.now }
+    ensures { result ≡ bytes_eq (take 16 (drop at bytes.now)) these.now }
+{
+    let differs = u8x16::from_slice(&bytes[at..]).simd_ne(u8x16::from_slice(these));
+    differs.to_bitmask() == 0
 }
 
 #[tactic(auto, using(crate::proofs::EncodedLine::encoded_type))]
