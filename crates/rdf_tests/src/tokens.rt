@@ -178,7 +178,9 @@ static STEPS: [(Step, Answer); 260] = [
     // So are carets, and strings with escapes or between three quotes. Of names with letters of other scripts and escapes all is taken.
     (Step::Start(Dialect::Turtle, 128), Answer::Started),
     (
-        Step::Push(b"; \"a\\nb\"^^x:t \"\"\"a\"b\"\"\" x:\xC3\xA9t\xC3\xA9-1:b%2F\\~.c, x:\xCE\xA9\xD0\xB0\xE6\x88\x91\xEA\xB0\x80.b x:a\xC3\xB7 ;"),
+        Step::Push(
+            b"; \"a\\nb\"^^x:t \"\"\"a\"b\"\"\" x:\xC3\xA9t\xC3\xA9-1:b%2F\\~.c, x:\xCE\xA9\xD0\xB0\xE6\x88\x91\xEA\xB0\x80.b x:a\xC3\xB7 ;",
+        ),
         Answer::Took(66),
     ),
     (Step::Next, Answer::Token(Kind::Semicolon, 0, 1, 1)),
