@@ -42,6 +42,31 @@ impl Known for Other {
     }
 }
 
+/// Nothing, of a token that the longer look sees: an instance apart.
+pub struct Far;
+
+impl Known for Far {
+    ghost is = { λ k. ⊤ };
+
+    #[inline(always)]
+    fn kind(of: Kind) -> Kind {
+        of
+    }
+}
+
+/// It is `Kind::PnameLn`, of a token that the longer look sees.
+pub struct FarPnameLn;
+
+impl Known for FarPnameLn {
+    ghost is = { λ k. k ≡ KindIs.PnameLn };
+
+    #[inline(always)]
+    fn kind(of: Kind) -> Kind {
+        let _ = of;
+        Kind::PnameLn
+    }
+}
+
 /// It is `Kind::PnameLn`.
 pub struct OnlyPnameLn;
 

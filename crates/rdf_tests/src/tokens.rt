@@ -1,7 +1,7 @@
 // Documents in pieces, and where they are refused.
 
 use rdf_terms::Reason;
-use rdf_tokens::{Dialect, Kind, RunClass, Scanner, plain_run};
+use rdf_tokens::{Blanks, Dialect, Kind, RunClass, Scanner, plain_run};
 use std::alloc::{AllocError, Global};
 
 // What a call answers: the kind, the offset, the line and the number of bytes of a token; of a plain name the place of its colon too.
@@ -53,7 +53,7 @@ fn pass_line_feed(scanner: &mut Scanner) -> Answer {
 }
 
 fn pass_blanks(scanner: &mut Scanner) -> Answer {
-    if scanner.may_peek() && scanner.pass_blanks() {
+    if scanner.may_peek() && scanner.pass_blanks() == Blanks::Passed {
         Answer::Passed
     } else {
         Answer::Stayed

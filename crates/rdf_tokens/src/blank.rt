@@ -164,7 +164,7 @@ fn indented_bytes(bytes: &[u8]) -> usize
 
 /// Whether at a place there is neither white space of Turtle nor the beginning of a comment, but some other byte.
 #[inline(always)]
-fn is_bare(bytes: &[u8], at: usize) -> bool
+pub(crate) fn is_bare(bytes: &[u8], at: usize) -> bool
     ensures { result ≡ is_bare bytes.now at }
 {
     at < bytes.len() && comment_step(Dialect::Turtle, false, bytes[at]).is_none()

@@ -24,5 +24,5 @@ pub use good::line_feeds;
 pub use peek::Peeked;
 pub use plain::{RunClass, plain_run};
 pub use rdf_terms::{Dialect, Kind};
-pub use scanner::Scanner;
+pub use scanner::{Blanks, Scanner};
 pub use token::{Fault, ScanFault, Token};

@@ -8,11 +8,12 @@ ghost use Rattle.rdf_terms.specs.declared.kind.Kind.TheVariants.{Carets, Decimal
 ghost use Rattle.rdf_tokens.specs.Quick.{IsToken, begins_iri, is_colon, opens_with, single};
 ghost use Rattle.rdf_tokens.specs.declared.states.text.Quote.TheVariants.{Double};
 
+use crate::blank::is_bare;
 use crate::front::NoNames;
 use crate::quick::{
     are_carets, begins_label, begins_tag, digits_end, is_a, is_colon, is_decimal_end, is_dot,
-    is_integer_end, is_name_end, is_point, is_sought, quick_long, quick_named, quick_tag,
-    stands_at,
+    is_integer_end, is_name_end, is_point, is_sought, quick_front, quick_long, quick_named,
+    quick_tag, stands_at,
 };
 use crate::states::text::Quote;
 use crate::strings::quoted_len;
@@ -43,6 +44,36 @@ pub(crate) fn first_seen(text: &str, no_names: &Option<NoNames>) -> Option<Peeke
 {
     let blank = one_space(text.as_bytes());
     seen(blank, &text[blank..], no_names)
+}
+
+/// The same of all that `quick_front` tells: also of tokens that are less frequent, at more cost.
+#[inline(always)]
+pub(crate) fn far_seen(text: &str, no_names: &Option<NoNames>) -> Option<Peeked>
+    ensures { IfSome result (IsSeen text.now) }
+{
+    let blank = one_space(text.as_bytes());
+    seen_quick(blank, &text[blank..], no_names)
+}
+
+/// The token at the front of a text, as `quick_front` tells it. Where white space or a comment comes first, none is.
+#[inline(always)]
+fn seen_quick(blank: usize, text: &str, no_names: &Option<NoNames>) -> Option<Peeked>
+    ensures token { Sees text.now blank result }
+    ensures bare { IfSome result (λ p. IsBare text.now) }
+{
+    if !is_bare(text.as_bytes(), 0) {
+        return None;
+    }
+    let quick = quick_front(Dialect::Turtle, text, no_names);
+    match quick.kind {
+        Some(kind) => Some(Peeked {
+            kind,
+            blank,
+            len: quick.len,
+            colon: 0,
+        }),
+        None => None,
+    }
 }
 
 /// How many bytes the space has that comes first; none, where another byte does.

@@ -1,6 +1,6 @@
 // The scanner.
 
-ghost use Rattle.std.specs.Prelude.{false, ◌≡◌, ◌==◌, ℕ, List, [], ◌++◌, count_by, true, OnOk, OnErr, IfOk, IfSome, cond, min, ◌-◌, ◌+◌, ◌≤◌, ◌<◌, ◌&&◌, ◌||◌, nat_le, length, drop, take, encode_utf8_all, ⊤, ◌/◌};
+ghost use Rattle.std.specs.Prelude.{false, ◌≡◌, ◌≢◌, ◌==◌, ℕ, List, [], ◌++◌, count_by, true, OnOk, OnErr, IfOk, IfSome, cond, min, ◌-◌, ◌+◌, ◌≤◌, ◌<◌, ◌&&◌, ◌||◌, nat_le, length, drop, take, encode_utf8_all, ⊤, ◌/◌};
 ghost use Rattle.std.specs.Str.{chars, IsCharBoundary};
 ghost use Rattle.std.specs.String.{string_bytes};
 ghost use mathlib.Core.Option.{none};
@@ -9,6 +9,7 @@ ghost use Rattle.rdf_tokens.specs.Tokens.{Token as Read, step, is_empty};
 ghost use Rattle.rdf_tokens.specs.Scans.{PassesBlank, SameButHeld, HasScanned, Pushes, Gives, KnowsColon, left, most_bytes, token_of, place_of, unread_bytes, IsWaiting, most_unread, fitting, at_once};
 ghost use Rattle.rdf_tokens.specs.Look.{tail_after, IsLook};
 ghost use Rattle.rdf_tokens.specs.contracts.scanner.Scanner.{the_row};
+ghost use Rattle.rdf_tokens.specs.declared.scanner.Blanks.TheVariants.{Passed, InComment};
 ghost use Rattle.rdf_tokens.specs.Moves.{closed, grown, good_bytes, is_broken, rest_of_bytes, is_settled, tail_now, fault_place, is_flat, GivesEnd, GivesWithColon, Moves, MovesBytes, Stands};
 ghost use Rattle.rdf_tokens.specs.Passing.{is_idle, passed};
 ghost use Rattle.rdf_tokens.specs.Front.{bytes_of};
@@ -18,7 +19,7 @@ use crate::blank::{blank_run, indented_len, is_in_comment, is_one};
 use crate::front::{NoNames, Walk};
 use crate::good::{few_line_feeds, good_front, line_feeds, mark_len};
 use crate::look::{Look, Tail, first_look, look_at};
-use crate::peek::{Peeked, first_seen};
+use crate::peek::{Peeked, far_seen, first_seen};
 use crate::quick::stands_at;
 use crate::token::{Fault, Token};
 use rdf_terms::{Dialect, Kind, Reason};
@@ -36,6 +37,17 @@ const LEAST_AT_ONCE: u64 = 512;
 
 /// The number of bytes for which memory stays where it is given back.
 const LEAST_CAPACITY: usize = 65536;
+
+/// What white space and comments were passed before the next token.
+#[derive(Clone, Copy, PartialEq, Eq, Debug)]
+pub enum Blanks {
+    /// Some, after which the next token may stand.
+    Passed,
+    /// None: nothing stands there but one space at most, behind which `peek` has looked.
+    Nothing,
+    /// A comment that goes on to the end of the text.
+    InComment,
+}
 
 /// Takes the bytes of a document in pieces, and gives its tokens.
 #[derive(Drop)]
@@ -207,6 +219,16 @@ impl<A: Allocator + Copy> Scanner<A> {
         first_seen(self.rest(), &self.no_names)
     }
 
+    /// The same of less frequent tokens too, at more cost: names with dots, escapes or letters of other scripts, signed numbers, `true` and `false`,
+    /// strings in `'`. It is asked where `peek` tells nothing and `pass_blanks` passes nothing.
+    #[inline(always)]
+    pub fn peek_far(&self) -> Option<Peeked>
+        requires { MayPeek self.now }
+        ensures { IfSome result (IsPeeked self.now) }
+    {
+        far_seen(self.rest(), &self.no_names)
+    }
+
     /// Gives the token that was seen, as `next` would. After it `peek` can be asked again.
     #[inline(always)]
     pub fn take(&mut self, peeked: Peeked) -> Token<'_>
@@ -249,25 +271,28 @@ impl<A: Allocator + Copy> Scanner<A> {
         }
     }
 
-    /// Passes the white space and the comments of Turtle that stand next, where `peek` can be asked, and answers whether there were some and
-    /// asking it again may tell more. It can't where the text ends in a comment, nor where one space is all there was: `peek` has looked behind
-    /// it, and it stays. What the next token is, and where it stands, stays as it is: it is only sooner looked for. It takes no memory.
-    pub fn pass_blanks(&mut self) -> bool
+    /// Passes the white space and the comments of Turtle that stand next, where `peek` can be asked. It can be asked again but where the text ends in
+    /// a comment. What the next token is, and where it stands, stays as it is: it is only sooner looked for. It takes no memory.
+    pub fn pass_blanks(&mut self) -> Blanks
         requires { MayPeek self.old }
         ensures passes { PassesBlank self.old self.new }
-        ensures forward { result ≡ true → left self.new < left self.old }
-        ensures again { result ≡ true → MayPeek self.new }
+        ensures forward { result ≡ Passed → left self.new < left self.old }
+        ensures again { (result ≢ InComment) → MayPeek self.new }
     {
         if is_one(b' ', Dialect::Turtle, self.rest()) {
-            return false;
+            return Blanks::Nothing;
         }
         let blank = blank_run(self.dialect, self.comment, self.rest());
         if blank.len == 0 {
-            return false;
+            return Blanks::Nothing;
         }
         self.comment = blank.in_comment;
         self.advance(blank.len);
-        !blank.in_comment
+        if blank.in_comment {
+            Blanks::InComment
+        } else {
+            Blanks::Passed
+        }
     }
 
     // Whether tokens of Turtle are given, and no comment is open.

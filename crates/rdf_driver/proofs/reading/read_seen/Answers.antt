@@ -1,34 +1,45 @@
 -- The loop over the tokens that can be seen: each was accepted.
-use Rattle.rdf_driver.specs.Reading.{moment, moment_of}
-use Rattle.rdf_driver.proofs.ReadingLemmas.{runs_blank, runs_both, runs_none, runs_token}
+use Rattle.rdf_driver.specs.Reading.{moment_of}
+use Rattle.rdf_driver.proofs.ReadingLemmas.{fails_both, runs_both, runs_none}
 use Rattle.rdf_driver.proofs.reading.read_seen.Goals as goal
 
 pub seen-init : goal.seen-init
-seen-init g c = (
-  runs_none g.G.Grammar.words g.G.Accepts.takes g.G.Accepts.has_failed (moment_of c.args.progress.now c.args.sink.now) c.requires.ready c.requires.live,
-  c.may_peek.ensures c.if-not-may_peek.false,
-)
+seen-init g c =
+    runs_none g.G.Grammar.words g.G.Accepts.takes g.G.Accepts.has_failed (moment_of c.args.progress.now c.args.sink.now) c.requires.ready c.requires.live
 
-pub returns-then-is_long-clause-reads : goal.returns-then-is_long-clause-reads
-returns-then-is_long-clause-reads g c =
-    (runs_none g.G.Grammar.words g.G.Accepts.takes g.G.Accepts.has_failed (moment_of c.args.progress.now c.args.sink.now) c.requires.ready c.requires.live).reads
+-- a frequent token was not accepted
+pub returns-in-Err-clause-reads : goal.returns-in-Err-clause-reads
+returns-in-Err-clause-reads g c =
+    let first = moment_of c.args.progress.now c.args.sink.now in
+    let now = moment_of c.seen.progress c.seen.sink in
+    let new = c.read_near.new in
+    fails_both g.G.Grammar.words g.G.Accepts.takes g.G.Accepts.leaves g.G.Accepts.has_failed c.in-Err.reason _ _ first now new.progress.scanner new.progress.grammar
+    new.sink c.seen.invariant c.in-Err.ensures.reads
 
--- a token was accepted
-pub seen-preserved-in-Ok : goal.seen-preserved-in-Ok
-seen-preserved-in-Ok g c =
+pub returns-in-Ok-false-clause-reads : goal.returns-in-Ok-false-clause-reads
+returns-in-Ok-false-clause-reads g c =
+    let first = moment_of c.args.progress.now c.args.sink.now in
+    let now = moment_of c.seen.progress c.seen.sink in
+    let near = moment_of c.read_near.new.progress c.read_near.new.sink in
+    let e = c.in-Ok-false.ensures in
+    (runs_both g.G.Grammar.words g.G.Accepts.takes g.G.Accepts.has_failed first now near c.seen.invariant
+    (record { reads = e.reads; limits = e.limits; live = e.live })).reads
+
+-- a token that takes the longer look was not accepted
+pub returns-in-Err-read_far-clause-reads : goal.returns-in-Err-read_far-clause-reads
+returns-in-Err-read_far-clause-reads g c =
     let words = g.G.Grammar.words in
     let takes = g.G.Accepts.takes in
     let failed = g.G.Accepts.has_failed in
     let first = moment_of c.args.progress.now c.args.sink.now in
     let now = moment_of c.seen.progress c.seen.sink in
-    let next = moment_of c.read_peeked.new.progress c.read_peeked.new.sink in
-    let runs = c.seen.invariant.0 in
-    let k = c.in-Ok.ensures.reads in (
-      runs_both words takes failed first now next runs (runs_token words takes failed now next k.0 runs.reads.ready k.1 k.2 c.in-Ok.ensures.limits c.in-Ok.ensures.live),
-      c.in-Ok.ensures.again,
-    )
+    let near = moment_of c.read_near.new.progress c.read_near.new.sink in
+    let new = c.read_far.new in
+    let e = c.in-Ok-true.ensures in
+    let runs = runs_both words takes failed first now near c.seen.invariant (record { reads = e.reads; limits = e.limits; live = e.live }) in
+    fails_both words takes g.G.Accepts.leaves failed c.in-Err-read_far.reason _ _ first near new.progress.scanner new.progress.grammar new.sink runs c.in-Err-read_far.ensures.reads
 
--- white space was passed
+-- it was, or was not seen
 pub seen-preserved : goal.seen-preserved
 seen-preserved g c =
     let words = g.G.Grammar.words in
@@ -36,19 +47,25 @@ seen-preserved g c =
     let failed = g.G.Accepts.has_failed in
     let first = moment_of c.args.progress.now c.args.sink.now in
     let now = moment_of c.seen.progress c.seen.sink in
-    let runs = c.seen.invariant.0 in
-    let v = c.pass_blanks.new.self in (
-      runs_both words takes failed first now (moment v now.grammar now.so_far now.sink) runs (runs_blank words takes failed now v runs.reads.ready c.pass_blanks.ensures.passes runs.live),
-      c.pass_blanks.ensures.again c.if-pass_blanks.true,
-    )
+    let near = moment_of c.read_near.new.progress c.read_near.new.sink in
+    let next = moment_of c.read_far.new.progress c.read_far.new.sink in
+    let e = c.in-Ok-true.ensures in
+    let f = c.in-Ok-true-read_far.ensures in
+    runs_both words takes failed first near next
+    (runs_both words takes failed first now near c.seen.invariant (record { reads = e.reads; limits = e.limits; live = e.live }))
+    (record { reads = f.reads; limits = f.limits; live = f.live })
 
-pub returns-in-None-2-clause-reads : goal.returns-in-None-2-clause-reads
-returns-in-None-2-clause-reads g c =
+pub returns-in-Ok-false-read_far-clause-reads : goal.returns-in-Ok-false-read_far-clause-reads
+returns-in-Ok-false-read_far-clause-reads g c =
     let words = g.G.Grammar.words in
     let takes = g.G.Accepts.takes in
     let failed = g.G.Accepts.has_failed in
     let first = moment_of c.args.progress.now c.args.sink.now in
     let now = moment_of c.seen.progress c.seen.sink in
-    let runs = c.seen.invariant.0 in
-    let v = c.pass_blanks.new.self in
-    (runs_both words takes failed first now (moment v now.grammar now.so_far now.sink) runs (runs_blank words takes failed now v runs.reads.ready c.pass_blanks.ensures.passes runs.live)).reads
+    let near = moment_of c.read_near.new.progress c.read_near.new.sink in
+    let next = moment_of c.read_far.new.progress c.read_far.new.sink in
+    let e = c.in-Ok-true.ensures in
+    let f = c.in-Ok-false-read_far.ensures in
+    (runs_both words takes failed first near next
+    (runs_both words takes failed first now near c.seen.invariant (record { reads = e.reads; limits = e.limits; live = e.live }))
+    (record { reads = f.reads; limits = f.limits; live = f.live })).reads

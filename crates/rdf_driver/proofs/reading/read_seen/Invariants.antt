@@ -1,4 +1,3 @@
-use Rattle.rdf_tokens.specs.Peek.{MayPeek}
 use Rattle.rdf_tokens.specs.Scans.{left}
 use Rattle.rdf_driver.specs.Reading.{moment_of}
 use Rattle.rdf_driver.proofs.ReadingLemmas.{Runs}
@@ -7,7 +6,6 @@ use Rattle.rdf_driver.proofs.reading.read_seen.Given as goal
 abbrev pub invariant-seen : goal.invariant-seen
 invariant-seen g l =
     Runs g.G.Grammar.words g.G.Accepts.takes g.G.Accepts.has_failed (moment_of l.initial.progress l.initial.sink) (moment_of l.progress l.sink)
-    × MayPeek l.progress.scanner
 
 abbrev pub decreases-seen : goal.decreases-seen
 decreases-seen g l = left l.progress.scanner
