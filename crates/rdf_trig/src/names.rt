@@ -294,6 +294,7 @@ impl<A: Allocator + Copy> State<A> {
         }
     }
 
+    #[inline(always)]
     fn look_up_outer(
         &mut self,
         outer: Outer,

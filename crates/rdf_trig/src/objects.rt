@@ -123,6 +123,7 @@ impl<A: Allocator + Copy> State<A> {
     }
 
     // The tag of a string.
+    #[inline(always)]
     pub fn take_tag(&mut self, token: &Token<'_>) -> Result<(), StepFault>
         requires token { IsTurtleToken token.now }
         requires tag { SpellsTag token.now.kind }
@@ -152,6 +153,7 @@ impl<A: Allocator + Copy> State<A> {
     }
 
     // A number or a boolean.
+    #[inline(always)]
     fn known_literal(&mut self, rest: Rest, lexical: &str, datatype: Known) -> Result<(), StepFault>
         ensures ok { OnOk result (self.new ≡ record self.old { object = self.new.object; text = self.new.text; rest = rest; held = Held.OfKnown datatype; mode = Mode.After }) }
         ensures object { OnOk result (self.new.object.size ≡ 0) }

@@ -139,6 +139,7 @@ impl<A: Allocator> Topic<A> {
 
 impl<A: Allocator + Copy> Topic<A> {
     /// The node of a label, which stands here without its `_:`.
+    #[inline(always)]
     pub fn set_label(&mut self, label: &str) -> Result<(), AllocError>
         requires { IsLabel (chars label.now) }
         ensures { OnOk result (self.new ≡ topic_at SubjectKind.Label (chars label.now)) }

@@ -18,6 +18,7 @@ use std::mem;
 
 impl<A: Allocator + Copy> State<A> {
     // A subject begins.
+    #[inline(always)]
     pub fn subject(
         &mut self,
         level: Level,
