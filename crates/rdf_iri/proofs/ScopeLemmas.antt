@@ -1,5 +1,5 @@
 -- A map with text as keys, as a list of prefixes and IRIs.
-use Rattle.std.proofs.Common.{◌≡◌, ◌≤◌, ◌<◌, ◌+◌, ◌*◌, ℕ, suc, Bool, true, false, cond, List, [], ◌∷◌, ◌++◌, length, Option, Some, None, refl, sym, ap, ◌∙◌, subst, ⊎_elim, arith}
+use Rattle.std.proofs.Common.{◌≡◌, ◌≢◌, ◌≤◌, ◌<◌, ◌+◌, ◌*◌, ℕ, suc, Bool, true, false, cond, List, [], ◌∷◌, ◌++◌, length, Option, Some, None, refl, sym, ap, ◌∙◌, subst, ⊎_elim, arith}
 use Rattle.std.specs.Prelude.{String, is_some, MatchBool, nat_lt}
 use Rattle.std.specs.Prelude.{Result, Ok, Err, OnOk, IfErr}
 use Rattle.rdf_iri.specs.declared.fault.IriFault.{IriFault}
@@ -14,12 +14,12 @@ use Rattle.std.specs.Option.{unwrap_or}
 use Rattle.std.proofs.lemmas.Map.Text.{is_eq-slice_cmp, btree_map_updates_text}
 use Rattle.std.proofs.lemmas.Slice.Eq.{bytes_eq-Decides}
 use Rattle.std.proofs.lemmas.Str.{encodes-chars, chars-encodes, scalars-chars, IsUtf8-string_bytes, encodes-append, chars-append}
-use Rattle.std.proofs.lemmas.List.{length-append}
+use Rattle.std.proofs.lemmas.List.{append-nil, length-append}
 use Rattle.std.proofs.lemmas.Bool.{cases_Bool, cond-true, cond-false, false≢true, ltb-true, ltb-false}
 use lib.Utf8.{scalars}
 use Rattle.rdf_terms.specs.Terms.{IsIri}
 use Rattle.rdf_iri.specs.Texts.{IsIriText, equal, byte_len}
-use Rattle.rdf_iri.specs.Scope.{InForce, entries_of, bound_to, Binds, HasRoom, KeepsLimits, BaseFits, ExpandsHere, NotJoined, NotExpanded}
+use Rattle.rdf_iri.specs.Scope.{InForce, entries_of, bound_to, Binds, HasRoom, KeepsLimits, BaseFits, Expands, ExpandsHere, NotJoined, NotExpanded}
 use Rattle.rdf_iri.specs.Limits.{Sizes}
 use Rattle.rdf_iri.specs.Prefixes.{Sets}
 use Rattle.rdf_iri.proofs.TextsLemmas.{equal-true, equal-from, has_scheme-append}
@@ -183,6 +183,20 @@ pub expands_not : {T : Type 0} (s : InForce) (prefix local front : List ℕ) (r 
     IfErr r (NotJoined front local s.limits.iri) → IfErr r (NotExpanded s prefix local)
 expands_not s prefix local front (Ok t) e h = tt
 expands_not s prefix local front (Err fault) e h = not_expanded s prefix local front e fault h
+
+-- the IRI of a name without a local part, with one after it, is that of a name
+pub expands_more : (s : InForce) (prefix none more iri longer : List ℕ) → none ≡ [] → Expands s prefix none iri → longer ≡ iri ++ more → Expands s prefix more longer
+expands_more s prefix none more iri longer n (front, b, e) g =
+    (front, b, g ∙ ap (λ x. x ++ more) (e ∙ (ap (λ x. front ++ x) n ∙ append-nil front)))
+
+-- where it was not made that of a name is not either, for the same reason, unless memory was short
+pub expands_none : (s : InForce) (prefix none more : List ℕ) (fault : IriFault) → none ≡ [] → NotExpanded s prefix none fault → fault ≢ Memory → NotExpanded s prefix more fault
+expands_none s prefix none more Unbound n h m = h
+expands_none s prefix none more IriTooLong n (iri, e, l) m =
+    let longer = iri ++ more in (longer, expands_more s prefix none more iri longer n e refl, omega (arith, l, byte_len-append iri more))
+expands_none s prefix none more Memory n h m = absurd (m refl)
+expands_none s prefix none more NoBase n h m = absurd h
+expands_none s prefix none more TooManyBindings n h m = absurd h
 
 -- a test of two numbers
 pub decided : (a b : ℕ) (P Q : Type 0) → (a < b → P) → (b ≤ a → Q) → MatchBool (nat_lt a b) P Q

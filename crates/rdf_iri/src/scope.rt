@@ -1,8 +1,9 @@
 // The scope of a document: a base and prefixes.
 
-ghost use Rattle.std.specs.Prelude.{◌≡◌, ℕ, List, Some, ◌++◌, ◌*◌, ◌≤◌, [], IfOk, IfErr, OnOk, OnErr, MatchBool, length};
+ghost use Rattle.std.specs.Prelude.{◌≡◌, ◌≢◌, ℕ, List, Some, ◌++◌, ◌*◌, ◌≤◌, [], IfOk, IfErr, OnOk, OnErr, MatchBool, length};
 ghost use Rattle.std.specs.Str.{chars};
 ghost use Rattle.std.specs.String.{string_bytes};
+ghost use Rattle.rdf_terms.specs.Local.{without_backslashes};
 ghost use Rattle.rdf_terms.specs.Terms.{IsIri};
 ghost use Rattle.rdf_iri.specs.Texts.{IsIriText, byte_len};
 ghost use Rattle.rdf_iri.specs.Seen.{text_of};
@@ -222,6 +223,27 @@ impl<A: Allocator + Copy> Scope<A> {
             return Err(IriFault::Unbound);
         };
         put_joined(text, front, local, self.limits.iri())
+    }
+
+    /// The same of a local part as it is written, with the backslashes of its escapes. Where memory is short it is not known whether the
+    /// IRI is within the limit.
+    pub fn expand_escaped_into(
+        &self,
+        prefix: &str,
+        local: &str,
+        text: &mut TextBuffer<A>,
+    ) -> Result<(), IriFault>
+        requires { IsIriText (without_backslashes (chars local.now)) }
+        ensures expanded { OnOk result (ExpandsHere self.now (chars prefix.now) (without_backslashes (chars local.now)) (chars text.new)) }
+        ensures is_iri { OnOk result (IsIri (chars text.new)) }
+        ensures refused { IfErr result (λ f. f ≢ IriFault.Memory → NotExpanded self.now (chars prefix.now) (without_backslashes (chars local.now)) f) }
+    {
+        self.expand_into(prefix, "", text)?;
+        text.push_unescaped(local)?;
+        if text.byte_len() > self.limits.iri() {
+            return Err(IriFault::IriTooLong);
+        }
+        Ok(())
     }
 
     /// The bytes of the texts in force: the base, and each prefix, without its colon, with its IRI. What the texts have

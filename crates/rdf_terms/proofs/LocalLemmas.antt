@@ -1,18 +1,20 @@
 -- The value of a local part, and the walk over it.
-use Rattle.std.proofs.Common.{◌≡◌, ℕ, Bool, true, false, cond, List, [], ◌∷◌, ◌++◌, ◌==◌, ◌&&◌, ◌||◌, Option, Some, None, is_some, option_map, encode_utf8, refl, sym, ap, ◌∙◌, ⊎_elim, append_assoc}
-use Rattle.std.specs.Prelude.{not}
+use Rattle.std.proofs.Common.{◌≡◌, ◌<◌, ℕ, Bool, true, false, cond, List, [], ◌∷◌, ◌++◌, ◌==◌, ◌&&◌, ◌||◌, Option, Some, None, is_some, option_map, encode_utf8, refl, sym, ap, ◌∙◌, subst, ⊎_elim, append_assoc, arith}
+use Rattle.std.specs.Prelude.{not, encode_utf8_all}
 use Rattle.std.specs.Option.{unwrap_or}
 use Rattle.std.specs.Str.{chars, IsUtf8}
-use Rattle.std.proofs.lemmas.Str.{chars-append, chars-encodes, chars-nil, scalars-chars}
+use Rattle.std.proofs.lemmas.Str.{IsUtf8-append, chars-append, chars-encodes, chars-nil, chars_from_encodes, encodes-chars, encode_ascii, scalars-chars}
 use Rattle.std.proofs.lemmas.List.{append-nil}
-use Rattle.std.proofs.lemmas.Bool.{cases_Bool, and_parts, and_from, or_cases, cond-true, cond-false, false≢true, ne_eqb, eqb-true, eq-eqb}
+use Rattle.std.proofs.lemmas.Bool.{cases_Bool, cases_lt, and_parts, and_from, or_cases, cond-true, cond-false, not-true, not_from_false, false≢true, ne_eqb, eqb-true, eq-eqb}
 use lib.Utf8.{scalar, scalars}
 use Rattle.rdf_terms.specs.Classes.{has, scalar as is_scalar, one_of}
 use Rattle.rdf_terms.specs.Classes.Class.{iri_char, local_escape}
 use Rattle.rdf_terms.specs.Terms.{all_have}
+use Rattle.rdf_terms.specs.Runs.{is_unescaped}
 use Rattle.rdf_terms.specs.Values.{local_from, local_value}
 use Rattle.rdf_terms.specs.Local.{local_stands, local_opens, without_backslashes}
 use Rattle.rdf_terms.proofs.CharsLemmas.{next_char}
+use Rattle.rdf_terms.proofs.IriBytes.{all_high, high_bytes}
 
 -- a backslash is neither an IRI character nor a local escape, and each local escape is an IRI character
 iri_char-backslash : has iri_char 92 ≡ false
@@ -155,3 +157,54 @@ value_is w h = by (local_value w) refl h
 -- after the last character the text that was built is the value
 pub unescaped_all : (out rest : List ℕ) → chars rest ≡ [] → chars out ++ without_backslashes (chars rest) ≡ chars out
 unescaped_all out rest e = ap (λ x. chars out ++ without_backslashes x) e ∙ append-nil (chars out)
+
+-- bytes that are no backslash stay
+without-append : (u v : List ℕ) → all_have is_unescaped u ≡ true → without_backslashes (u ++ v) ≡ u ++ without_backslashes v
+without-append [] v h = refl
+without-append (c ∷ u) v h =
+    let p = and_parts (is_unescaped c) (all_have is_unescaped u) h in
+    cond-false (c == 92) _ _ (not-true (c == 92) p.0) ∙ ap (λ x. c ∷ x) (without-append u v p.1)
+
+-- no other character has a backslash among its bytes
+bytes_unescaped : (c : ℕ) → (c == 92) ≡ false → all_have is_unescaped (encode_utf8 c) ≡ true
+bytes_unescaped c n =
+    ⊎_elim
+    (λ (l : c < 128). ap (all_have is_unescaped) (encode_ascii c l) ∙ and_from (is_unescaped c) true (not_from_false (c == 92) n) refl)
+    (λ l. all_high is_unescaped (λ b m. not_from_false (b == 92) (ne_eqb b 92 (λ e. absurd (omega (arith, e, m))))) (encode_utf8 c) (high_bytes c l))
+    (cases_lt c 128)
+
+-- so a text loses its backslashes where its bytes do
+encodes-without : (w : List ℕ) → encode_utf8_all (without_backslashes w) ≡ without_backslashes (encode_utf8_all w)
+encodes-without [] = refl
+encodes-without (c ∷ w) =
+    let rest = encode_utf8_all w in
+    ⊎_elim
+    (λ (t : (c == 92) ≡ true).
+    ap encode_utf8_all (cond-true (c == 92) (without_backslashes w) (c ∷ without_backslashes w) t)
+    ∙ (encodes-without w ∙ sym (ap (λ x. without_backslashes (encode_utf8 x ++ rest)) (eqb-true c 92 t) ∙ ap (λ x. without_backslashes (x ++ rest)) (encode_ascii 92 (omega arith)))))
+    (λ (f : (c == 92) ≡ false).
+    ap encode_utf8_all (cond-false (c == 92) (without_backslashes w) (c ∷ without_backslashes w) f)
+    ∙ (ap (λ x. encode_utf8 c ++ x) (encodes-without w) ∙ sym (without-append (encode_utf8 c) rest (bytes_unescaped c f))))
+    (cases_Bool (c == 92))
+
+-- what is left are characters as before
+scalars-without : (w : List ℕ) → scalars w ≡ true → scalars (without_backslashes w) ≡ true
+scalars-without [] h = refl
+scalars-without (c ∷ w) h =
+    let p = and_parts (scalar c) (scalars w) h in
+    ⊎_elim
+    (λ (t : (c == 92) ≡ true). ap scalars (cond-true (c == 92) (without_backslashes w) (c ∷ without_backslashes w) t) ∙ scalars-without w p.1)
+    (λ (f : (c == 92) ≡ false).
+    ap scalars (cond-false (c == 92) (without_backslashes w) (c ∷ without_backslashes w) f) ∙ and_from (scalar c) _ p.0 (scalars-without w p.1))
+    (cases_Bool (c == 92))
+
+-- so what is left of a text is one, and it can be put after another one
+pub unescaped_after : (front bs whole : List ℕ) → IsUtf8 front → IsUtf8 bs → whole ≡ front ++ without_backslashes bs →
+    (chars whole ≡ chars front ++ without_backslashes (chars bs)) × IsUtf8 whole
+unescaped_after front bs whole u v e =
+    let left = without_backslashes (chars bs) in
+    let bytes : encode_utf8_all left ≡ without_backslashes bs = encodes-without (chars bs) ∙ ap without_backslashes (encodes-chars bs v) in
+    let k : IsUtf8 (without_backslashes bs) = (left, (scalars-without (chars bs) (scalars-chars bs v), bytes)) in (
+      ap chars e ∙ (chars-append front (without_backslashes bs) u ∙ ap (λ x. chars front ++ x) (sym (chars_from_encodes left _ k bytes))),
+      subst IsUtf8 (sym e) (IsUtf8-append front (without_backslashes bs) u k),
+    )

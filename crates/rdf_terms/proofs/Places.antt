@@ -1,5 +1,5 @@
 -- Writes at places of one buffer, one after another.
-use Rattle.std.proofs.Common.{◌≡◌, ℕ, ◌+◌, ◌-◌, ◌≤◌, List, [], ◌++◌, length, take, drop, ap, sym, ◌∙◌, subst, arith, append_assoc, length-append, length-take-le, length-drop, take-add, take-take, take_at, drop_at, take_all, take-append-drop}
+use Rattle.std.proofs.Common.{◌≡◌, IsUtf8, ℕ, ◌+◌, ◌-◌, ◌≤◌, List, ◌++◌, length, take, drop, ap, sym, ◌∙◌, subst, arith, append_assoc, length-append, length-take-le, length-drop, take-add, take-take, take_at, drop_at, take_all, take-append-drop}
 use Rattle.rdf_terms.specs.Placing.{Placed}
 
 -- a second write begins where the first ended
@@ -34,3 +34,7 @@ Placed-ends {a} {b} {c} {i} {j} {k} src half within fits covers p q =
 -- what was placed, by another name
 pub Placed-as : {a b xs ys : List ℕ} {i j : ℕ} → xs ≡ ys → Placed a b i xs j → Placed a b i ys j
 Placed-as {a} {b} {xs} {ys} {i} {j} e p = subst (λ l. Placed a b i l j) e p
+
+-- a text stays one where more memory was filled
+pub IsUtf8-filled : (len : ℕ) (old new : List ℕ) → len ≤ length old → IsUtf8 (take len old) → take (length old) new ≡ old → IsUtf8 (take len new)
+IsUtf8-filled len old new few u kept = subst IsUtf8 (sym (ap (take len) kept) ∙ take-take len (length old) new few) u

@@ -2,9 +2,10 @@
 
 ghost use Rattle.std.specs.Prelude.{◌≡◌, ◌+◌, ◌++◌, ◌≤◌, [], length, take, IsUtf8, OnOk};
 ghost use Rattle.std.specs.Str.{chars, encode_utf8_all, IsCharBoundary};
+ghost use Rattle.rdf_terms.specs.Local.{without_backslashes};
 ghost use Rattle.rdf_terms.specs.Placing.{Placed};
 
-use crate::place::place_text;
+use crate::place::{place_byte, place_text};
 use std::alloc::{AllocError, Allocator, Global};
 use std::marker::Model;
 
@@ -113,6 +114,17 @@ impl<A: Allocator + Copy> TextBuffer<A> {
         self.len = place_after(self.bytes.as_mut_slice(), at, text);
         Ok(())
     }
+
+    /// Appends a text without its backslashes. After an error nothing is known of what stands here.
+    pub fn push_unescaped(&mut self, text: &str) -> Result<(), AllocError>
+        ensures { OnOk result (chars self.new ≡ chars self.old ++ without_backslashes (chars text.now)) }
+    {
+        let at = self.len;
+        self.len = 0;
+        fill(&mut self.bytes, at + text.len())?;
+        self.len = place_unescaped(self.bytes.as_mut_slice(), at, text);
+        Ok(())
+    }
 }
 
 // Places two texts at the beginning, one after the other.
@@ -139,6 +151,36 @@ fn place_after(slot: &mut [u8], at: usize, text: &str) -> usize
     ensures utf8 { IsUtf8 (take result slot.new) }
 {
     place_text(slot, at, text.as_bytes())
+}
+
+// Places a text without its backslashes after the first `at` bytes.
+#[inline(always)]
+fn place_unescaped(slot: &mut [u8], at: usize, text: &str) -> usize
+    requires room { at + length text.now ≤ length slot.old }
+    requires utf8 { IsUtf8 (take at slot.old) }
+    ensures len { length slot.new ≡ length slot.old }
+    ensures text { chars (take result slot.new) ≡ chars (take at slot.old) ++ without_backslashes (chars text.now) }
+    ensures within { result ≤ length slot.new }
+    ensures utf8 { IsUtf8 (take result slot.new) }
+{
+    place_without_backslashes(slot, at, text.as_bytes())
+}
+
+// The same byte by byte, which takes less for a name than to place what stands between them.
+#[inline(always)]
+fn place_without_backslashes(slot: &mut [u8], from: usize, text: &[u8]) -> usize
+    requires { from + length text.now ≤ length slot.old }
+    ensures len { length slot.new ≡ length slot.old }
+    ensures bytes { take result slot.new ≡ take from slot.old ++ without_backslashes text.now }
+    ensures within { result ≤ length slot.new }
+{
+    let mut at = from;
+    for byte in text {
+        if *byte != b'\\' {
+            at = place_byte(slot, at, *byte);
+        }
+    }
+    at
 }
 
 // Fills memory up to so many bytes, where fewer are filled.

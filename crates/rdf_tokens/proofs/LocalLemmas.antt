@@ -1,17 +1,17 @@
 -- The parts of a local part lead to the state within it.
 use Rattle.std.proofs.Common.{◌≡◌, ◌+◌, ◌/◌, ◌%◌, ◌<◌, ◌≤◌, ◌⊎◌, ℕ, zero, Bool, true, false, cond, nat_lt, List, [], ◌∷◌, ◌++◌, length, drop, get_or, ◌==◌, not, ◌||◌, ◌&&◌, refl, sym, ap, subst, ◌∙◌, inl, inr, ⊎_elim, arith, Option, None, encode_utf8, IsUtf8}
-use Rattle.std.proofs.lemmas.Bool.{agree_below, agree_below_at, and_parts, cases_lt, cond-false, cond-true, eqb-true, false≢true, le-ltb, ltb-true}
+use Rattle.std.proofs.lemmas.Bool.{agree_below, agree_below_at, and_from, and_parts, cases_lt, cond-false, cond-true, eqb-true, false≢true, le-ltb, ltb-true, not_from_false}
 use Rattle.std.proofs.lemmas.Bool.Decides.{nat_tests}
 use Rattle.std.proofs.lemmas.List.{get_or-drop, get_or_append_left}
 use Rattle.std.proofs.lemmas.Str.{encode_ascii, length-encode}
 use Rattle.std.specs.Char.{len_utf8}
-use Rattle.std.specs.Str.{chars}
 use Rattle.rdf_terms.specs.Classes.{has, is_base}
 use Rattle.rdf_terms.specs.Classes.Class.{local_escape}
 use Rattle.rdf_terms.specs.Runs.{IsRun, is_name_byte}
 use Rattle.rdf_terms.specs.declared.kind.Dialect.{Dialect}
 use Rattle.rdf_terms.specs.declared.kind.Dialect.TheVariants.{Lines, Turtle}
 use Rattle.rdf_terms.specs.declared.kind.Kind.{Kind}
+use Rattle.rdf_terms.specs.declared.kind.Kind.TheVariants.{PnameLn}
 use Rattle.rdf_tokens.specs.declared.states.machine.State.{State}
 use Rattle.rdf_tokens.specs.declared.states.machine.State.TheVariants.{Name}
 use Rattle.rdf_tokens.specs.declared.states.name.Name.TheVariants as name
@@ -22,13 +22,14 @@ use Rattle.rdf_tokens.specs.Front.{Reached, kind_here}
 use Rattle.rdf_tokens.specs.Local.{BeginsLocal, LeadsIn, RestsInLocal, begins_three, begins_two, is_escape, is_hex_at, is_percent, letter_len}
 use Rattle.rdf_tokens.specs.Machine.{step, kind_at}
 use Rattle.rdf_tokens.specs.Name.{ascii, high, move}
-use Rattle.rdf_tokens.specs.Quick.{stands_at}
+use Rattle.rdf_tokens.specs.Quick.{IsPrefix, IsToken, ends_name, is_colon, is_last, is_name_end, stands_at}
 use Rattle.rdf_tokens.specs.Sorts.{is_mark, wide_of}
-use Rattle.rdf_tokens.specs.Tokens.{only_long, three_quotes, with_length}
+use Rattle.rdf_tokens.specs.Tokens.{with_length}
 use Rattle.rdf_tokens.proofs.ByteLemmas.{ascii_first}
 use Rattle.rdf_tokens.proofs.GoodLemmas.{encode_four, encode_three, encode_two}
-use Rattle.rdf_tokens.proofs.NoNamesLemmas.{implied, no_long}
-use Rattle.rdf_tokens.proofs.QuickLemmas.{at_local, local-state, low-name, no_hyphen, other}
+use Rattle.rdf_tokens.proofs.NoNamesLemmas.{implied}
+use Rattle.rdf_tokens.proofs.QuickLemmas.{at_local, local-state, low-name, no_hyphen, other, quick_far}
+use Rattle.rdf_tokens.proofs.RestEscapes.{byte_on}
 use Rattle.rdf_tokens.proofs.RestLemmas.{first_char, with_length-again}
 use Rattle.rdf_tokens.proofs.RestStates.{rests_local}
 use Rattle.rdf_tokens.proofs.StateLemmas.{reached-step}
@@ -59,9 +60,7 @@ low_on d bs at x s t b i e a es r =
 -- the same to a state without a kind
 low_past : (d : Dialect) (bs : List ℕ) (at x : ℕ) (s t : State) (b : Option (ℕ × Kind)) → at < length bs → get_or bs at 0 ≡ x → x < 128 → step d s x ≡ t → kind_at t ≡ None →
     Reached d bs at s b → Reached d bs (at + 1) t b
-low_past d bs at x s t b i e a es z r =
-    subst (Reached d bs (at + 1) t) (ap (λ k. with_length (at + 1) (only_long (three_quotes d (chars bs)) k) b) z ∙ ap (λ k. with_length (at + 1) k b) (no_long (three_quotes d (chars bs))))
-    (low_on d bs at x s t b i e a es r)
+low_past d bs at x s t b i e a es z r = byte_on d bs at s t b i (omega (arith, e, a)) (ap (step d s) e ∙ es) z r
 
 -- this byte stands there
 there : (x : ℕ) (bs : List ℕ) (at : ℕ) → stands_at x bs at ≡ true → (at < length bs) × (get_or bs at 0 ≡ x)
@@ -130,6 +129,17 @@ run_in bs at end r l n =
           let in_local = local-state _ (other (c == 45) _ (implied (is_name_byte c) _ (agree_below_at (colon_tests d) (λ c. true) 128 c (colon_all d) low) e) (no_hyphen c n)) in
           (rests_local bs (at + 1) end (after_first bs at end r l)).on d b (low_on d bs at c (Name name.Colon) (Name name.Local) b (omega arith) refl low in_local h);
     }
+
+-- a name whose local part is such a run
+pub quick_local : (bs : List ℕ) (colon end : ℕ) → IsUtf8 bs → IsPrefix bs colon → is_colon bs colon ≡ true → IsRun is_name_byte bs (colon + 1) end → is_name_end bs end ≡ true →
+    (end ≡ colon + 1 → ⊥) → (get_or bs (colon + 1) 0 ≡ 45 → ⊥) → IsToken Turtle bs end PnameLn
+quick_local bs colon end u p m q z n h =
+    let from = q.from in
+    let e = and_parts (nat_lt end (length bs)) (ends_name (get_or bs end 0)) z in
+    let over = and_from (ends_name (get_or bs end 0)) _ e.1 (not_from_false _ (q.stops (ltb-true end (length bs) e.0))) in
+    let last = and_from (nat_lt end (length bs)) _ e.0 over in
+    quick_far bs colon end u p m q end end (run_in bs (colon + 1) end q (omega (arith, n)) h) (rests_none bs end q.within)
+    (ap (λ t. t || (stands_at 46 bs end && is_last bs (end + 1))) last)
 
 -- a colon
 pub colon_in : (bs : List ℕ) (at : ℕ) → stands_at 58 bs at ≡ true → BeginsLocal bs at (at + 1)

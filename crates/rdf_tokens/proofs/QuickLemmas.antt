@@ -26,7 +26,7 @@ use Rattle.rdf_tokens.specs.Quick.{IsToken, IsQuick, single, is_sought, is_named
 use Rattle.rdf_tokens.proofs.ByteLemmas.{at-start, ascii_first}
 use Rattle.rdf_tokens.proofs.NoNamesLemmas.{implied, low-letter, letter_steps, no_long, no_quotes, one_on}
 use Rattle.rdf_tokens.proofs.RestLemmas.{reached-run}
-use Rattle.rdf_tokens.proofs.RestStates.{rests_prefix, rests_local}
+use Rattle.rdf_tokens.proofs.RestStates.{rests_prefix}
 use Rattle.rdf_tokens.proofs.StateLemmas.{front-bytes, live-bytes, reached-first, reached-step, reached-dead}
 
 -- where the states have ended and no spelling goes on, the longest front so far is the token
@@ -248,13 +248,9 @@ dead-state : (s : State) → at_dead s ≡ true → s ≡ Name name.Dead
 dead-state (Name name.Dead) e = refl
 dead-state s e = absurd (false≢true e)
 
--- each byte of ASCII: one of a name but '-' begins a local part
-abbrev local_tests : ℕ → Bool
-local_tests c = not (is_name_byte c) || (c == 45 || at_local (step Turtle (Name name.Colon) c))
-
--- and one that ends a name leads to no state, from after the colon and within a local part
+-- each byte of ASCII: one that ends a name leads to no state, from after the colon
 abbrev end_tests : ℕ → Bool
-end_tests c = not (ends_name c) || (is_name_byte c || (at_dead (step Turtle (Name name.Colon) c) && at_dead (step Turtle (Name name.Local) c)))
+end_tests c = not (ends_name c) || (is_name_byte c || at_dead (step Turtle (Name name.Colon) c))
 
 -- the bytes of a run of names are ASCII
 pub low-name : (c : ℕ) → is_name_byte c ≡ true → c < 128
@@ -265,11 +261,6 @@ pub other : (a b : Bool) → (a || b) ≡ true → a ≡ false → b ≡ true
 other true b e h = absurd (false≢true (sym h))
 other false b e h = e
 
--- a local part begins after the colon
-local-first : (c : ℕ) → is_name_byte c ≡ true → (c == 45) ≡ false → step Turtle (Name name.Colon) c ≡ Name name.Local
-local-first c e h =
-    local-state _ (other (c == 45) _ (implied (is_name_byte c) _ (agree_below_at local_tests (λ c. true) 128 c refl (low-name c e)) e) h)
-
 -- another byte than '-'
 pub no_hyphen : (c : ℕ) → (c ≡ 45 → ⊥) → (c == 45) ≡ false
 no_hyphen c n = go (c == 45) refl
@@ -279,11 +270,10 @@ no_hyphen c n = go (c == 45) refl
     go false x = x
 
 -- a byte that ends a name
-end-steps : (c : ℕ) → ends_name c ≡ true → is_name_byte c ≡ false → (step Turtle (Name name.Colon) c ≡ Name name.Dead) × (step Turtle (Name name.Local) c ≡ Name name.Dead)
-end-steps c e h =
+end-step : (c : ℕ) → ends_name c ≡ true → is_name_byte c ≡ false → step Turtle (Name name.Colon) c ≡ Name name.Dead
+end-step c e h =
     let low : c < 128 = ltb-true c 128 (and_parts _ _ e).0 in
-    let p = and_parts _ _ (other (is_name_byte c) _ (implied (ends_name c) _ (agree_below_at end_tests (λ c. true) 128 c refl low) e) h) in
-    (dead-state _ p.0, dead-state _ p.1)
+    dead-state _ (other (is_name_byte c) _ (implied (ends_name c) _ (agree_below_at end_tests (λ c. true) 128 c refl low) e) h)
 
 -- each byte of ASCII: one with which no name goes on leads to no state, from within a local part and from after a dot in it
 abbrev over_tests : ℕ → Bool
@@ -359,44 +349,23 @@ module _ (bs : List ℕ) (colon end : ℕ) (u : IsUtf8 bs) (p : IsPrefix bs colo
           let i = inside in
           byte_on colon (Name name.Prefix) (Name name.Colon) (Some PnameNs) None i (omega (arith, is_58)) prefix (ap (step Turtle (Name name.Prefix)) (sym is_58)) refl
 
-  -- and after the byte that ends the name
-  over : is_name_end bs end ≡ true → (s : State) (k : Kind) → Reached Turtle bs end s (Some (end, k)) → step Turtle s (get_or bs end 0) ≡ Name name.Dead → ((w : List ℕ) → is_fit k w ≡ true) → IsToken Turtle bs end k
-  over z s k h x t =
+  -- nothing stands after the colon, and the token is a namespace
+  pub quick_namespace : is_name_end bs end ≡ true → end ≡ colon + 1 → IsToken Turtle bs end PnameNs
+  quick_namespace z x =
       let c = get_or bs end 0 in
-      let p = and_parts _ _ z in
+      let p = and_parts (nat_lt end (length bs)) (ends_name c) z in
       let i = inside in
       let from = q.from in
       let f = front_by (rows_of Turtle fixed) bs in
       let low : c < 128 = ltb-true c 128 (and_parts _ _ p.1).0 in
-      settled Turtle bs (end + 1) (Name name.Dead) (Some (end, k)) f end k u (byte_on end s (Name name.Dead) None (Some (end, k)) (ltb-true end (length bs) p.0) low h (sym x) refl) refl refl
+      let within : end < length bs = ltb-true end (length bs) p.0 in
+      let here = subst (λ n. Reached Turtle bs n (Name name.Colon) (Some (n, PnameNs))) (sym x) after in
+      settled Turtle bs (end + 1) (Name name.Dead) (Some (end, PnameNs)) f end PnameNs u
+      (byte_on end (Name name.Colon) (Name name.Dead) None (Some (end, PnameNs)) within low here (sym (end-step c p.1 (q.stops within))) refl) refl refl
       (rows-none (rows_of Turtle fixed) bs colon refl i is_58)
-      (longer-second f colon end k (rows-short (rows_of Turtle fixed) bs colon refl is_58) (omega arith)) (t _)
+      (longer-second f colon end PnameNs (rows-short (rows_of Turtle fixed) bs colon refl is_58) (omega arith)) (name-fit _).0
 
-  ended : is_name_end bs end ≡ true → (step Turtle (Name name.Colon) (get_or bs end 0) ≡ Name name.Dead) × (step Turtle (Name name.Local) (get_or bs end 0) ≡ Name name.Dead)
-  ended z = let p = and_parts _ _ z in end-steps (get_or bs end 0) p.1 (q.stops (ltb-true end (length bs) p.0))
-
-  -- nothing stands after the colon, and the token is a namespace
-  pub quick_namespace : is_name_end bs end ≡ true → end ≡ colon + 1 → IsToken Turtle bs end PnameNs
-  quick_namespace z x = over z (Name name.Colon) PnameNs (subst (λ n. Reached Turtle bs n (Name name.Colon) (Some (n, PnameNs))) (sym x) after) (ended z).0 (λ w. (name-fit w).0)
-
-  -- a local part stands there
-  local_on : (end ≡ colon + 1 → ⊥) → (get_or bs (colon + 1) 0 ≡ 45 → ⊥) → Reached Turtle bs end (Name name.Local) (Some (end, PnameLn))
-  local_on n h =
-      let from = q.from in
-      let within = q.within in
-      let more : colon + 1 < end = omega (arith, n) in
-      let c = get_or bs (colon + 1) 0 in
-      let named : is_name_byte c ≡ true = q.pass (colon + 1) (omega arith) more in
-      let first = byte_on (colon + 1) (Name name.Colon) (Name name.Local) (Some PnameLn) (Some (colon + 1, PnameNs)) (omega arith) (low-name c named) after (sym (local-first c named (no_hyphen c h))) refl in
-      let rest : IsRun is_name_byte bs (colon + 1 + 1) end = record { from = omega arith; within = within; pass = λ k a b. q.pass k (omega arith) b; stops = q.stops } in
-      let kind : Some PnameLn ≡ only_long (three_quotes Turtle (chars bs)) (Some PnameLn) = sym (ap (λ x. only_long x (Some PnameLn)) quotes) in
-      reached-run Turtle bs (colon + 1 + 1) end (Name name.Local) (Some PnameLn) (Some (colon + 1, PnameNs)) kind (rests_local bs (colon + 1 + 1) end rest) first
-
-  -- and ends at the byte after the run
-  pub quick_local : is_name_end bs end ≡ true → (end ≡ colon + 1 → ⊥) → (get_or bs (colon + 1) 0 ≡ 45 → ⊥) → IsToken Turtle bs end PnameLn
-  quick_local z n h = over z (Name name.Local) PnameLn (local_on n h) (ended z).1 (λ w. (name-fit w).1)
-
-  -- It begins up to one place, and goes on up to another, where it ends.
+  -- A local part begins up to one place, and goes on up to another, where it ends.
   module _ (front last : ℕ) (l : LeadsIn (Name name.Colon) bs (colon + 1) front) (r : RestsInLocal bs front last) where
     last_on : Reached Turtle bs last (Name name.Local) (Some (last, PnameLn))
     last_on =

@@ -4,7 +4,6 @@ ghost use Rattle.std.specs.Prelude.{◌≡◌, ◌+◌, ◌<◌, ◌≤◌, leng
 ghost use Rattle.rdf_terms.specs.Runs.{IsRun, is_name_byte};
 ghost use Rattle.rdf_tokens.specs.declared.states.machine.State.TheVariants.{Name};
 ghost use Rattle.rdf_tokens.specs.declared.states.name.Name.TheVariants as name;
-ghost use Rattle.rdf_tokens.specs.Escapes.{is_hex};
 ghost use Rattle.rdf_tokens.specs.Local.{BeginsLocal, LeadsIn, RestsInLocal, begins_three, begins_two, is_escape, is_hex_at, is_percent, letter_len};
 
 use crate::quick::stands_at;
@@ -177,14 +176,7 @@ fn is_percent(bytes: &[u8], at: usize) -> bool
 fn is_hex_at(bytes: &[u8], at: usize) -> bool
     ensures { result ≡ is_hex_at bytes.now at }
 {
-    at < bytes.len() && is_hex(bytes[at])
-}
-
-#[inline(always)]
-fn is_hex(byte: u8) -> bool
-    ensures { result ≡ is_hex byte }
-{
-    matches!(byte, b'0'..=b'9' | b'A'..=b'F' | b'a'..=b'f')
+    at < bytes.len() && bytes[at].is_ascii_hexdigit()
 }
 
 /// Whether a backslash and a character that it escapes in names stand at a place.

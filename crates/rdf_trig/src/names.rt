@@ -1,10 +1,10 @@
 // What references and names stand for, and what directives do to the scope.
 
-ghost use Rattle.std.specs.Prelude.{◌≡◌, ◌≤◌, ◌*◌, ℕ, List, true, Some, None, IfOk, IfErr, OnOk, length, is_some, unwrap_or};
+ghost use Rattle.std.specs.Prelude.{◌≡◌, ◌≢◌, ◌≤◌, ◌*◌, ℕ, List, true, Some, None, IfOk, IfErr, OnOk, length, is_some, unwrap_or};
 ghost use Rattle.std.specs.Str.{chars};
 ghost use Rattle.std.specs.String.{string_bytes};
 ghost use Rattle.rdf_terms.specs.Terms.{IsIri};
-ghost use Rattle.rdf_terms.specs.Values.{local_value};
+ghost use Rattle.rdf_terms.specs.Local.{without_backslashes};
 ghost use Rattle.rdf_terms.specs.Views.{iri_chars};
 ghost use Rattle.rdf_terms.specs.Known.{known_chars};
 ghost use Rattle.rdf_iri.specs.Texts.{IsIriText, byte_len};
@@ -15,7 +15,7 @@ ghost use Rattle.rdf_trig.specs.Machine as M;
 ghost use Rattle.rdf_trig.specs.Owed.{iri_size};
 ghost use Rattle.rdf_trig.specs.States.{leaf, IsTurtleToken, PrefixFits};
 ghost use Rattle.rdf_trig.specs.Holding.{NameFits};
-ghost use Rattle.rdf_trig.specs.Scopes.{IsReference, IsPrefixed, MeansLocal, Names, Unnamed, Binding, NotBinding, Based, Finds, FindsNone, FindsIri, FindsNoIri};
+ghost use Rattle.rdf_trig.specs.Scopes.{IsReference, IsPrefixed, Names, Unnamed, Binding, NotBinding, Based, Finds, FindsNone, FindsIri, FindsNoIri};
 
 use crate::emptied::clear_text;
 use crate::fault::StepFault;
@@ -23,9 +23,7 @@ use crate::plain::{lacks_escapes, lacks_iri_escapes};
 use crate::spelled::{parts, plain_parts};
 use crate::state::{Mode, Outer, State};
 use rdf_iri::{IriFault, Scope};
-use rdf_terms::{
-    IriView, Kind, Known, TextBuffer, ValueFault, known, local_value, put_iri, without_ends,
-};
+use rdf_terms::{IriView, Kind, Known, TextBuffer, known, put_iri, without_ends};
 use rdf_tokens::Token;
 use std::alloc::{Allocator, Global};
 use std::marker::Model;
@@ -150,12 +148,7 @@ impl<A: Allocator + Copy> Name<A> {
     // The IRI of a prefixed name.
     #[tactic(auto, using(crate::proofs::code::LookUps::name_not))]
     #[inline(always)]
-    fn set_prefixed(
-        &mut self,
-        alloc: A,
-        scope: &Scope<A>,
-        token: &Token<'_>,
-    ) -> Result<(), StepFault>
+    fn set_prefixed(&mut self, scope: &Scope<A>, token: &Token<'_>) -> Result<(), StepFault>
         requires token { IsTurtleToken token.now }
         requires kind { IsPrefixed token.now.kind }
         requires colon { KnowsItsColon token.now }
@@ -171,8 +164,27 @@ impl<A: Allocator + Copy> Name<A> {
         if lacks_escapes(local) {
             return Ok(self.expand(scope, prefix, local)?);
         }
-        let local = local_text(alloc, local)?;
-        Ok(self.expand(scope, prefix, local.as_str())?)
+        Ok(self.expand_escaped(scope, prefix, local)?)
+    }
+
+    // The IRI of a prefix with what a local part means after it.
+    fn expand_escaped(
+        &mut self,
+        scope: &Scope<A>,
+        prefix: &str,
+        local: &str,
+    ) -> Result<(), IriFault>
+        requires { IsIriText (without_backslashes (chars local.now)) }
+        ensures expanded { OnOk result ((i : List ℕ) × (self.new ≡ Some i) × ExpandsHere scope.now (chars prefix.now) (without_backslashes (chars local.now)) i) }
+        ensures refused { IfErr result (λ f. f ≢ IriFault.Memory → NotExpanded scope.now (chars prefix.now) (without_backslashes (chars local.now)) f) }
+    {
+        match scope.expand_escaped_into(prefix, local, &mut self.text) {
+            Ok(()) => Ok(()),
+            Err(fault) => {
+                clear_text(&mut self.text);
+                Err(fault)
+            }
+        }
     }
 }
 
@@ -225,20 +237,6 @@ fn reference_text<A: Allocator>(alloc: A, token: &Token<'_>) -> Result<String<A>
     let mut text = String::new(alloc);
     set_reference_text(&mut text, token)?;
     Ok(text)
-}
-
-// The local part of a name, with its escapes replaced.
-fn local_text<A: Allocator>(alloc: A, local: &str) -> Result<String<A>, StepFault>
-    requires { MeansLocal (chars local.now) }
-    ensures ok { IfOk result (λ s. Some (chars (string_bytes s)) ≡ local_value (chars local.now)) }
-    ensures text { IfOk result (λ s. IsIriText (chars (string_bytes s))) }
-    ensures err { IfErr result (λ r. r ≡ StepFault.Memory) }
-{
-    match local_value(alloc, local) {
-        Ok(value) => Ok(value),
-        Err(ValueFault::BadEscape) => unreachable!(),
-        Err(ValueFault::Memory) => Err(StepFault::Memory),
-    }
 }
 
 #[tactic(auto, using(crate::proofs::code::LookUps::base_is, crate::proofs::code::LookUps::reference_not))]
@@ -350,7 +348,7 @@ fn name_token<A: Allocator + Copy>(
 {
     match token.kind {
         Kind::IriRef => name.set_reference(alloc, scope, token),
-        Kind::PnameNs | Kind::PnameLn => name.set_prefixed(alloc, scope, token),
+        Kind::PnameNs | Kind::PnameLn => name.set_prefixed(scope, token),
         _ => Ok(()),
     }
 }

@@ -1,14 +1,16 @@
 -- Look-ups in scopes, and what directives do to them.
-use Rattle.std.proofs.Common.{◌≡◌, ◌≤◌, ◌<◌, ℕ, true, false, List, ◌++◌, ◌&&◌, not, length, Option, Some, None, option_map, refl, sym, ap, ◌∙◌, subst}
-use Rattle.std.specs.Prelude.{nat_le, is_some}
+use Rattle.std.proofs.Common.{◌≡◌, ◌≢◌, ◌≤◌, ◌<◌, ℕ, true, false, List, [], ◌++◌, ◌&&◌, not, length, Option, Some, None, option_map, refl, sym, ap, ◌∙◌, subst}
+use Rattle.std.specs.Prelude.{nat_le, is_some, unwrap_or}
 use Rattle.std.proofs.lemmas.Bool.{cond-true, cond-false, le-ltb, lt-ltb, le-leb, lt-leb}
 use Rattle.rdf_terms.specs.declared.kind.Kind.{Kind}
 use Rattle.rdf_terms.specs.declared.kind.Kind.TheVariants.{IriRef, PnameNs, PnameLn}
+use Rattle.rdf_terms.specs.Local.{without_backslashes}
 use Rattle.rdf_terms.specs.Terms.{has_scheme}
+use Rattle.rdf_terms.proofs.LocalLemmas.{value_is}
 use Rattle.rdf_iri.specs.declared.fault.IriFault.{IriFault}
 use Rattle.rdf_iri.specs.declared.fault.IriFault.TheVariants as iri
 use Rattle.rdf_iri.specs.Limits.{Sizes}
-use Rattle.rdf_iri.specs.Texts.{byte_len}
+use Rattle.rdf_iri.specs.Texts.{after, byte_len}
 use Rattle.rdf_iri.specs.Resolve.{Resolves, resolved, based}
 use Rattle.rdf_iri.specs.Scope.{InForce, bound_to, HasRoom, ResolvesHere, UnresolvedHere, IsBased, IsBound, NotBound, ExpandsHere, NotExpanded}
 use Rattle.rdf_iri.proofs.ResolveLemmas.{resolves-only}
@@ -19,7 +21,7 @@ use Rattle.rdf_trig.specs.Events.{stands, binds}
 use Rattle.rdf_trig.specs.Refusals as refusal
 use Rattle.rdf_trig.specs.Machine as M
 use Rattle.rdf_trig.specs.Machine.{by_use, refuses, too_long}
-use Rattle.rdf_trig.specs.Scopes.{IsReference, IsPrefixed, step_fault, IsAdmitted, IsDenied, Names, Unnamed, Based, Binding, NotBinding}
+use Rattle.rdf_trig.specs.Scopes.{IsReference, IsPrefixed, MeansLocal, step_fault, IsAdmitted, IsDenied, Names, Unnamed, Based, Binding, NotBinding}
 
 -- the checks of what a token stands for
 stands_passes : (sizes : Sizes) (k : Kind) (o : Option (List ℕ)) (i : List ℕ) → o ≡ Some i → byte_len i ≤ sizes.iri → IsAdmitted sizes k (stands o)
@@ -169,6 +171,19 @@ reference_not s k l w f r h e g u = absurd h
 pub name_not : (s : InForce) (k : Kind) (l : Leaf) (p v : List ℕ) (f : IriFault) (r : StepFault) → IsPrefixed k → p ≡ prefix_of l → v ≡ local_of l →
     r ≡ step_fault f → NotExpanded s p v f → Unnamed s k l r
 name_not s k l p v f r h e g i u = subst (Unnamed s k l) (sym i) (name_stops s k l p v f h e g u)
+
+-- the same of a name with escapes, where it is not known that a name for which memory was short had an IRI
+pub escaped_not : (s : InForce) (k : Kind) (l : Leaf) (p v : List ℕ) (f : IriFault) (r : StepFault) → IsPrefixed k → p ≡ prefix_of l → v ≡ local_of l →
+    r ≡ step_fault f → (f ≢ iri.Memory → NotExpanded s p v f) → Unnamed s k l r
+escaped_not s k l p v iri.Memory r h e g i u = subst (Unnamed s k l) (sym i) tt
+escaped_not s k l p v iri.NoBase r h e g i u = name_not s k l p v iri.NoBase r h e g i (u (λ m. cc))
+escaped_not s k l p v iri.IriTooLong r h e g i u = name_not s k l p v iri.IriTooLong r h e g i (u (λ m. cc))
+escaped_not s k l p v iri.Unbound r h e g i u = name_not s k l p v iri.Unbound r h e g i (u (λ m. cc))
+escaped_not s k l p v iri.TooManyBindings r h e g i u = name_not s k l p v iri.TooManyBindings r h e g i (u (λ m. cc))
+
+-- the local part of such a name means its text without backslashes
+pub means_without : (w : List ℕ) (l : Leaf) → w ≡ unwrap_or (after 58 l.text) [] → MeansLocal (unwrap_or (after 58 l.text) []) → without_backslashes w ≡ local_of l
+means_without w l e m = ap without_backslashes e ∙ ap (λ o. unwrap_or o []) (sym (value_is (unwrap_or (after 58 l.text) []) m).0)
 
 -- a binding that is not made is refused, by the name that the reader has for the reason
 pub binding_not : (s : InForce) (p : List ℕ) (l : Leaf) (w : List ℕ) (f : IriFault) (r : StepFault) → w ≡ iri_of l → r ≡ step_fault f →

@@ -6,8 +6,9 @@ use Rattle.rdf_terms.specs.declared.kind.Kind.TheVariants.{A, PnameLn}
 use Rattle.rdf_terms.specs.Classes.{is_letter}
 use Rattle.rdf_tokens.specs.Quick.{IsToken}
 use Rattle.rdf_tokens.specs.Scans.{KnowsColon}
+use Rattle.rdf_tokens.proofs.LocalLemmas.{quick_local}
 use Rattle.rdf_tokens.proofs.PeekLemmas.{local_is, plain_name}
-use Rattle.rdf_tokens.proofs.QuickLemmas.{quick_a, quick_local}
+use Rattle.rdf_tokens.proofs.QuickLemmas.{quick_a}
 use Rattle.rdf_tokens.proofs.peek.seen_name.Goals as goal
 
 pub returns-then-is_local : goal.returns-then-is_local

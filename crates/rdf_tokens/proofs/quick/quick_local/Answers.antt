@@ -4,7 +4,8 @@ use Rattle.rdf_terms.specs.declared.kind.Dialect.TheVariants.{Turtle}
 use Rattle.rdf_terms.specs.declared.kind.Kind.TheVariants.{PnameNs, PnameLn}
 use Rattle.rdf_terms.specs.Runs.{IsRun, is_name_byte}
 use Rattle.rdf_tokens.specs.Quick.{IsToken, IsPrefix, is_colon}
-use Rattle.rdf_tokens.proofs.QuickLemmas.{quick_namespace, quick_local}
+use Rattle.rdf_tokens.proofs.LocalLemmas.{quick_local}
+use Rattle.rdf_tokens.proofs.QuickLemmas.{quick_namespace}
 use Rattle.rdf_tokens.proofs.quick.quick_local.Goals as goal
 
 pub returns-then-end-local : goal.returns-then-end-local
