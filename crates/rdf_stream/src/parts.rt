@@ -18,7 +18,7 @@ const FIRST_LEAST: usize = 8;
 /// From so many bytes on they are no more.
 const LAST_LEAST: usize = 4096;
 
-/// After so many tries in a row that passed no line with escapes, no more are made behind lines that stand as they are written, up to the end of the piece.
+/// After so many tries in a row that passed no line with escapes, no more are made behind lines that were passed, up to the end of the piece.
 const MOST_TRIES: usize = 3;
 
 /// Takes the parts of pieces: passes what it can, and reads the others.
@@ -138,7 +138,7 @@ fn take_rest<L, R: Parts<L>>(
 }
 
 // Passes a front of the text: in turn lines that stand as they are written and lines with any escapes, up to one that is neither. Where the text
-// begins with none of the former, the latter are tried whatever is left of the tries, and go on in turn only while some are. Any other try needs one.
+// begins with none of the former, the latter are tried in any case. Behind lines that were passed, they are tried while tries are left.
 fn pass_some<L, R: Parts<L>>(
     run: &mut R,
     text: &str,
