@@ -1,5 +1,6 @@
 -- The datatype that is not written, sixteen bytes at a time.
 use Rattle.std.proofs.Common.{◌≡◌, ◌+◌, ◌*◌, ◌∙◌, ℕ, Bool, true, false, cond, not, ◌==◌, ◌&&◌, List, [], ◌∷◌, ◌++◌, length, take, drop, refl, sym, ap, arith, bytes_eq}
+use Rattle.std.specs.Cmp.{both_ways}
 use Rattle.std.specs.Simd.Lanes.{mask_l, zip2}
 use Rattle.std.proofs.lemmas.Bool.{and_parts}
 use Rattle.std.proofs.lemmas.Bool.Decides.{nat_tests}
@@ -39,7 +40,7 @@ is_string bs n p q r =
 pub string_by : (bs : List ℕ) → length bs ≡ 39 →
     (bytes_eq (take 16 bs) (take 16 xsd_string) && bytes_eq (take 16 (drop 16 bs)) (take 16 (drop 16 xsd_string)) && bytes_eq (take 16 (drop 23 bs)) (take 16 (drop 23 xsd_string)))
     ≡ bytes_eq bs xsd_string
-string_by bs n = both _ _ from to
+string_by bs n = both_ways _ _ from to
   where
     parts : Bool
     parts = bytes_eq (take 16 bs) (take 16 xsd_string) && bytes_eq (take 16 (drop 16 bs)) (take 16 (drop 16 xsd_string)) && bytes_eq (take 16 (drop 23 bs)) (take 16 (drop 23 xsd_string))
@@ -53,8 +54,3 @@ string_by bs n = both _ _ from to
     to : bytes_eq bs xsd_string ≡ true → parts ≡ true
     to t = let e : bs ≡ xsd_string = (bytes_eq-Decides bs xsd_string).0 t in
         ap (λ v. bytes_eq (take 16 v) (take 16 xsd_string) && bytes_eq (take 16 (drop 16 v)) (take 16 (drop 16 xsd_string)) && bytes_eq (take 16 (drop 23 v)) (take 16 (drop 23 xsd_string))) e
-
-    both : (a b : Bool) → (a ≡ true → b ≡ true) → (b ≡ true → a ≡ true) → a ≡ b
-    both true b f g = sym (f refl)
-    both false true f g = g refl
-    both false false f g = refl

@@ -112,10 +112,6 @@ module _ {R : Type 0} (taken : R → List ℕ → R → Type 0) where
   pub takes_to : (a b c : R) (rest part : List ℕ) (at n : ℕ) → TakesMore taken a (take at rest) b → TakesMore taken b part c → part ≡ take n (drop at rest) → TakesMore taken a (take (at + n) rest) c
   takes_to a b c rest part at n p q e = subst (λ l. TakesMore taken a l c) (ap (λ l. take at rest ++ l) e ∙ sym (take-add at n rest)) (takes_both a b c (take at rest) part p q)
 
-  -- nothing was taken, and then a part
-  pub takes_after : (a b c : R) (text part : List ℕ) (n : ℕ) → n ≡ 0 → TakesMore taken a (take n text) b → TakesMore taken b part c → TakesMore taken a part c
-  takes_after a b c text part n z p q = takes_both a b c [] part (subst (λ k. TakesMore taken a (take k text) b) z p) q
-
   -- the text before the place was taken, and what stays has stayed
   pub record HasPassed (stays : R → R → Type 0) (a b : R) (text : List ℕ) (at : ℕ) : Type 0 where
     pub within : at ≤ length text
@@ -123,13 +119,13 @@ module _ {R : Type 0} (taken : R → List ℕ → R → Type 0) where
     pub stays_on : StaysOn stays a b
 
   -- and a front of what stands from there on
-  pub passes_on : (stays : R → R → Type 0) (a b c : R) (text rest : List ℕ) (at n to : ℕ) → to ≡ at + n → HasPassed stays a b text at → rest ≡ take (length rest) (drop at text) →
-      n ≤ length rest → TakesMore taken b (take n rest) c → StaysOn stays b c → HasPassed stays a c text to
-  passes_on stays a b c text rest at n to t h e l q s =
+  pub passes_on : (stays : R → R → Type 0) (a b c : R) (text rest : List ℕ) (at n : ℕ) → HasPassed stays a b text at → rest ≡ take (length rest) (drop at text) →
+      n ≤ length rest → TakesMore taken b (take n rest) c → StaysOn stays b c → HasPassed stays a c text (at + n)
+  passes_on stays a b c text rest at n h e l q s =
       let all = sym (take-length text) in
       record {
-        within = omega (arith, t, front_within text text rest (length text) at n all e l h.within);
-        takes = subst (λ k. TakesMore taken a (take k text) c) (sym t) (takes_to a b c text (take n rest) at n h.takes q (front_at text text rest (length text) at n all e l));
+        within = front_within text text rest (length text) at n all e l h.within;
+        takes = takes_to a b c text (take n rest) at n h.takes q (front_at text text rest (length text) at n all e l);
         stays_on = λ first x. s first (h.stays_on first x);
       }
 
@@ -148,11 +144,7 @@ module _ {R : Type 0} (taken : R → List ℕ → R → Type 0) where
     halts_from a b c rest part at n p e h =
         subst (λ l. HaltsOn taken halts f a (λ bytes. bytes ++ l) false c) (take-append-drop at rest) (halts_later a b c (take at rest) (drop at rest) p (halts_in b c part (drop at rest) n e h))
 
-    -- nothing was taken, and then the bytes are not read on
-    pub halts_after : (a b c : R) (text : List ℕ) (n : ℕ) → n ≡ 0 → TakesMore taken a (take n text) b → HaltsWithin taken halts f b text c → HaltsWithin taken halts f a text c
-    halts_after a b c text n z p h more = halts_later a b c [] (text ++ more) (subst (λ k. TakesMore taken a (take k text) b) z p) (h more)
-
-    -- the same behind a place of a text
+    -- the same, whatever comes after the bytes
     pub halts_at : (a b c : R) (text rest : List ℕ) (at : ℕ) → TakesMore taken a (take at text) b → rest ≡ take (length rest) (drop at text) →
         HaltsWithin taken halts f b rest c → HaltsWithin taken halts f a text c
     halts_at a b c text rest at p e h more =

@@ -18,7 +18,7 @@ const FIRST_LEAST: usize = 8;
 /// From so many bytes on they are no more.
 const LAST_LEAST: usize = 4096;
 
-/// After so many tries in a row that passed no line with escapes, no more are made behind lines that stand as they are written, up to the end of the piece.
+/// After so many tries in a row that passed no line with escapes, no more are made behind lines that were passed, up to the end of the piece.
 const MOST_TRIES: usize = 3;
 
 /// Takes the parts of pieces: passes what it can, and reads the others.
@@ -137,9 +137,8 @@ fn take_rest<L, R: Parts<L>>(
     Ok(())
 }
 
-// Passes a front of the text: lines that stand as they are written and, in turn with them, lines with any escapes. Where the text begins with none
-// of the former, the latter are tried once. Behind some of the former they are tried while tries are left: one that passes none takes one of these,
-// and one that passes some gives all back.
+// Passes a front of the text: in turn lines that stand as they are written and lines with any escapes, up to one that is neither. Where the text
+// begins with none of the former, the latter are tried in any case. Behind lines that were passed, they are tried while tries are left.
 fn pass_some<L, R: Parts<L>>(
     run: &mut R,
     text: &str,
@@ -155,33 +154,36 @@ fn pass_some<L, R: Parts<L>>(
     ensures stays { StaysOn R.stays (run.old, out.old) (run.new, out.new) }
     ensures halts { IfErr result (λ f. HaltsWithin R.taken R.halts f (run.old, out.old) text.now (run.new, out.new)) }
 {
-    let mut at = match run.pass_front(text, ending, is_ascii, out) {
-        Ok(passed) => passed,
-        Err(fault) => return Err(fault),
-    };
-    if at == 0 {
-        return match run.pass_escaped(text, ending, out) {
-            Ok(more) => Ok(more),
-            Err(fault) => Err(fault),
-        };
-    }
-    while *tries > 0 {
-        match run.pass_escaped(text_from(text, at), ending, out) {
-            Ok(0) => {
-                *tries -= 1;
-                return Ok(at);
-            }
-            Ok(more) => at += more,
-            Err(fault) => return Err(fault),
-        }
-        *tries = MOST_TRIES;
+    let mut at = 0;
+    'turns: loop {
         match run.pass_front(text_from(text, at), ending, is_ascii, out) {
-            Ok(0) => return Ok(at),
             Ok(passed) => at += passed,
             Err(fault) => return Err(fault),
         }
+        if at > 0 && *tries == 0 {
+            return Ok(at);
+        }
+        let more = match run.pass_escaped(text_from(text, at), ending, out) {
+            Ok(more) => more,
+            Err(fault) => return Err(fault),
+        };
+        if at > 0 {
+            *tries = next_tries(*tries, more);
+        }
+        if more == 0 || *tries == 0 {
+            return Ok(at + more);
+        }
+        at += more;
     }
-    Ok(at)
+}
+
+// How many tries are left after one that passed so many bytes: one that passed none takes one, and one that passed some gives all back.
+fn next_tries(tries: usize, passed: usize) -> usize {
+    if passed > 0 {
+        MOST_TRIES
+    } else {
+        tries.saturating_sub(1)
+    }
 }
 
 // How the last line of a part ends.

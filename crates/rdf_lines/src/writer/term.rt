@@ -14,6 +14,9 @@ use rdf_terms::{IriView, NodeRef, SubjectRef, TailRef, TermRef};
 use std::alloc::{AllocError, Allocator};
 use std::simd::prelude::*;
 
+/// How many bytes xsd:string has.
+const STRING_LEN: usize = 39;
+
 pub fn put_term<A: Allocator + Copy>(
     term: TermRef<'_>,
     form: WrittenForm<'_>,
@@ -149,9 +152,10 @@ fn put_tail<A: Allocator + Copy>(
 pub fn is_plain(datatype: &[u8]) -> bool
     ensures { result ≡ bytes_eq datatype.now xsd_string }
 {
-    if datatype.len() != 39 {
+    if datatype.len() != STRING_LEN {
         return false;
     }
+    // The three spell xsd:string: the third stands at its end, and overlaps the second.
     let first = stand_at(b"http://www.w3.or", datatype, 0);
     let second = stand_at(b"g/2001/XMLSchema", datatype, 16);
     let third = stand_at(b"XMLSchema#string", datatype, 23);

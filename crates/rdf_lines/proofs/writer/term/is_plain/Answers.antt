@@ -7,7 +7,7 @@ use Rattle.rdf_lines.proofs.writer.term.is_plain.Goals as goal
 pub returns : goal.returns
 returns c =
     let bs = c.args.datatype.now in
-    let size : length bs ≡ 39 = omega (arith, c.if-datatype-ne39.false) in
+    let size : length bs ≡ 39 = omega (arith, c.if-datatype-ne-STRING_LEN.false) in
     let second = bytes_eq (take 16 (drop 16 bs)) (take 16 (drop 16 xsd_string)) in
     ap (λ t. t && c.stand_at-second.result && c.stand_at-third.result) c.stand_at-first.ensures
     ∙ (ap (λ t. bytes_eq (take 16 bs) (take 16 xsd_string) && t && c.stand_at-third.result) c.stand_at-second.ensures
