@@ -1,7 +1,10 @@
 // Documents in pieces, and where they are refused.
 
+ghost use Rattle.std.specs.Prelude.{IfSome};
+ghost use Rattle.rdf_tokens.specs.Peek.{IsPeeked};
+
 use rdf_terms::Reason;
-use rdf_tokens::{Blanks, Dialect, Kind, RunClass, Scanner, plain_run};
+use rdf_tokens::{Blanks, Dialect, Kind, Peeked, RunClass, Scanner, plain_run};
 use std::alloc::{AllocError, Global};
 
 // What a call answers: the kind, the offset, the line and the number of bytes of a token; of a plain name the place of its colon too.
@@ -32,7 +35,23 @@ fn see(scanner: &mut Scanner) -> Answer {
     if !scanner.may_peek() {
         return Answer::Unseen;
     }
-    match scanner.peek() {
+    let seen = scanner.peek();
+    take_seen(scanner, seen)
+}
+
+// The same by the longer look.
+fn see_far(scanner: &mut Scanner) -> Answer {
+    if !scanner.may_peek() {
+        return Answer::Unseen;
+    }
+    let seen = scanner.peek_far();
+    take_seen(scanner, seen)
+}
+
+fn take_seen(scanner: &mut Scanner, seen: Option<Peeked>) -> Answer
+    requires { IfSome seen (IsPeeked scanner.old) }
+{
+    match seen {
         Some(peeked) => {
             let token = scanner.take(peeked);
             if token.colon > 0 {
@@ -76,6 +95,7 @@ enum Step {
     Push(&'static [u8]),
     Next,
     See,
+    SeeFar,
     PassLineFeed,
     PassBlanks,
     End,
@@ -91,6 +111,7 @@ fn take(alloc: Global, scanner: &mut Scanner, step: Step) -> Answer {
         Step::Push(piece) => push(scanner, piece),
         Step::Next => next(scanner),
         Step::See => see(scanner),
+        Step::SeeFar => see_far(scanner),
         Step::PassLineFeed => pass_line_feed(scanner),
         Step::PassBlanks => pass_blanks(scanner),
         Step::End => {
@@ -102,7 +123,25 @@ fn take(alloc: Global, scanner: &mut Scanner, step: Step) -> Answer {
 }
 
 /// What is done with a scanner, and what it answers.
-static STEPS: [(Step, Answer); 260] = [
+static STEPS: [(Step, Answer); 274] = [
+    // The longer look sees less frequent tokens too, and those at the end of the text, but none behind more than a space.
+    (Step::Start(Dialect::Turtle, 64), Answer::Started),
+    (
+        Step::Push(b"; x:a.b x:\xD1\x8F true -1 'a' x:a\\,b x:c \n;"),
+        Answer::Took(38),
+    ),
+    (Step::Next, Answer::Token(Kind::Semicolon, 0, 1, 1)),
+    (Step::See, Answer::Unseen),
+    (Step::SeeFar, Answer::Token(Kind::PnameLn, 2, 1, 5)),
+    (Step::SeeFar, Answer::Token(Kind::PnameLn, 8, 1, 4)),
+    (Step::SeeFar, Answer::Token(Kind::True, 13, 1, 4)),
+    (Step::SeeFar, Answer::Token(Kind::Integer, 18, 1, 2)),
+    (Step::SeeFar, Answer::Token(Kind::ShortString, 21, 1, 3)),
+    (Step::SeeFar, Answer::Token(Kind::PnameLn, 25, 1, 6)),
+    (Step::SeeFar, Answer::Token(Kind::PnameLn, 32, 1, 3)),
+    (Step::SeeFar, Answer::Unseen),
+    (Step::PassBlanks, Answer::Passed),
+    (Step::SeeFar, Answer::Token(Kind::Semicolon, 37, 2, 1)),
     // Frequent tokens are seen before they are taken, but for the first of a document.
     (Step::Start(Dialect::Turtle, 64), Answer::Started),
     (
