@@ -1,6 +1,6 @@
 // The scanner.
 
-ghost use Rattle.std.specs.Prelude.{false, ◌≡◌, ◌≢◌, ◌==◌, ℕ, List, [], ◌++◌, count_by, true, OnOk, OnErr, IfOk, IfSome, cond, min, ◌-◌, ◌+◌, ◌≤◌, ◌<◌, ◌&&◌, ◌||◌, nat_le, length, drop, take, encode_utf8_all, ⊤, ◌/◌};
+ghost use Rattle.std.specs.Prelude.{false, ◌≡◌, ◌≢◌, ◌==◌, ℕ, List, [], ◌++◌, count_by, true, OnOk, OnErr, IfOk, IfSome, cond, min, ◌-◌, ◌+◌, ◌≤◌, ◌<◌, ◌&&◌, ◌||◌, nat_le, length, drop, take, encode_utf8_all, ⊤, ◌/◌, ◌^◌};
 ghost use Rattle.std.specs.Str.{chars, IsCharBoundary};
 ghost use Rattle.std.specs.String.{string_bytes};
 ghost use mathlib.Core.Option.{none};
@@ -415,7 +415,8 @@ impl<A: Allocator + Copy> Scanner<A> {
         let end = start + len;
         let offset = self.offset;
         let line = self.line;
-        self.line += feeds_of(kind, &self.text.as_bytes()[start..end]) as u64;
+        let feeds = feeds_of(kind, &self.text.as_bytes()[start..end]);
+        add_feeds(&mut self.line, feeds);
         self.offset += len as u64;
         self.start = end;
         forget(&mut self.walk);
@@ -601,6 +602,17 @@ fn feeds_of(kind: Kind, text: &[u8]) -> usize
         Kind::LineEnd => few_line_feeds(text),
         Kind::LongString => line_feeds(text),
         _ => 0,
+    }
+}
+
+// Where the kind of a token tells that it has no line feed, nothing is written.
+#[inline(always)]
+fn add_feeds(line: &mut u64, feeds: usize)
+    requires { line.old + feeds < 2 ^ 64 }
+    ensures { line.new ≡ line.old + feeds }
+{
+    if feeds > 0 {
+        *line += feeds as u64;
     }
 }
 

@@ -44,7 +44,12 @@ pub fn give<A: Allocator, S: QuadSink>(
     }
     if is_after_object(state) {
         match state.held {
-            Held::Resource => return give_object(state, resource(state.object.view()), sink),
+            Held::Resource => {
+                return match state.object.view() {
+                    SubjectRef::Iri(iri) => give_object(state, TermRef::Iri(iri), sink),
+                    SubjectRef::Node(node) => give_object(state, TermRef::Node(node), sink),
+                };
+            }
             Held::WithType => {
                 let datatype = state.datatype.view_or(Known::XsdString);
                 return give_object(state, lexical(state, TailRef::Typed(datatype)), sink);

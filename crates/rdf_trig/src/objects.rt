@@ -77,6 +77,7 @@ impl<A: Allocator + Copy> State<A> {
     }
 
     // The first item of a collection.
+    #[inline(always)]
     pub fn first_item(&mut self, start: ObjectStart, token: &Token<'_>) -> Result<(), StepFault>
         requires token { IsTurtleToken token.now }
         requires suits { SuitsObject start token.now.kind self.old.name }
@@ -92,6 +93,7 @@ impl<A: Allocator + Copy> State<A> {
     }
 
     // The next item of a collection.
+    #[inline(always)]
     pub fn next_item(&mut self, start: ObjectStart, token: &Token<'_>) -> Result<(), StepFault>
         requires token { IsTurtleToken token.now }
         requires suits { SuitsObject start token.now.kind self.old.name }
