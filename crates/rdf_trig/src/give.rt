@@ -12,7 +12,7 @@ ghost use Rattle.rdf_trig.specs.declared.form.DocForm.{DocForm};
 ghost use Rattle.rdf_trig.specs.Machine as M;
 ghost use Rattle.rdf_trig.specs.Machine.{subject_at, verb_at, kept};
 ghost use Rattle.rdf_tokens.specs.declared.token.Token.{Token as Given};
-ghost use Rattle.rdf_trig.specs.States.{leaf, text_in, object_of, object_quad, IsSettled, place_of, up_of, mode_in, graph_in, setting, cells_quad, rest_of, held_of};
+ghost use Rattle.rdf_trig.specs.States.{leaf, object_of, object_quad, IsSettled, place_of, up_of, mode_in, graph_in, setting, cells_quad, rest_of, held_of};
 ghost use Rattle.rdf_trig.specs.Steps.{GaveUp, IsAfterObject, given, up_quad, IsQuadAt, IsObjectQuad, IsWaitingQuad};
 
 use crate::fault::StepFault;
@@ -43,34 +43,15 @@ pub fn give<A: Allocator, S: QuadSink>(
         return Ok(0);
     }
     if is_after_object(state) {
-        match state.held {
-            Held::Resource => {
-                return match state.object.view() {
-                    SubjectRef::Iri(iri) => give_object(state, TermRef::Iri(iri), sink),
-                    SubjectRef::Node(node) => give_object(state, TermRef::Node(node), sink),
-                };
-            }
-            Held::WithType => {
-                let datatype = state.datatype.view_or(Known::XsdString);
-                return give_object(state, lexical(state, TailRef::Typed(datatype)), sink);
-            }
-            Held::WithTag => {
-                if let Some(tag) = state.tag.view() {
-                    return give_object(state, lexical(state, TailRef::Lang(tag)), sink);
-                }
-            }
-            Held::OfKnown(datatype) => {
-                let datatype = known(datatype);
-                return give_object(state, lexical(state, TailRef::Typed(datatype)), sink);
-            }
-            Held::Nothing | Held::Nil(_) => {}
+        if let Some(object) = object(state) {
+            return give_object(state, object, sink);
         }
     }
     give_all(state, token, sink)
 }
 
-// Whether the reader stands after an object of a predicate list, and the last token opened no cell. Then no quad but that of the object is given out,
-// whatever the token. Most are, so each form of an object has a way of its own, on which LLVM knows what it is.
+// Whether the reader stands after an object of a predicate list, and the last token opened no cell. Then no quad but
+// that of the object is given out, whatever the token. Most quads are given out so.
 #[inline(always)]
 fn is_after_object<A: Allocator>(state: &State<A>) -> bool
     ensures { result ≡ true → IsAfterObject state.now }
@@ -98,14 +79,6 @@ fn give_object<A: Allocator, S: QuadSink>(
         GaveUp S.takes S.leaves S.has_failed r (given form s state.now t) sink.old sink.new) }
 {
     put(object_quad(state, object, graph(state)), sink)
-}
-
-// The literal of the text, with its datatype or tag.
-#[inline(always)]
-fn lexical<'a, A: Allocator>(state: &'a State<A>, tail: TailRef<'a>) -> TermRef<'a>
-    ensures { term_by chars result ≡ term.Literal (text_in state.now) (tail_by chars tail.entry) }
-{
-    literal(state.text.as_str(), tail)
 }
 
 // Whether no quad is held, and none waits to know the token.
@@ -218,17 +191,18 @@ fn object_quad<'a, A: Allocator>(
 fn object<A: Allocator>(state: &State<A>) -> Option<TermRef<'_>>
     ensures { option_map (term_by chars) result ≡ object_of state.now state.now.held }
 {
+    let text = state.text.as_str();
     match state.held {
         Held::Resource => Some(resource(state.object.view())),
         Held::WithType => {
             let datatype = state.datatype.view_or(Known::XsdString);
-            Some(lexical(state, TailRef::Typed(datatype)))
+            Some(literal(text, TailRef::Typed(datatype)))
         }
         Held::WithTag => match state.tag.view() {
-            Some(tag) => Some(lexical(state, TailRef::Lang(tag))),
+            Some(tag) => Some(literal(text, TailRef::Lang(tag))),
             None => None,
         },
-        Held::OfKnown(datatype) => Some(lexical(state, TailRef::Typed(known(datatype)))),
+        Held::OfKnown(datatype) => Some(literal(text, TailRef::Typed(known(datatype)))),
         Held::Nothing | Held::Nil(_) => None,
     }
 }

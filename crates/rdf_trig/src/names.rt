@@ -292,7 +292,6 @@ impl<A: Allocator + Copy> State<A> {
         }
     }
 
-    #[inline(always)]
     fn look_up_outer(
         &mut self,
         outer: Outer,
