@@ -10,7 +10,6 @@ use Rattle.rdf_trig.specs.declared.form.DocForm.{DocForm}
 use Rattle.rdf_trig.specs.declared.fault.StepFault.{StepFault}
 use Rattle.rdf_trig.specs.declared.fault.StepFault.TheVariants.{Unexpected, TooDeep, Unbound, NoBase, IriTooLong, TooManyBindings, Memory, Sink}
 use Rattle.rdf_trig.specs.declared.state.Frame.{Frame}
-use Rattle.rdf_trig.specs.declared.state.Mode.TheVariants as mode
 use Rattle.rdf_trig.specs.declared.state.State.{State}
 use Rattle.rdf_trig.specs.Quads.{stated}
 use Rattle.rdf_trig.specs.Refusals as refusal
@@ -45,10 +44,6 @@ IsQuadAt f g o q = (v : M.Level) (u : M.Up) → let p = place_of v f u in q ≡ 
 -- that of an object that has come, where the mode says
 abbrev pub IsObjectQuad : {A : Type 0} → State A → Option term.Subject → Term → Option Quad → Type 0
 IsObjectQuad r g o q = (form : DocForm) → q ≡ object_quad g (mode_in form r) (Some o)
-
--- the reader stands after an object, and the last token opened no cell: the object's quad alone may be held, and none waits
-abbrev pub IsAfterObject : {A : Type 0} → State A → Type 0
-IsAfterObject r = (r.mode ≡ mode.After) × (r.rest ≡ None)
 
 -- that which waits to know the token
 abbrev pub IsWaitingQuad : {A : Type 0} → State A → Option term.Subject → Given → Option Quad → Type 0

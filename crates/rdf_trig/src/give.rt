@@ -13,7 +13,7 @@ ghost use Rattle.rdf_trig.specs.Machine as M;
 ghost use Rattle.rdf_trig.specs.Machine.{subject_at, verb_at, kept};
 ghost use Rattle.rdf_tokens.specs.declared.token.Token.{Token as Given};
 ghost use Rattle.rdf_trig.specs.States.{leaf, object_of, object_quad, IsSettled, place_of, up_of, mode_in, graph_in, setting, cells_quad, rest_of, held_of};
-ghost use Rattle.rdf_trig.specs.Steps.{GaveUp, IsAfterObject, given, up_quad, IsQuadAt, IsObjectQuad, IsWaitingQuad};
+ghost use Rattle.rdf_trig.specs.Steps.{GaveUp, given, up_quad, IsQuadAt, IsObjectQuad, IsWaitingQuad};
 
 use crate::fault::StepFault;
 use crate::rest::Rest;
@@ -42,43 +42,7 @@ pub fn give<A: Allocator, S: QuadSink>(
     if is_idle(state) {
         return Ok(0);
     }
-    if is_after_object(state) {
-        if let Some(object) = object(state) {
-            return give_object(state, object, sink);
-        }
-    }
     give_all(state, token, sink)
-}
-
-// Whether the reader stands after an object of a predicate list, and the last token opened no cell. Then no quad but
-// that of the object is given out, whatever the token. Most quads are given out so.
-#[inline(always)]
-fn is_after_object<A: Allocator>(state: &State<A>) -> bool
-    ensures { result ≡ true → IsAfterObject state.now }
-{
-    match (state.mode, state.frame.container) {
-        (Mode::After, Container::List(_)) => !state.rest.is_owed(),
-        _ => false,
-    }
-}
-
-// Puts the quad of the object.
-#[inline(always)]
-fn give_object<A: Allocator, S: QuadSink>(
-    state: &State<A>,
-    object: TermRef<'_>,
-    sink: &mut S,
-) -> Result<u64, StepFault>
-    requires after { IsAfterObject state.now }
-    requires object { object_of state.now state.now.held ≡ Some (term_by chars object) }
-    requires live { S.has_failed sink.old ≡ false }
-    ensures ok { OnOk result ((form : DocForm) (s : InForce) (t : Given) → Appends S.takes sink.old (given form s state.now t) sink.new) }
-    ensures count { IfOk result (λ n. (form : DocForm) (s : InForce) (t : Given) → n ≡ length (given form s state.now t)) }
-    ensures live { OnOk result (S.has_failed sink.new ≡ false) }
-    ensures err { IfErr result (λ r. (form : DocForm) (s : InForce) (t : Given) →
-        GaveUp S.takes S.leaves S.has_failed r (given form s state.now t) sink.old sink.new) }
-{
-    put(object_quad(state, object, graph(state)), sink)
 }
 
 // Whether no quad is held, and none waits to know the token.

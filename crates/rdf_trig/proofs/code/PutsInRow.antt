@@ -5,8 +5,7 @@ use Rattle.rdf_terms.specs.Terms.{Quad}
 use Rattle.rdf_terms.specs.Sinks.{Appends, Attempts}
 use Rattle.rdf_trig.specs.declared.fault.StepFault.{StepFault}
 use Rattle.rdf_trig.specs.declared.fault.StepFault.TheVariants.{Memory, Sink}
-use Rattle.std.specs.Prelude.{IfErr, IsErrAnd, is_some}
-use Rattle.std.proofs.lemmas.Bool.{false≢true}
+use Rattle.std.specs.Prelude.{IfErr, IsErrAnd}
 use Rattle.rdf_iri.specs.Scope.{InForce}
 use Rattle.rdf_trig.specs.declared.form.DocForm.{DocForm}
 use Rattle.rdf_trig.specs.declared.form.DocForm.TheVariants.{Turtle, TriG}
@@ -19,12 +18,11 @@ use Rattle.rdf_trig.specs.declared.state.Outer.TheVariants as outer
 use Rattle.rdf_terms.specs.Terms as term
 use Rattle.rdf_tokens.specs.declared.token.Token.{Token as Given}
 use Rattle.rdf_trig.specs.declared.state.State.{State}
-use Rattle.rdf_trig.specs.declared.state.Held.{Held}
 use Rattle.rdf_trig.specs.declared.state.Held.TheVariants as held
 use Rattle.rdf_trig.specs.Machine as M
 use Rattle.rdf_trig.specs.Machine.{kept}
-use Rattle.rdf_trig.specs.States.{leaf, mode_in, graph_in, setting, rest_of, held_of, object_of, object_quad, IsSettled, mode_at, level_of, place_in, after_semicolon_at}
-use Rattle.rdf_trig.specs.Steps.{Begins, GaveUp, IsAfterObject, IsObjectQuad, given}
+use Rattle.rdf_trig.specs.States.{leaf, mode_in, graph_in, setting, rest_of, held_of, IsSettled, mode_at, level_of, place_in, after_semicolon_at}
+use Rattle.rdf_trig.specs.Steps.{Begins, GaveUp, given}
 
 -- puts of two lists, one after the other, are the puts of both
 pub appends_append : {S : Type 0} (takes : S → Quad → S → Type 0) (a b c : S) (qs rs : List Quad) → Appends takes a qs b → Appends takes b rs c →
@@ -136,25 +134,6 @@ settled form c n mode.AfterPropertyList k l h = refl
 pub given_idle : {A : Type 0} (form : DocForm) (s : InForce) (n : State A) (t : Given) → n.rest ≡ None → n.held ≡ held.Nothing → IsSettled n.mode →
     given form s n t ≡ []
 given_idle form s n t e f h = given_none form s n t e f (settled form (setting s (graph_in n)) n n.mode t.kind (leaf t) h)
-
--- what is held where an object has come
-held_object : {A : Type 0} (g : Option term.Subject) (m : M.Mode) (n : State A) (h : Held) (o : term.Term) → object_of n h ≡ Some o →
-    held_of g m n h ≡ object_quad g m (Some o)
-held_object g m n held.Resource o e = ap (object_quad g m) e
-held_object g m n held.WithType o e = ap (object_quad g m) e
-held_object g m n held.WithTag o e = ap (object_quad g m) e
-held_object g m n (held.OfKnown k) o e = ap (object_quad g m) e
-held_object g m n held.Nothing o e = absurd (false≢true (ap is_some e))
-held_object g m n (held.Nil cell) o e = absurd (false≢true (ap is_some e))
-
--- after an object its quad is given out alone
-pub given_object : {A : Type 0} (form : DocForm) (s : InForce) (n : State A) (t : Given) (g : Option term.Subject) (o : term.Term) (q : Option Quad) →
-    IsAfterObject n → object_of n n.held ≡ Some o → g ≡ graph_in n → IsObjectQuad n g o q → given form s n t ≡ kept q []
-given_object form s n t g o q after e f h =
-    let m = mode_in form n in
-    given_in form s n t g None q None f (sym (ap (rest_of g) after.1)) (h form ∙ sym (held_object g m n n.held o e))
-    (sym (settled form (setting s g) n n.mode t.kind (leaf t) (subst IsSettled (sym after.0) tt)))
-    ∙ append-nil (kept q [])
 
 -- an error with a known reason has what holds of the reason
 pub told_stops : {T : Type 0} (r : Result T StepFault) (told : StepFault) (P : StepFault → Type 0) → IsErrAnd r (λ t. t ≡ told) → P told → IfErr r P
