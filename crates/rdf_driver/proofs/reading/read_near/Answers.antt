@@ -1,7 +1,7 @@
 -- The loop over the frequent tokens: each was accepted.
 use Rattle.std.proofs.Common.{rules}
-use Rattle.rdf_driver.specs.Reading.{moment, moment_of}
-use Rattle.rdf_driver.proofs.ReadingLemmas.{runs_blank, runs_both, runs_none, runs_token}
+use Rattle.rdf_driver.specs.Reading.{moment_of}
+use Rattle.rdf_driver.proofs.ReadingLemmas.{runs_both, runs_none, runs_past, runs_token}
 use Rattle.rdf_driver.proofs.reading.read_near.Goals as goal
 
 pub near-init : goal.near-init
@@ -27,38 +27,20 @@ near-preserved-in-Ok g c =
 
 -- white space was passed
 pub near-preserved : goal.near-preserved
-near-preserved g c =
-    let words = g.G.Grammar.words in
-    let takes = g.G.Accepts.takes in
-    let failed = g.G.Accepts.has_failed in
-    let first = moment_of c.args.progress.now c.args.sink.now in
-    let now = moment_of c.near.progress c.near.sink in
-    let runs = c.near.invariant.0 in
-    let v = c.pass_blanks.new.self in (
-      runs_both words takes failed first now (moment v now.grammar now.so_far now.sink) runs (runs_blank words takes failed now v runs.reads.ready c.pass_blanks.ensures.passes runs.live),
-      c.in-Passed.ensures.again (search rules),
-    )
+near-preserved g c = (
+  runs_past g.G.Grammar.words g.G.Accepts.takes g.G.Accepts.has_failed (moment_of c.args.progress.now c.args.sink.now) (moment_of c.near.progress c.near.sink)
+  c.pass_blanks.new.self c.near.invariant.0 c.pass_blanks.ensures.passes,
+  c.in-Passed.ensures.again (search rules),
+)
 
 -- nothing is seen
 pub returns-in-Nothing-clause-reads : goal.returns-in-Nothing-clause-reads
 returns-in-Nothing-clause-reads g c =
-    let words = g.G.Grammar.words in
-    let takes = g.G.Accepts.takes in
-    let failed = g.G.Accepts.has_failed in
-    let first = moment_of c.args.progress.now c.args.sink.now in
-    let now = moment_of c.near.progress c.near.sink in
-    let runs = c.near.invariant.0 in
-    let v = c.pass_blanks.new.self in
-    (runs_both words takes failed first now (moment v now.grammar now.so_far now.sink) runs (runs_blank words takes failed now v runs.reads.ready c.pass_blanks.ensures.passes runs.live)).reads
+    (runs_past g.G.Grammar.words g.G.Accepts.takes g.G.Accepts.has_failed (moment_of c.args.progress.now c.args.sink.now) (moment_of c.near.progress c.near.sink)
+    c.pass_blanks.new.self c.near.invariant.0 c.pass_blanks.ensures.passes).reads
 
 -- a comment is open
 pub returns-in-InComment-clause-reads : goal.returns-in-InComment-clause-reads
 returns-in-InComment-clause-reads g c =
-    let words = g.G.Grammar.words in
-    let takes = g.G.Accepts.takes in
-    let failed = g.G.Accepts.has_failed in
-    let first = moment_of c.args.progress.now c.args.sink.now in
-    let now = moment_of c.near.progress c.near.sink in
-    let runs = c.near.invariant.0 in
-    let v = c.pass_blanks.new.self in
-    (runs_both words takes failed first now (moment v now.grammar now.so_far now.sink) runs (runs_blank words takes failed now v runs.reads.ready c.pass_blanks.ensures.passes runs.live)).reads
+    (runs_past g.G.Grammar.words g.G.Accepts.takes g.G.Accepts.has_failed (moment_of c.args.progress.now c.args.sink.now) (moment_of c.near.progress c.near.sink)
+    c.pass_blanks.new.self c.near.invariant.0 c.pass_blanks.ensures.passes).reads

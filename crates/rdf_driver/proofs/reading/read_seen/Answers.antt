@@ -1,6 +1,6 @@
 -- The loop over the tokens that can be seen: each was accepted.
 use Rattle.rdf_driver.specs.Reading.{moment_of}
-use Rattle.rdf_driver.proofs.ReadingLemmas.{fails_both, runs_both, runs_none}
+use Rattle.rdf_driver.proofs.ReadingLemmas.{fails_both, runs_after, runs_none}
 use Rattle.rdf_driver.proofs.reading.read_seen.Goals as goal
 
 pub seen-init : goal.seen-init
@@ -22,8 +22,7 @@ returns-in-Ok-false-clause-reads g c =
     let now = moment_of c.seen.progress c.seen.sink in
     let near = moment_of c.read_near.new.progress c.read_near.new.sink in
     let e = c.in-Ok-false.ensures in
-    (runs_both g.G.Grammar.words g.G.Accepts.takes g.G.Accepts.has_failed first now near c.seen.invariant
-    (record { reads = e.reads; limits = e.limits; live = e.live })).reads
+    (runs_after g.G.Grammar.words g.G.Accepts.takes g.G.Accepts.has_failed first now near c.seen.invariant e.reads e.limits e.live).reads
 
 -- a token that takes the longer look was not accepted
 pub returns-in-Err-read_far-clause-reads : goal.returns-in-Err-read_far-clause-reads
@@ -36,8 +35,8 @@ returns-in-Err-read_far-clause-reads g c =
     let near = moment_of c.read_near.new.progress c.read_near.new.sink in
     let new = c.read_far.new in
     let e = c.in-Ok-true.ensures in
-    let runs = runs_both words takes failed first now near c.seen.invariant (record { reads = e.reads; limits = e.limits; live = e.live }) in
-    fails_both words takes g.G.Accepts.leaves failed c.in-Err-read_far.reason _ _ first near new.progress.scanner new.progress.grammar new.sink runs c.in-Err-read_far.ensures.reads
+    fails_both words takes g.G.Accepts.leaves failed c.in-Err-read_far.reason _ _ first near new.progress.scanner new.progress.grammar new.sink
+    (runs_after words takes failed first now near c.seen.invariant e.reads e.limits e.live) c.in-Err-read_far.ensures.reads
 
 -- it was, or was not seen
 pub seen-preserved : goal.seen-preserved
@@ -51,9 +50,7 @@ seen-preserved g c =
     let next = moment_of c.read_far.new.progress c.read_far.new.sink in
     let e = c.in-Ok-true.ensures in
     let f = c.in-Ok-true-read_far.ensures in
-    runs_both words takes failed first near next
-    (runs_both words takes failed first now near c.seen.invariant (record { reads = e.reads; limits = e.limits; live = e.live }))
-    (record { reads = f.reads; limits = f.limits; live = f.live })
+    runs_after words takes failed first near next (runs_after words takes failed first now near c.seen.invariant e.reads e.limits e.live) f.reads f.limits f.live
 
 pub returns-in-Ok-false-read_far-clause-reads : goal.returns-in-Ok-false-read_far-clause-reads
 returns-in-Ok-false-read_far-clause-reads g c =
@@ -66,6 +63,4 @@ returns-in-Ok-false-read_far-clause-reads g c =
     let next = moment_of c.read_far.new.progress c.read_far.new.sink in
     let e = c.in-Ok-true.ensures in
     let f = c.in-Ok-false-read_far.ensures in
-    (runs_both words takes failed first near next
-    (runs_both words takes failed first now near c.seen.invariant (record { reads = e.reads; limits = e.limits; live = e.live }))
-    (record { reads = f.reads; limits = f.limits; live = f.live })).reads
+    (runs_after words takes failed first near next (runs_after words takes failed first now near c.seen.invariant e.reads e.limits e.live) f.reads f.limits f.live).reads
