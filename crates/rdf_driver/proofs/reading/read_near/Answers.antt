@@ -29,7 +29,7 @@ near-preserved-in-Ok g c =
 pub near-preserved : goal.near-preserved
 near-preserved g c = (
   runs_past g.G.Grammar.words g.G.Accepts.takes g.G.Accepts.has_failed (moment_of c.args.progress.now c.args.sink.now) (moment_of c.near.progress c.near.sink)
-  c.pass_blanks.new.self c.near.invariant.0 c.pass_blanks.ensures.passes,
+      c.pass_blanks.new.self c.near.invariant.0 c.pass_blanks.ensures.passes,
   c.in-Passed.ensures.again (search rules),
 )
 
