@@ -10,7 +10,7 @@ ghost use Rattle.rdf_tokens.specs.Look.{tail_after, IsLookWithin, IsFirstLook, C
 use crate::front::{NoNames, Walk, front_of};
 use crate::iris::iri_len;
 use crate::over::is_over;
-use crate::quick::quick_front;
+use crate::quick::{ByNext, quick_front};
 use crate::strings::string_len;
 use rdf_terms::{Dialect, Kind, Reason, is_fit};
 
@@ -57,7 +57,7 @@ pub(crate) fn first_look(
         return Some(Look::Stop(Reason::TokenTooLong));
     }
     if walk.is_none() {
-        let quick = quick_front(dialect, text, no_names);
+        let quick = quick_front::<ByNext>(dialect, text, no_names);
         if let Some(kind) = quick.kind {
             return Some(Look::Token(quick.len, kind));
         }

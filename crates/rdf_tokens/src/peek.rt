@@ -11,8 +11,8 @@ ghost use Rattle.rdf_tokens.specs.declared.states.text.Quote.TheVariants.{Double
 use crate::blank::is_bare;
 use crate::front::NoNames;
 use crate::quick::{
-    are_carets, begins_label, begins_tag, digits_end, is_a, is_colon, is_decimal_end, is_dot,
-    is_integer_end, is_name_end, is_point, is_sought, quick_front, quick_long, quick_named,
+    ByPeekFar, are_carets, begins_label, begins_tag, digits_end, is_a, is_colon, is_decimal_end,
+    is_dot, is_integer_end, is_name_end, is_point, is_sought, quick_front, quick_long, quick_named,
     quick_tag, stands_at,
 };
 use crate::states::text::Quote;
@@ -64,7 +64,7 @@ fn seen_quick(blank: usize, text: &str, no_names: &Option<NoNames>) -> Option<Pe
     if !is_bare(text.as_bytes(), 0) {
         return None;
     }
-    let quick = quick_front(Dialect::Turtle, text, no_names);
+    let quick = quick_front::<ByPeekFar>(Dialect::Turtle, text, no_names);
     match quick.kind {
         Some(kind) => Some(Peeked {
             kind,

@@ -29,10 +29,16 @@ pub(crate) struct Quick {
     pub(crate) kind: Option<Kind>,
 }
 
+/// Whoever looks at the next token while taking it: an instance of `quick_front` of its own, which is inlined where nothing else calls it.
+pub(crate) struct ByNext;
+
+/// Whoever looks at a token before taking it, by the longer look: an instance of `quick_front` of its own.
+pub(crate) struct ByPeekFar;
+
 /// The token that a text begins with, where its first bytes settle it: a byte that is one by itself, a plain text up to its delimiter, or a name, a
-/// label or a number of ASCII with the byte after it.
+/// label or a number of ASCII with the byte after it. `C` names the caller.
 #[inline(always)]
-pub(crate) fn quick_front(dialect: Dialect, text: &str, no_names: &Option<NoNames>) -> Quick
+pub(crate) fn quick_front<C>(dialect: Dialect, text: &str, no_names: &Option<NoNames>) -> Quick
     ensures { IsQuick dialect text.now result.len result.kind }
 {
     let bytes = text.as_bytes();
