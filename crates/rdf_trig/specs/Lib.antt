@@ -21,5 +21,6 @@ pub mod Holding
 pub mod Turns
 pub mod Steps
 pub mod Scopes
+pub mod Straight
 pub mod Coded
 pub mod Accepting

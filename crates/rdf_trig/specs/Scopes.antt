@@ -32,6 +32,13 @@ IsPrefixed PnameNs = ⊤
 IsPrefixed PnameLn = ⊤
 IsPrefixed k = ⊥
 
+-- a token of the kind is one or the other
+abbrev pub StandsForIri : Kind → Type 0
+StandsForIri IriRef = ⊤
+StandsForIri PnameNs = ⊤
+StandsForIri PnameLn = ⊤
+StandsForIri k = ⊥
+
 -- the text means something as a local part
 abbrev pub MeansLocal : List ℕ → Type 0
 MeansLocal w = is_some (local_value w) ≡ true

@@ -148,6 +148,10 @@ impl<A: Allocator + Copy> State<A> {
         // Read once, before the token is lent: where the caller knows the kind, so does all that follows.
         let kind = token.kind;
         let turn = self.check(rules, kind)?;
+        if let Some(slot) = self.slot(turn, kind) {
+            self.fill(slot, scope, token)?;
+            return Ok(0);
+        }
         self.look_up(scope, token)?;
         let given = give(self, token, sink)?;
         self.move_on(turn, kind, token)?;

@@ -45,10 +45,10 @@ pub fn give<A: Allocator, S: QuadSink>(
     give_all(state, token, sink)
 }
 
-// Whether no quad is held, and none waits to know the token.
+/// Whether no quad is held, and none waits to know the token.
 #[inline(always)]
 #[tactic(auto, using(crate::proofs::code::PutsInRow::given_idle))]
-fn is_idle<A: Allocator>(state: &State<A>) -> bool
+pub fn is_idle<A: Allocator>(state: &State<A>) -> bool
     ensures { result ≡ true → (form : DocForm) (s : InForce) (t : Given) → given form s state.now t ≡ [] }
 {
     match state.held {

@@ -22,6 +22,7 @@ mod slots;
 mod spares;
 mod spelled;
 mod state;
+mod straight;
 mod subjects;
 mod table;
 mod turn;

@@ -15,7 +15,7 @@ ghost use Rattle.rdf_trig.specs.Machine as M;
 ghost use Rattle.rdf_trig.specs.Owed.{iri_size};
 ghost use Rattle.rdf_trig.specs.States.{leaf, IsTurtleToken, PrefixFits};
 ghost use Rattle.rdf_trig.specs.Holding.{NameFits};
-ghost use Rattle.rdf_trig.specs.Scopes.{IsReference, IsPrefixed, Names, Unnamed, Binding, NotBinding, Based, Finds, FindsNone, FindsIri, FindsNoIri};
+ghost use Rattle.rdf_trig.specs.Scopes.{IsReference, IsPrefixed, StandsForIri, Names, Unnamed, Binding, NotBinding, Based, Finds, FindsNone, FindsIri, FindsNoIri};
 
 use crate::emptied::clear_text;
 use crate::fault::StepFault;
@@ -106,79 +106,17 @@ impl<A: Allocator> Name<A> {
 }
 
 impl<A: Allocator + Copy> Name<A> {
-    // The IRI of a prefix with a local part after it.
+    /// The IRI of a reference or a name. After an error there is none.
     #[inline(always)]
-    fn expand(&mut self, scope: &Scope<A>, prefix: &str, local: &str) -> Result<(), IriFault>
-        requires { IsIriText (chars local.now) }
-        ensures expanded { OnOk result ((i : List ℕ) × (self.new ≡ Some i) × ExpandsHere scope.now (chars prefix.now) (chars local.now) i) }
-        ensures refused { IfErr result (NotExpanded scope.now (chars prefix.now) (chars local.now)) }
-    {
-        match scope.expand_into(prefix, local, &mut self.text) {
-            Ok(()) => Ok(()),
-            Err(fault) => {
-                clear_text(&mut self.text);
-                Err(fault)
-            }
-        }
-    }
-
-    // The IRI of a reference.
-    #[tactic(auto, using(crate::proofs::code::LookUps::reference_at))]
-    fn set_reference(
-        &mut self,
-        alloc: A,
-        scope: &Scope<A>,
-        token: &Token<'_>,
-    ) -> Result<(), StepFault>
+    pub fn set(&mut self, alloc: A, scope: &Scope<A>, token: &Token<'_>) -> Result<(), StepFault>
         requires token { IsTurtleToken token.now }
-        requires kind { IsReference token.now.kind }
-        ensures ok { OnOk result (Names scope.now token.now.kind (leaf token.now) self.new) }
-        ensures fits { OnOk result (NameFits scope.now.limits.iri self.new) }
-        ensures err { IfErr result (λ r. Unnamed scope.now token.now.kind (leaf token.now) r) }
-    {
-        match put_reference(alloc, &mut self.text, scope, token) {
-            Ok(()) => Ok(()),
-            Err(fault) => {
-                clear_text(&mut self.text);
-                Err(fault)
-            }
-        }
-    }
-
-    // The IRI of a prefixed name.
-    #[tactic(auto, using(crate::proofs::code::LookUps::name_not))]
-    #[inline(always)]
-    fn set_prefixed(&mut self, scope: &Scope<A>, token: &Token<'_>) -> Result<(), StepFault>
-        requires token { IsTurtleToken token.now }
-        requires kind { IsPrefixed token.now.kind }
+        requires kind { StandsForIri token.now.kind }
         requires colon { KnowsItsColon token.now }
         ensures ok { OnOk result (Names scope.now token.now.kind (leaf token.now) self.new) }
         ensures fits { OnOk result (NameFits scope.now.limits.iri self.new) }
         ensures err { IfErr result (λ r. Unnamed scope.now token.now.kind (leaf token.now) r) }
     {
-        if token.colon > 0 {
-            let (prefix, local) = plain_parts(token.text, token.colon);
-            return Ok(self.expand(scope, prefix, local)?);
-        }
-        let (prefix, local) = parts(token.text);
-        if lacks_escapes(local) {
-            return Ok(self.expand(scope, prefix, local)?);
-        }
-        Ok(self.expand_escaped(scope, prefix, local)?)
-    }
-
-    // The IRI of a prefix with what a local part means after it.
-    fn expand_escaped(
-        &mut self,
-        scope: &Scope<A>,
-        prefix: &str,
-        local: &str,
-    ) -> Result<(), IriFault>
-        requires { IsIriText (without_backslashes (chars local.now)) }
-        ensures expanded { OnOk result ((i : List ℕ) × (self.new ≡ Some i) × ExpandsHere scope.now (chars prefix.now) (without_backslashes (chars local.now)) i) }
-        ensures refused { IfErr result (λ f. f ≢ IriFault.Memory → NotExpanded scope.now (chars prefix.now) (without_backslashes (chars local.now)) f) }
-    {
-        match scope.expand_escaped_into(prefix, local, &mut self.text) {
+        match put_name(alloc, &mut self.text, scope, token) {
             Ok(()) => Ok(()),
             Err(fault) => {
                 clear_text(&mut self.text);
@@ -186,6 +124,74 @@ impl<A: Allocator + Copy> Name<A> {
             }
         }
     }
+}
+
+/// Puts the IRI of a reference or a name in place of a text. After an error nothing is known of the text.
+#[tactic(auto, using(crate::proofs::code::LookUps::reference_at))]
+#[inline(always)]
+pub fn put_name<A: Allocator + Copy>(
+    alloc: A,
+    text: &mut TextBuffer<A>,
+    scope: &Scope<A>,
+    token: &Token<'_>,
+) -> Result<(), StepFault>
+    requires token { IsTurtleToken token.now }
+    requires kind { StandsForIri token.now.kind }
+    requires colon { KnowsItsColon token.now }
+    ensures ok { OnOk result (Names scope.now token.now.kind (leaf token.now) (Some (chars text.new))) }
+    ensures is_iri { OnOk result (IsIri (chars text.new)) }
+    ensures fits { OnOk result (byte_len (chars text.new) ≤ scope.now.limits.iri) }
+    ensures err { IfErr result (λ r. Unnamed scope.now token.now.kind (leaf token.now) r) }
+{
+    match token.kind {
+        Kind::IriRef => put_reference(alloc, text, scope, token),
+        _ => put_prefixed(text, scope, token),
+    }
+}
+
+// Puts the IRI of a prefixed name in place of a text.
+#[tactic(auto, using(crate::proofs::code::LookUps::name_not))]
+#[inline(always)]
+fn put_prefixed<A: Allocator + Copy>(
+    text: &mut TextBuffer<A>,
+    scope: &Scope<A>,
+    token: &Token<'_>,
+) -> Result<(), StepFault>
+    requires token { IsTurtleToken token.now }
+    requires kind { IsPrefixed token.now.kind }
+    requires colon { KnowsItsColon token.now }
+    ensures ok { OnOk result (Names scope.now token.now.kind (leaf token.now) (Some (chars text.new))) }
+    ensures is_iri { OnOk result (IsIri (chars text.new)) }
+    ensures fits { OnOk result (byte_len (chars text.new) ≤ scope.now.limits.iri) }
+    ensures err { IfErr result (λ r. Unnamed scope.now token.now.kind (leaf token.now) r) }
+{
+    if token.colon > 0 {
+        let (prefix, local) = plain_parts(token.text, token.colon);
+        return Ok(scope.expand_into(prefix, local, text)?);
+    }
+    put_spelled(text, scope, token)
+}
+
+// The same of a name that may have escapes. It is called, so that what calls it stays small.
+#[tactic(auto, using(crate::proofs::code::LookUps::name_not))]
+#[inline(never)]
+fn put_spelled<A: Allocator + Copy>(
+    text: &mut TextBuffer<A>,
+    scope: &Scope<A>,
+    token: &Token<'_>,
+) -> Result<(), StepFault>
+    requires token { IsTurtleToken token.now }
+    requires kind { IsPrefixed token.now.kind }
+    ensures ok { OnOk result (Names scope.now token.now.kind (leaf token.now) (Some (chars text.new))) }
+    ensures is_iri { OnOk result (IsIri (chars text.new)) }
+    ensures fits { OnOk result (byte_len (chars text.new) ≤ scope.now.limits.iri) }
+    ensures err { IfErr result (λ r. Unnamed scope.now token.now.kind (leaf token.now) r) }
+{
+    let (prefix, local) = parts(token.text);
+    if lacks_escapes(local) {
+        return Ok(scope.expand_into(prefix, local, text)?);
+    }
+    Ok(scope.expand_escaped_into(prefix, local, text)?)
 }
 
 // Puts the IRI of a reference in place of a text. A reference without escapes is resolved as it stands in the token.
@@ -346,8 +352,7 @@ fn name_token<A: Allocator + Copy>(
     ensures err { IfErr result (λ r. Unnamed scope.now token.now.kind (leaf token.now) r) }
 {
     match token.kind {
-        Kind::IriRef => name.set_reference(alloc, scope, token),
-        Kind::PnameNs | Kind::PnameLn => name.set_prefixed(scope, token),
+        Kind::IriRef | Kind::PnameNs | Kind::PnameLn => name.set(alloc, scope, token),
         _ => Ok(()),
     }
 }

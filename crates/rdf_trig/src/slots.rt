@@ -1,20 +1,27 @@
 // Texts that are used again: those of the subject, graph, object and tag of a state.
 
-ghost use Rattle.std.specs.Prelude.{◌≡◌, [], true, Some, None, OnOk, option_map, is_some};
+ghost use Rattle.std.specs.Prelude.{◌≡◌, [], true, Some, None, OnOk, IfErr, option_map, is_some};
 ghost use Rattle.std.specs.Str.{chars};
 ghost use Rattle.rdf_terms.specs.Terms.{IsLabel, IsTag};
 ghost use Rattle.rdf_terms.specs.Views.{tag_chars, subject_by};
+ghost use Rattle.rdf_tokens.specs.Scans.{KnowsItsColon};
 ghost use Rattle.rdf_trig.specs.Quads.{named};
+ghost use Rattle.rdf_trig.specs.Scopes.{StandsForIri, Unnamed};
+ghost use Rattle.rdf_trig.specs.States.{leaf, IsTurtleToken};
+ghost use Rattle.rdf_trig.specs.Straight.{IsTopic};
 ghost use Rattle.rdf_trig.specs.declared.slots.SubjectKind.TheVariants as SubjectKind;
 ghost use Rattle.rdf_trig.specs.Slots.{topic_at};
 ghost use Rattle.rdf_trig.specs.Machine as M;
 ghost use Rattle.rdf_trig.specs.Owed.{iri_size};
 
 use crate::emptied::clear_text;
-use crate::names::Name;
+use crate::fault::StepFault;
+use crate::names::{Name, put_name};
+use rdf_iri::Scope;
 use rdf_terms::{
     IriView, Known, LabelView, NodeRef, SubjectRef, TagView, TextBuffer, known, put_text, text_len,
 };
+use rdf_tokens::Token;
 use std::alloc::{AllocError, Allocator, Global};
 use std::marker::Model;
 
@@ -138,6 +145,26 @@ impl<A: Allocator> Topic<A> {
 }
 
 impl<A: Allocator + Copy> Topic<A> {
+    /// The IRI of a reference or a name.
+    #[inline(always)]
+    pub fn set_name(
+        &mut self,
+        alloc: A,
+        scope: &Scope<A>,
+        token: &Token<'_>,
+    ) -> Result<(), StepFault>
+        requires token { IsTurtleToken token.now }
+        requires kind { StandsForIri token.now.kind }
+        requires colon { KnowsItsColon token.now }
+        ensures ok { OnOk result (IsTopic scope.now token.now self.new) }
+        ensures err { IfErr result (λ r. Unnamed scope.now token.now.kind (leaf token.now) r) }
+    {
+        self.kind = SubjectKind::Nil;
+        put_name(alloc, &mut self.text, scope, token)?;
+        self.kind = SubjectKind::Iri;
+        Ok(())
+    }
+
     /// The node of a label, which stands here without its `_:`.
     #[inline(always)]
     pub fn set_label(&mut self, label: &str) -> Result<(), AllocError>

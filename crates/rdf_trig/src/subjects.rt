@@ -54,7 +54,7 @@ impl<A: Allocator + Copy> State<A> {
 
     // A statement begins.
     #[inline(always)]
-    fn begin(&mut self, level: Level)
+    pub fn begin(&mut self, level: Level)
         ensures same { self.new ≡ record self.old { level = level; frames = self.new.frames } }
         ensures frames { self.new.frames.items ≡ [] }
         ensures fits { StillFits self.old self.new }

@@ -1,5 +1,6 @@
 -- Scopes that agree in every look-up give tokens the same meaning, and stay so.
 use Rattle.std.proofs.Common.{◌≡◌, ◌+◌, ℕ, cond, List, ◌++◌, ◌&&◌, not, length, Option, Some, None, option_map, refl, sym, ap, ◌∙◌, subst}
+use Rattle.std.proofs.lemmas.Bool.{false≢true}
 use Rattle.std.specs.Prelude.{nat_le, is_some, Result, Ok, Err, OnOk, IfErr}
 use Rattle.rdf_terms.specs.declared.kind.Kind.{Kind}
 use Rattle.rdf_terms.specs.declared.kind.Kind.TheVariants.{IriRef, PnameNs, PnameLn}
@@ -17,12 +18,17 @@ use Rattle.rdf_trig.specs.declared.state.State.{State}
 use Rattle.rdf_trig.specs.declared.state.Mode.{Mode}
 use Rattle.rdf_trig.specs.declared.state.Mode.TheVariants as mode
 use Rattle.rdf_trig.specs.declared.state.Spelling.{Spelling}
+use Rattle.rdf_trig.specs.declared.straight.Slot.{Slot}
+use Rattle.rdf_trig.specs.declared.straight.Slot.TheVariants as slot
+use Rattle.rdf_trig.specs.declared.turn.Turn.{Turn}
 use Rattle.rdf_trig.specs.Names.{reference_in, name_in, prefix_of, local_of, with_base, with_binding, is_full}
 use Rattle.rdf_trig.specs.Events.{Use, stands, binds}
 use Rattle.rdf_trig.specs.Machine as M
 use Rattle.rdf_trig.specs.Machine.{by_use}
-use Rattle.rdf_trig.specs.States.{name_at, use_at, mode_at, outer_of, level_of, place_in, text_in, after_semicolon_at}
+use Rattle.rdf_trig.specs.States.{IsNamedIn, name_at, use_at, mode_at, outer_of, level_of, place_in, text_in, after_semicolon_at}
 use Rattle.rdf_trig.specs.Scopes.{IsAdmitted, IsDenied, Names, Unnamed, Based, Binding, NotBinding, SameScope, LooksUp, LooksUpNone}
+use Rattle.rdf_trig.specs.Turns.{Suits, SuitsIn}
+use Rattle.rdf_trig.specs.Straight.{slot_turn}
 use Rattle.rdf_trig.proofs.trees.NamesLemmas.{bind_bound, bind_length}
 
 -- a reference depends on the base alone, on which such scopes agree
@@ -147,6 +153,34 @@ pub outer_none : {A T : Type 0} (n : State A) (o : Outer) (t : InForce) (k : Kin
 outer_none n o t k l (Ok x) a b c h = tt
 outer_none n o t k l (Err r) a b c h =
     λ form s e. none_ordinary s t (outer_of o n.bracket (text_in n) n.graph) k l r (outer_ordinary o n.bracket (text_in n) n.graph a b c) e h
+
+-- a turn that takes an IRI is none of a directive, where none comes
+named_ordinary : (m : M.Mode) (k : Kind) (t : Turn) → (Suits t k None → ⊥) → ((i : Option (List ℕ)) → IsNamedIn m k i → Suits t k i) → Ordinary m
+named_ordinary (M.WantPrefix w) k t none h = absurd (none (h None tt))
+named_ordinary (M.WantPrefixIri w p) k t none h = absurd (none (h None tt))
+named_ordinary (M.WantBaseIri w) k t none h = absurd (none (h None tt))
+named_ordinary m k t none h = tt
+
+-- what goes into a slot is an IRI
+slot_named : (p : Slot) (k : Kind) → Suits (slot_turn p) k None → ⊥
+slot_named (slot.Subject v) k h = false≢true h
+slot_named (slot.Verb a) k h = false≢true h
+slot_named slot.Object k h = false≢true h
+slot_named slot.Datatype k h = false≢true h
+
+slot_ordinary : {A : Type 0} (form : DocForm) (n : State A) (p : Slot) (t : Turn) (k : Kind) → slot_turn p ≡ t → SuitsIn form n n.mode k t →
+    Ordinary (mode_at form n n.mode)
+slot_ordinary form n p t k e h =
+    named_ordinary (mode_at form n n.mode) k (slot_turn p) (slot_named p k) (subst (SuitsIn form n n.mode k) (sym e) h)
+
+-- so the look-up of a name that goes straight into its slot is the machine's
+pub slot_looks : {A : Type 0} (form : DocForm) (n : State A) (p : Slot) (t : Turn) (s here : InForce) (k : Kind) (l : Leaf) (i : Option (List ℕ)) →
+    slot_turn p ≡ t → SuitsIn form n n.mode k t → SameScope s here → Names here k l i → LooksUp s (mode_at form n n.mode) k l i here
+slot_looks form n p t s here k l i is h e names = looks_ordinary s here (mode_at form n n.mode) k l i (slot_ordinary form n p t k is h) e names
+
+pub slot_none : {A : Type 0} (form : DocForm) (n : State A) (p : Slot) (t : Turn) (s here : InForce) (k : Kind) (l : Leaf) (r : StepFault) →
+    slot_turn p ≡ t → SuitsIn form n n.mode k t → SameScope s here → Unnamed here k l r → LooksUpNone s (mode_at form n n.mode) k l r
+slot_none form n p t s here k l r is h e none = none_ordinary s here (mode_at form n n.mode) k l r (slot_ordinary form n p t k is h) e none
 
 -- scopes that agree do so after both have taken a base
 based_same : (s t : InForce) (o : Option (List ℕ)) → SameScope s t → SameScope (with_base s o) (with_base t o)

@@ -3,7 +3,7 @@ use Rattle.std.proofs.Common.{◌≡◌, ◌≤◌, ◌<◌, ◌+◌, ◌*◌, �
 use Rattle.std.specs.Prelude.{nat_le}
 use Rattle.std.proofs.lemmas.Bool.{cond-true, cond-false, false≢true}
 use Rattle.rdf_terms.specs.declared.kind.Kind.{Kind}
-use Rattle.rdf_terms.specs.declared.kind.Kind.TheVariants.{IriRef, OpenBracket, CloseBracket, OpenParen, CloseParen}
+use Rattle.rdf_terms.specs.declared.kind.Kind.TheVariants.{IriRef, PnameNs, PnameLn, OpenBracket, CloseBracket, OpenParen, CloseParen}
 use Rattle.rdf_terms.specs.Terms.{Quad}
 use Rattle.rdf_terms.specs.Sinks.{Appends}
 use Rattle.rdf_iri.specs.Limits.{Sizes}
@@ -25,7 +25,7 @@ use Rattle.rdf_trig.specs.Refusals as refusal
 use Rattle.rdf_trig.specs.Machine as M
 use Rattle.rdf_trig.specs.Machine.{Reply, No, Go, kept, by_use, refuses, accepts}
 use Rattle.rdf_trig.specs.States.{mode_at, use_in, scope_in, is_go, moved, DepthMoves, ShortPrefix, PrefixFits}
-use Rattle.rdf_trig.specs.Scopes.{IsAdmitted, SameScope, LooksUp, LooksUpNone}
+use Rattle.rdf_trig.specs.Scopes.{StandsForIri, IsAdmitted, SameScope, LooksUp, LooksUpNone}
 use Rattle.rdf_trig.specs.Holding.{most_text, frames_most, Fits}
 use Rattle.rdf_trig.specs.Steps.{Begins, GaveUp, state_of, May, DepthMay, Keeps, Accepts, answered, Fails}
 use Rattle.rdf_trig.proofs.code.StepBounds.{step_use, step_depth, step_prefix}
@@ -60,6 +60,13 @@ may_count form c m CloseParen l d g e h =
     let moves : M.depth r.4 + 1 ≡ M.depth m = step_depth form c m CloseParen l r.0 r.1 r.2 r.3 r.4 r.5 in
     omega (arith, moves, e)
 may_count form c m k l d g e h = tt
+
+-- a reference or a name opens and closes no bracket
+pub depth_stays : (k : Kind) (old new : ℕ) → StandsForIri k → new ≡ old → DepthMoves k old new
+depth_stays IriRef old new h e = e
+depth_stays PnameNs old new h e = e
+depth_stays PnameLn old new h e = e
+depth_stays k old new h e = absurd h
 
 -- the answer, once the token is allowed and not too deep
 abbrev quads_out : M.State → Kind → Leaf → List Quad

@@ -72,18 +72,13 @@ unfolding name_in
 name_none s l p e b = ap (option_map (λ x. x ++ local_of l)) (ap (bound_to s.bindings) (sym e) ∙ b)
 
 -- a name that the scope expanded within the limit is what the token stands for
-name_names : (s : InForce) (k : Kind) (l : Leaf) (p v i : List ℕ) → IsPrefixed k → p ≡ prefix_of l → v ≡ local_of l → ExpandsHere s p v i →
+pub name_names : (s : InForce) (k : Kind) (l : Leaf) (p v i : List ℕ) → IsPrefixed k → p ≡ prefix_of l → v ≡ local_of l → ExpandsHere s p v i →
     Names s k l (Some i)
 name_names s PnameNs l p v i k e f r =
     let is = name_is s l p v i r.0.0 e f r.0.1 r.0.2 in record { name = is; named = tt; admitted = stands_passes s.limits PnameNs (name_in s l) i is r.1 }
 name_names s PnameLn l p v i k e f r =
     let is = name_is s l p v i r.0.0 e f r.0.1 r.0.2 in record { name = is; named = tt; admitted = stands_passes s.limits PnameLn (name_in s l) i is r.1 }
 name_names s k l p v i h e f r = absurd h
-
--- so is what an expansion left
-pub expanded_names : (s : InForce) (k : Kind) (l : Leaf) (p v : List ℕ) (o : Option (List ℕ)) → IsPrefixed k → p ≡ prefix_of l → v ≡ local_of l →
-    (i : List ℕ) × (o ≡ Some i) × ExpandsHere s p v i → Names s k l o
-expanded_names s k l p v o h e f (i, is, r) = subst (Names s k l) (sym is) (name_names s k l p v i h e f r)
 
 -- why the scope did not expand a name is why the machine refuses its token
 name_stops_at : (s : InForce) (k : Kind) (l : Leaf) (p v : List ℕ) (f : IriFault) → M.unnamed k ≡ refusal.unbound → p ≡ prefix_of l → v ≡ local_of l →

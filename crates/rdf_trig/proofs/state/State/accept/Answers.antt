@@ -11,9 +11,79 @@ use Rattle.rdf_trig.specs.Turns.{turned, frames_after}
 use Rattle.rdf_trig.proofs.code.HoldingLemmas.{token_within, name_within, named_fits}
 use Rattle.rdf_trig.proofs.code.PutsInRow.{told_stops}
 use Rattle.rdf_trig.proofs.code.TurnsLemmas.{turned_named}
-use Rattle.rdf_trig.proofs.code.AnswersOfSteps.{fails_stops, fails_gave, fails_after, accepts_moved, keeps_moved, limits_kept, same_scope, bytes_at_most}
+use Rattle.rdf_trig.proofs.code.AnswersOfSteps.{depth_stays, fails_stops, fails_gave, fails_after, accepts_moved, keeps_moved, limits_kept, same_scope, bytes_at_most}
+use Rattle.rdf_trig.proofs.code.AgreeingScopes.{slot_looks, slot_none}
 use Rattle.rdf_trig.proofs.code.NextKinds.{other_fault}
 use Rattle.rdf_trig.proofs.state.State.accept.Goals as goal
+
+pub returns-in_err-fill-clause-err : goal.returns-in_err-fill-clause-err
+returns-in_err-fill-clause-err g c =
+    let self = c.args.self.now in
+    let form = c.args.rules.now.form in
+    let here = c.args.scope.now in
+    let k = c.args.token.now.kind in
+    let l = leaf c.args.token.now in
+    let r = c.in_err-fill.field-0.0 in
+    told_stops c.from_residual-in_err-fill.result r _ c.from_residual-in_err-fill.ensures.1
+    (λ s e. fails_stops g.S.QuadSink.takes g.S.QuadSink.leaves g.S.QuadSink.has_failed form (state_of form s self) k l r c.args.sink.now c.requires.live
+    (c.in_ok-turn.ensures.ok s l (ap (λ z. z.depth) e.limits ∙ sym c.requires.most))
+    (slot_none form self c.in-Some.slot c.in_ok-turn.turn s here k l r c.in-Some.ensures.turn c.in_ok-turn.ensures.suits e c.in_err-fill.ensures.err))
+
+pub returns-in-Some-clause-ok : goal.returns-in-Some-clause-ok
+returns-in-Some-clause-ok g c = λ s e.
+    let self = c.args.self.now in
+    let form = c.args.rules.now.form in
+    let here = c.args.scope.now in
+    let token = c.args.token.now in
+    let k = token.kind in
+    let l = leaf token in
+    let f = c.in_ok-fill.ensures.ok in
+    let turn = c.in_ok-turn.turn in
+    let m = mode_in form self in
+    let now = scope_in s m k l in
+    let u = use_in s m k l in
+    let looks = slot_looks form self c.in-Some.slot turn s here k l f.name c.in-Some.ensures.turn c.in_ok-turn.ensures.suits e f.names in
+    accepts_moved g.S.QuadSink.takes form s here self c.fill.new.self k l f.name c.args.sink.now c.args.sink.now
+    (c.in_ok-turn.ensures.ok s l (ap (λ z. z.depth) e.limits ∙ sym c.requires.most)) looks
+    (c.in_ok-turn.ensures.turn s l f.name looks.name ∙ (sym (turned_named form self f.name now u f.name turn l)
+    ∙ subst (λ t. turned form (record self { name = f.name }) now u f.name t l ≡ moved form now u c.fill.new.self) c.in-Some.ensures.turn (f.takes form now u)))
+    (subst (λ qs. Appends g.S.QuadSink.takes c.args.sink.now qs c.args.sink.now) (sym (c.in-Some.ensures.idle form s token)) refl)
+
+pub returns-in-Some-clause-count : goal.returns-in-Some-clause-count
+returns-in-Some-clause-count g c = λ s qs n a.
+    let form = c.args.rules.now.form in
+    let token = c.args.token.now in
+    let m = state_of form s c.args.self.now in
+    let x = accepted s.limits m token.kind (M.waiting m.setting m.mode token.kind (leaf token)) (M.step form m.setting m.mode token.kind (leaf token)) qs n a in
+    ap length (sym (c.in-Some.ensures.idle form s token)) ∙ ap length (sym x.given)
+
+pub returns-in-Some-clause-keeps : goal.returns-in-Some-clause-keeps
+returns-in-Some-clause-keeps g c =
+    let self = c.args.self.now in
+    let new = c.fill.new.self in
+    let form = c.args.rules.now.form in
+    let token = c.args.token.now in
+    let k = token.kind in
+    let l = leaf token in
+    let s = c.args.scope.now in
+    let sizes = s.limits in
+    let f = c.in_ok-fill.ensures.ok in
+    let turn = c.in_ok-turn.turn in
+    let m = mode_in form self in
+    let now = scope_in s m k l in
+    let u = use_in s m k l in
+    let looks = slot_looks form self c.in-Some.slot turn s s k l f.name c.in-Some.ensures.turn c.in_ok-turn.ensures.suits (same_scope s) f.names in
+    let frames = subst (λ t. length new.frames.items ≤ frames_after t (length self.frames.items)) c.in-Some.ensures.turn f.stack in
+    let most = c.in_ok-turn.ensures.frames (length self.frames.items) in
+    keeps_moved form s sizes self new k l _ _ c.requires.keeps (bytes_at_most l.text sizes.token c.requires.short)
+    (c.in_ok-turn.ensures.turn s l f.name looks.name ∙ (sym (turned_named form self f.name now u f.name turn l)
+    ∙ subst (λ t. turned form (record self { name = f.name }) now u f.name t l ≡ moved form now u new) c.in-Some.ensures.turn (f.takes form now u)))
+    (depth_stays k self.depth new.depth c.in-Some.ensures.kind f.depth)
+    (λ d. rw (sym c.requires.most) (c.in_ok-turn.ensures.deep d))
+    (omega (arith, frames, most))
+    (f.fits (most_text sizes) (token_within sizes token c.requires.short) (name_within sizes sizes f.name refl f.limit)
+    (named_fits (most_text sizes) self f.name c.requires.keeps.fits))
+    (f.same ∙ c.requires.keeps.name)
 
 pub returns-in_err-look_up-clause-err : goal.returns-in_err-look_up-clause-err
 returns-in_err-look_up-clause-err g c =

@@ -1,0 +1,95 @@
+// Names that go straight into the text that they are for.
+
+ghost use Rattle.std.specs.Prelude.{◌≡◌, [], true, OnOk, IfErr, IfSome};
+ghost use Rattle.rdf_iri.specs.Scope.{InForce};
+ghost use Rattle.rdf_tokens.specs.Scans.{KnowsItsColon};
+ghost use Rattle.rdf_tokens.specs.declared.token.Token.{Token as Given};
+ghost use Rattle.rdf_trig.specs.declared.form.DocForm.{DocForm};
+ghost use Rattle.rdf_trig.specs.Scopes.{StandsForIri, Unnamed};
+ghost use Rattle.rdf_trig.specs.States.{leaf, IsTurtleToken};
+ghost use Rattle.rdf_trig.specs.Steps.{given};
+ghost use Rattle.rdf_trig.specs.Straight.{Fills, slot_turn};
+
+use crate::fault::StepFault;
+use crate::give::is_idle;
+use crate::rest::Rest;
+use crate::state::{Around, Container, Held, Level, Mode, State};
+use crate::turn::{ObjectStart, SubjectStart, Turn, Verb};
+use rdf_iri::Scope;
+use rdf_terms::Kind;
+use rdf_tokens::Token;
+use std::alloc::Allocator;
+
+/// What the IRI of a token is, where it goes straight into its text.
+#[derive(Clone, Copy)]
+pub enum Slot {
+    /// The subject of a statement at this level.
+    Subject(Level),
+    /// The verb of a predicate list.
+    Verb(Around),
+    Object,
+    Datatype,
+}
+
+impl<A: Allocator + Copy> State<A> {
+    /// Where the IRI of the token goes, if no quad is given out before. Elsewhere what is held has to stay until the quads are put, so that it goes
+    /// into a text of its own first.
+    #[inline(always)]
+    pub fn slot(&self, turn: Turn, kind: Kind) -> Option<Slot>
+        ensures turn { IfSome result (λ p. slot_turn p ≡ turn) }
+        ensures kind { IfSome result (λ p. StandsForIri kind) }
+        ensures idle { IfSome result (λ p. (form : DocForm) (s : InForce) (t : Given) → given form s self.now t ≡ []) }
+    {
+        if !stands_for_iri(kind) || !is_idle(self) {
+            return None;
+        }
+        match turn {
+            Turn::Subject(level, SubjectStart::Name) => Some(Slot::Subject(level)),
+            Turn::Verb(around, Verb::Name) => Some(Slot::Verb(around)),
+            Turn::Object(ObjectStart::Name) => Some(Slot::Object),
+            Turn::Datatype => Some(Slot::Datatype),
+            _ => None,
+        }
+    }
+
+    /// Takes a token whose IRI goes there.
+    #[inline(always)]
+    pub fn fill(&mut self, slot: Slot, scope: &Scope<A>, token: &Token<'_>) -> Result<(), StepFault>
+        requires token { IsTurtleToken token.now }
+        requires kind { StandsForIri token.now.kind }
+        requires colon { KnowsItsColon token.now }
+        ensures ok { OnOk result (Fills scope.now self.old (slot_turn slot) token.now self.new) }
+        ensures err { IfErr result (Unnamed scope.now token.now.kind (leaf token.now)) }
+    {
+        match slot {
+            Slot::Subject(level) => {
+                self.begin(level);
+                self.frame.subject.set_name(self.alloc, scope, token)?;
+                self.stand(Mode::AfterSubject);
+            }
+            Slot::Verb(around) => {
+                self.frame.verb.set(self.alloc, scope, token)?;
+                self.frame.container = Container::List(around);
+                self.stand(Mode::Want);
+            }
+            Slot::Object => {
+                self.object.set_name(self.alloc, scope, token)?;
+                self.hold_object(Rest::none());
+            }
+            Slot::Datatype => {
+                self.tag.clear();
+                self.datatype.set(self.alloc, scope, token)?;
+                self.hold(Rest::none(), Held::WithType);
+            }
+        }
+        Ok(())
+    }
+}
+
+// Whether a token of the kind stands for an IRI.
+#[inline(always)]
+fn stands_for_iri(kind: Kind) -> bool
+    ensures { result ≡ true → StandsForIri kind }
+{
+    matches!(kind, Kind::IriRef | Kind::PnameNs | Kind::PnameLn)
+}
