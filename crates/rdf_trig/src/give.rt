@@ -12,8 +12,8 @@ ghost use Rattle.rdf_trig.specs.declared.form.DocForm.{DocForm};
 ghost use Rattle.rdf_trig.specs.Machine as M;
 ghost use Rattle.rdf_trig.specs.Machine.{subject_at, verb_at, kept};
 ghost use Rattle.rdf_tokens.specs.declared.token.Token.{Token as Given};
-ghost use Rattle.rdf_trig.specs.States.{leaf, object_of, object_quad, IsSettled, place_of, up_of, mode_in, graph_in, setting, cells_quad, rest_of, held_of};
-ghost use Rattle.rdf_trig.specs.Steps.{GaveUp, given, up_quad, IsQuadAt, IsObjectQuad, IsWaitingQuad};
+ghost use Rattle.rdf_trig.specs.States.{object_of, IsSettled, mode_in, graph_of, graph_in, cells_quad, rest_of};
+ghost use Rattle.rdf_trig.specs.Steps.{GaveUp, given, IsQuadAt, last_of, due_term, due_quad, IsListed, IsAfterObject};
 
 use crate::fault::StepFault;
 use crate::rest::Rest;
@@ -48,8 +48,8 @@ pub fn give<A: Allocator, S: QuadSink>(
     give_all(state, token, sink)
 }
 
-// Whether the reader stands after an object of a predicate list, so that the object's quad is all that the token can give out. Most quads are
-// given out so.
+// Whether the reader stands after an object of a predicate list, so that the object's quad is all that the token can
+// give out. Most quads are given out so.
 #[inline(always)]
 fn is_after_object<A: Allocator>(state: &State<A>) -> bool
     ensures { result ≡ true → IsAfterObject state.now }
@@ -62,7 +62,8 @@ fn is_after_object<A: Allocator>(state: &State<A>) -> bool
     }
 }
 
-// Puts the quad of an object of a predicate list. One whose object is an IRI is made up apart, where LLVM knows what it is.
+// Puts the quad of an object of a predicate list. One whose object is an IRI is made up apart, where LLVM knows what
+// it is.
 #[inline(always)]
 fn give_listed<A: Allocator, S: QuadSink>(
     state: &State<A>,
@@ -90,7 +91,6 @@ fn give_listed<A: Allocator, S: QuadSink>(
 
 // Whether no quad is held, and none waits to know the token.
 #[inline(always)]
-#[tactic(auto, using(crate::proofs::code::PutsInRow::given_idle))]
 fn is_idle<A: Allocator>(state: &State<A>) -> bool
     ensures { result ≡ true → (form : DocForm) (s : InForce) (t : Given) → given form s state.now t ≡ [] }
 {
@@ -176,7 +176,8 @@ fn due_quad<'a, A: Allocator>(
     graph: Option<SubjectRef<'a>>,
     token: &Token<'_>,
 ) -> Option<QuadRef<'a>>
-    ensures { IsDueQuad state.now (option_map (subject_by chars) graph.entry) token.now (option_map quad_of result) }
+    ensures { (form : DocForm) → option_map quad_of result ≡ due_quad (option_map (subject_by chars) graph.entry) (mode_in form state.now)
+        (due_term state.now state.now.mode token.now) }
 {
     let object = match due_object(state, token) {
         None => return None,
