@@ -2,6 +2,7 @@
 pub mod AnswersOfSteps
 pub mod LawfulGrammar
 pub mod StepBounds
+pub mod DueQuads
 pub mod PutsInRow
 pub mod TurnsLemmas
 pub mod FrameStack

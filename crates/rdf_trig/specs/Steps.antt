@@ -1,6 +1,6 @@
 -- What a step of the reader does to its sink.
 use Rattle.std.specs.Prelude.{◌≡◌, ℕ, ◌+◌, ◌*◌, ◌^◌, ◌<◌, ◌≤◌, ◌&&◌, nat_le, Bool, true, false, List, [], ◌++◌, length, Option, Some, None, ⊤}
-use Rattle.rdf_terms.specs.Terms.{Term, Quad}
+use Rattle.rdf_terms.specs.Terms.{Cell, Blank, Term, Resource, Quad}
 use Rattle.rdf_terms.specs.Terms as term
 use Rattle.rdf_terms.specs.Sinks.{Appends, Attempts}
 use Rattle.rdf_tokens.specs.declared.token.Token.{Token as Given}
@@ -10,15 +10,21 @@ use Rattle.rdf_trig.specs.declared.form.DocForm.{DocForm}
 use Rattle.rdf_trig.specs.declared.fault.StepFault.{StepFault}
 use Rattle.rdf_trig.specs.declared.fault.StepFault.TheVariants.{Unexpected, TooDeep, Unbound, NoBase, IriTooLong, TooManyBindings, Memory, Sink}
 use Rattle.rdf_trig.specs.declared.state.Frame.{Frame}
+use Rattle.rdf_trig.specs.declared.state.Container.{Container}
+use Rattle.rdf_trig.specs.declared.state.Container.TheVariants as container
+use Rattle.rdf_trig.specs.declared.state.Mode.{Mode}
+use Rattle.rdf_trig.specs.declared.state.Mode.TheVariants as mode
+use Rattle.rdf_trig.specs.declared.state.Held.{Held}
+use Rattle.rdf_trig.specs.declared.state.Held.TheVariants as held
 use Rattle.rdf_trig.specs.declared.state.State.{State}
-use Rattle.rdf_trig.specs.Quads.{stated}
+use Rattle.rdf_trig.specs.Quads.{stated, plain_literal}
 use Rattle.rdf_trig.specs.Refusals as refusal
 use Rattle.rdf_trig.specs.Machine as M
 use Rattle.rdf_terms.specs.declared.kind.Kind.{Kind}
-use Rattle.rdf_terms.specs.declared.kind.Kind.TheVariants.{OpenBracket, CloseBracket, OpenParen, CloseParen}
+use Rattle.rdf_terms.specs.declared.kind.Kind.TheVariants.{LangTag, AtBase, AtPrefix, Carets, OpenBracket, CloseBracket, OpenParen, CloseParen}
 use Rattle.rdf_tokens.specs.Leaves.{Leaf}
-use Rattle.rdf_trig.specs.Machine.{subject_at, verb_at, kept}
-use Rattle.rdf_trig.specs.States.{leaf, place_of, object_quad, mode_in, graph_in, setting, rest_of, held_of, is_go, PrefixFits}
+use Rattle.rdf_trig.specs.Machine.{nil, subject_at, verb_at, kept}
+use Rattle.rdf_trig.specs.States.{leaf, text_in, place_of, object_of, object_quad, cells_quad, mode_in, graph_in, setting, rest_of, held_of, is_go, PrefixFits}
 use Rattle.rdf_trig.specs.Scopes.{SameScope}
 use Rattle.rdf_trig.specs.Holding.{most_text, Fits}
 
@@ -32,22 +38,57 @@ GaveUp takes leaves failed Memory qs old new = Begins takes leaves qs old new ×
 GaveUp takes leaves failed Sink qs old new = Begins takes leaves qs old new × (failed new ≡ true)
 GaveUp takes leaves failed r qs old new = ⊥
 
--- the quad of what a bracket stands for
-abbrev pub up_quad : Option term.Subject → M.Up → Term → Option Quad
-up_quad g (M.Subject v) o = None
-up_quad g (M.At p) o = stated (Some g) (subject_at p) (verb_at p) (Some o)
-
 -- the quad of an object at the place of a frame, whatever stands round it
 abbrev pub IsQuadAt : {A : Type 0} → Frame A → Option term.Subject → Term → Option Quad → Type 0
 IsQuadAt f g o q = (v : M.Level) (u : M.Up) → let p = place_of v f u in q ≡ stated (Some g) (subject_at p) (verb_at p) (Some o)
 
--- that of an object that has come, where the mode says
-abbrev pub IsObjectQuad : {A : Type 0} → State A → Option term.Subject → Term → Option Quad → Type 0
-IsObjectQuad r g o q = (form : DocForm) → q ≡ object_quad g (mode_in form r) (Some o)
+-- the last rdf:rest of a collection that has ended
+abbrev pub last_of : Option term.Subject → Held → Option Quad
+last_of g (held.Nil cell) = cells_quad g cell nil
+last_of g h = None
 
--- that which waits to know the token
-abbrev pub IsWaitingQuad : {A : Type 0} → State A → Option term.Subject → Given → Option Quad → Type 0
-IsWaitingQuad r g t q = (form : DocForm) (s : InForce) → q ≡ M.waiting (setting s g) (mode_in form r) t.kind (leaf t)
+-- what a string is by the token after it: no term yet where a tag or a type follows
+abbrev pub plain_term : List ℕ → Kind → Option Term
+plain_term w LangTag = None
+plain_term w AtBase = None
+plain_term w AtPrefix = None
+plain_term w Carets = None
+plain_term w k = plain_literal w
+
+-- what a collection is by the token after its parenthesis: rdf:nil, or the cell of its first item
+abbrev pub collection_term : Kind → ℕ → Term
+collection_term CloseParen n = Resource nil
+collection_term k n = Resource (Blank (Cell n))
+
+-- the object that is held, or that the token decides, in a mode
+abbrev pub due_term : {A : Type 0} → State A → Mode → Given → Option Term
+due_term r mode.After t = object_of r r.held
+due_term r mode.PropertyListStart t = object_of r r.held
+due_term r mode.AfterText t = plain_term (text_in r) t.kind
+due_term r mode.CollectionStart t = Some (collection_term t.kind t.offset)
+due_term r m t = None
+
+-- the quad of that object: at the place in hand, or at the one that a bracket stands for
+abbrev pub due_quad : Option term.Subject → M.Mode → Option Term → Option Quad
+due_quad g (M.AfterText w p) o = stated (Some g) (subject_at p) (verb_at p) o
+due_quad g (M.CollectionStart (M.At p)) o = stated (Some g) (subject_at p) (verb_at p) o
+due_quad g m o = object_quad g m o
+
+-- a predicate list
+abbrev pub IsListed : Container → Type 0
+IsListed (container.List a) = ⊤
+IsListed (container.Cells first cell) = ⊥
+
+-- an object has come and no collection has ended, or it is a string, of which the token decides
+abbrev pub HasCome : Mode → Held → Type 0
+HasCome mode.After (held.Nil cell) = ⊥
+HasCome mode.After h = ⊤
+HasCome mode.AfterText held.Nothing = ⊤
+HasCome m h = ⊥
+
+-- after an object of a predicate list, where no rdf:rest is owed
+abbrev pub IsAfterObject : {A : Type 0} → State A → Type 0
+IsAfterObject r = (r.rest ≡ None) × IsListed r.frame.container × HasCome r.mode r.held
 
 -- the quads that are held, and those with the one that waits to know the token
 abbrev pub held_quads : {A : Type 0} → DocForm → State A → List Quad

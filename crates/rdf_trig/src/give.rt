@@ -12,8 +12,8 @@ ghost use Rattle.rdf_trig.specs.declared.form.DocForm.{DocForm};
 ghost use Rattle.rdf_trig.specs.Machine as M;
 ghost use Rattle.rdf_trig.specs.Machine.{subject_at, verb_at, kept};
 ghost use Rattle.rdf_tokens.specs.declared.token.Token.{Token as Given};
-ghost use Rattle.rdf_trig.specs.States.{leaf, object_of, object_quad, IsSettled, place_of, up_of, mode_in, graph_in, setting, cells_quad, rest_of, held_of};
-ghost use Rattle.rdf_trig.specs.Steps.{GaveUp, given, up_quad, IsQuadAt, IsObjectQuad, IsWaitingQuad};
+ghost use Rattle.rdf_trig.specs.States.{object_of, IsSettled, mode_in, graph_of, graph_in, cells_quad, rest_of};
+ghost use Rattle.rdf_trig.specs.Steps.{GaveUp, given, IsQuadAt, last_of, due_term, due_quad, IsListed, IsAfterObject};
 
 use crate::fault::StepFault;
 use crate::rest::Rest;
@@ -42,14 +42,59 @@ pub fn give<A: Allocator, S: QuadSink>(
     if is_idle(state) {
         return Ok(0);
     }
+    if is_after_object(state) {
+        return give_listed(state, token, sink);
+    }
     give_all(state, token, sink)
+}
+
+// Whether the reader stands after an object of a predicate list, so that the object's quad is all that the token can
+// give out. Most quads are given out so.
+#[inline(always)]
+fn is_after_object<A: Allocator>(state: &State<A>) -> bool
+    ensures { result ≡ true → IsAfterObject state.now }
+{
+    match (state.mode, state.held, state.frame.container) {
+        (Mode::AfterText, Held::Nothing, Container::List(_)) => !state.rest.is_owed(),
+        (Mode::After, Held::Nil(_), _) => false,
+        (Mode::After, _, Container::List(_)) => !state.rest.is_owed(),
+        _ => false,
+    }
+}
+
+// Puts the quad of an object of a predicate list. One whose object is an IRI is made up apart, where LLVM knows what
+// it is.
+#[inline(always)]
+fn give_listed<A: Allocator, S: QuadSink>(
+    state: &State<A>,
+    token: &Token<'_>,
+    sink: &mut S,
+) -> Result<u64, StepFault>
+    requires after { IsAfterObject state.now }
+    requires live { S.has_failed sink.old ≡ false }
+    ensures ok { OnOk result ((form : DocForm) (s : InForce) → Appends S.takes sink.old (given form s state.now token.now) sink.new) }
+    ensures count { IfOk result (λ n. (form : DocForm) (s : InForce) → n ≡ length (given form s state.now token.now)) }
+    ensures live { OnOk result (S.has_failed sink.new ≡ false) }
+    ensures err { IfErr result (λ r. (form : DocForm) (s : InForce) →
+        GaveUp S.takes S.leaves S.has_failed r (given form s state.now token.now) sink.old sink.new) }
+{
+    if let Held::Resource = state.held {
+        if let SubjectRef::Iri(iri) = state.object.view() {
+            return put(Some(quad_listed(state, TermRef::Iri(iri))), sink);
+        }
+    }
+    match due_object(state, token) {
+        None => Ok(0),
+        Some(object) => put(Some(quad_listed(state, object)), sink),
+    }
 }
 
 /// Whether no quad is held, and none waits to know the token.
 #[inline(always)]
-#[tactic(auto, using(crate::proofs::code::PutsInRow::given_idle))]
 pub fn is_idle<A: Allocator>(state: &State<A>) -> bool
-    ensures { result ≡ true → (form : DocForm) (s : InForce) (t : Given) → given form s state.now t ≡ [] }
+    ensures given { result ≡ true → (form : DocForm) (s : InForce) (t : Given) → given form s state.now t ≡ [] }
+    ensures held { result ≡ true → state.now.held ≡ Held.Nothing }
+    ensures rest { result ≡ true → state.now.rest ≡ None }
 {
     match state.held {
         Held::Nothing => !state.rest.is_owed() && !waits(state.mode),
@@ -81,9 +126,9 @@ fn give_all<A: Allocator, S: QuadSink>(
 {
     let graph = graph(state);
     let rest = put(rest_quad(&state.rest, graph), sink)?;
-    let held = put(held_quad(state, graph), sink)?;
-    let waiting = put(waiting_quad(state, graph, token), sink)?;
-    Ok(rest + held + waiting)
+    let last = put(last_quad(state.held, graph), sink)?;
+    let due = put(due_quad(state, graph, token), sink)?;
+    Ok(rest + last + due)
 }
 
 // The graph of the quads.
@@ -115,37 +160,56 @@ fn rest_quad<'a>(rest: &Rest, graph: Option<SubjectRef<'a>>) -> Option<QuadRef<'
     }
 }
 
-// The quad whose head ended with the last token.
+// The last rdf:rest of a collection that ended with the last token.
 #[inline(always)]
-fn held_quad<'a, A: Allocator>(
-    state: &'a State<A>,
-    graph: Option<SubjectRef<'a>>,
-) -> Option<QuadRef<'a>>
-    ensures { (form : DocForm) → option_map quad_of result ≡ held_of (option_map (subject_by chars) graph.entry)
-        (mode_in form state.now) state.now state.now.held }
+fn last_quad<'a>(held: Held, graph: Option<SubjectRef<'a>>) -> Option<QuadRef<'a>>
+    ensures { option_map quad_of result ≡ last_of (option_map (subject_by chars) graph.entry) held }
 {
-    match state.held {
-        Held::Nothing => None,
+    match held {
         Held::Nil(cell) => Some(cells(cell, nil(), graph)),
-        _ => match object(state) {
-            Some(object) => object_quad(state, object, graph),
-            None => None,
-        },
+        _ => None,
     }
 }
 
-// The quad of an object that has come.
+// The quad of an object that has come, or that the token decides.
 #[inline(always)]
-fn object_quad<'a, A: Allocator>(
+fn due_quad<'a, A: Allocator>(
     state: &'a State<A>,
-    object: TermRef<'a>,
     graph: Option<SubjectRef<'a>>,
+    token: &Token<'_>,
 ) -> Option<QuadRef<'a>>
-    ensures { IsObjectQuad state.now (option_map (subject_by chars) graph.entry) (term_by chars object.entry) (option_map quad_of result) }
+    ensures { (form : DocForm) → option_map quad_of result ≡ due_quad (option_map (subject_by chars) graph.entry) (mode_in form state.now)
+        (due_term state.now state.now.mode token.now) }
+{
+    let object = match due_object(state, token) {
+        None => return None,
+        Some(object) => object,
+    };
+    let frame = match state.mode {
+        Mode::After | Mode::AfterText => &state.frame,
+        _ => match state.frames.last() {
+            None => return None,
+            Some(frame) => frame,
+        },
+    };
+    Some(quad_at(frame, object, graph))
+}
+
+// The object of that quad.
+#[inline(always)]
+fn due_object<'a, A: Allocator>(state: &'a State<A>, token: &Token<'_>) -> Option<TermRef<'a>>
+    ensures { option_map (term_by chars) result ≡ due_term state.now state.now.mode token.now }
 {
     match state.mode {
-        Mode::After => Some(quad_at(&state.frame, object, graph)),
-        Mode::PropertyListStart => quad_up(&state.frames, object, graph),
+        Mode::After | Mode::PropertyListStart => object(state),
+        Mode::AfterText => match token.kind {
+            Kind::LangTag | Kind::AtBase | Kind::AtPrefix | Kind::Carets => None,
+            _ => Some(plain(&state.text)),
+        },
+        Mode::CollectionStart => match token.kind {
+            Kind::CloseParen => Some(resource(nil())),
+            _ => Some(resource(cell_node(token.offset))),
+        },
         _ => None,
     }
 }
@@ -204,31 +268,6 @@ fn put<S: QuadSink>(quad: Option<QuadRef<'_>>, sink: &mut S) -> Result<u64, Step
     }
 }
 
-// The quad that waits to know the token.
-#[inline(always)]
-fn waiting_quad<'a, A: Allocator>(
-    state: &'a State<A>,
-    graph: Option<SubjectRef<'a>>,
-    token: &Token<'_>,
-) -> Option<QuadRef<'a>>
-    ensures { IsWaitingQuad state.now (option_map (subject_by chars) graph.entry) token.now (option_map quad_of result) }
-{
-    match state.mode {
-        Mode::AfterText => match token.kind {
-            Kind::LangTag | Kind::AtBase | Kind::AtPrefix | Kind::Carets => None,
-            _ => Some(quad_at(&state.frame, plain(&state.text), graph)),
-        },
-        Mode::CollectionStart => {
-            let first = match token.kind {
-                Kind::CloseParen => nil(),
-                _ => cell_node(token.offset),
-            };
-            quad_up(&state.frames, resource(first), graph)
-        }
-        _ => None,
-    }
-}
-
 fn plain<A: Allocator>(lexical: &String<A>) -> TermRef<'_>
     ensures { Some (term_by chars result) ≡ plain_literal (chars (string_bytes lexical.now)) }
 {
@@ -245,23 +284,6 @@ fn cell_node(offset: u64) -> SubjectRef<'static>
     ensures { subject_by chars result ≡ term.Blank (term.Cell offset) }
 {
     SubjectRef::Node(NodeRef::Cell(offset))
-}
-
-// The quad of what a bracket stands for, where that is an object.
-#[inline(always)]
-#[tactic(auto, using(crate::proofs::code::FrameStack::up_last))]
-fn quad_up<'a, A: Allocator>(
-    frames: &'a [Frame<A>],
-    object: TermRef<'a>,
-    graph: Option<SubjectRef<'a>>,
-) -> Option<QuadRef<'a>>
-    ensures { (v : M.Level) → option_map quad_of result ≡ up_quad (option_map (subject_by chars) graph.entry) (up_of v frames.now)
-        (term_by chars object.entry) }
-{
-    match frames.last() {
-        None => None,
-        Some(frame) => Some(quad_at(frame, object, graph)),
-    }
 }
 
 // The quad of an object at a place.
@@ -286,6 +308,24 @@ fn quad_at<'a, A: Allocator>(
             object,
             graph,
         },
+    }
+}
+
+// The same of a predicate list, in the graph of its statement.
+#[inline(always)]
+fn quad_listed<'a, A: Allocator>(state: &'a State<A>, object: TermRef<'a>) -> QuadRef<'a>
+    requires { IsListed state.now.frame.container }
+    ensures { IsQuadAt state.now.frame (graph_of state.now.level state.now.graph) (term_by chars object.entry) (Some (quad_of result)) }
+{
+    let graph = match state.level {
+        Level::Block(Block::Named) => Some(state.graph.view()),
+        _ => None,
+    };
+    QuadRef {
+        subject: state.frame.subject.view(),
+        predicate: state.frame.verb.view_or(Known::RdfType),
+        object,
+        graph,
     }
 }
 
