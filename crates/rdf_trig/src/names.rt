@@ -169,7 +169,8 @@ fn put_prefixed<A: Allocator + Copy>(
         let (prefix, local) = plain_parts(token.text, token.colon);
         return Ok(scope.expand_into(prefix, local, text)?);
     }
-    put_spelled(text, scope, token)
+    let token = *token;
+    put_spelled(text, scope, &token)
 }
 
 // The same of a name that may have escapes. It is called, so that what calls it stays small.
@@ -293,7 +294,11 @@ impl<A: Allocator + Copy> State<A> {
         ensures err { IfErr result (FindsNone self.old self.old.mode scope.old token.now) }
     {
         match self.mode {
-            Mode::Outer(outer) => self.look_up_outer(outer, scope, token),
+            Mode::Outer(outer) => {
+                // A copy is lent, so that LLVM keeps the token itself in registers. So too below.
+                let token = *token;
+                self.look_up_outer(outer, scope, &token)
+            }
             _ => self.look_up_name(scope, token),
         }
     }

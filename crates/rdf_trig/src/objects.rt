@@ -172,7 +172,7 @@ impl<A: Allocator + Copy> State<A> {
 
     // The reader stands after an IRI or a node, whose quad is held. The text is in no use, and emptied.
     #[inline(always)]
-    pub fn hold_object(&mut self, rest: Rest)
+    fn hold_object(&mut self, rest: Rest)
         ensures same { self.new ≡ record self.old { text = self.new.text; rest = rest; held = Held.Resource; mode = Mode.After } }
         ensures text { string_bytes self.new.text ≡ [] }
     {
@@ -182,7 +182,7 @@ impl<A: Allocator + Copy> State<A> {
 
     // The reader stands after an object, whose quad is held.
     #[inline(always)]
-    pub fn hold(&mut self, rest: Rest, held: Held)
+    fn hold(&mut self, rest: Rest, held: Held)
         ensures { self.new ≡ record self.old { rest = rest; held = held; mode = Mode.After } }
     {
         self.rest = rest;

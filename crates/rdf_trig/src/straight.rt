@@ -1,6 +1,6 @@
 // Names that go straight into the text that they are for.
 
-ghost use Rattle.std.specs.Prelude.{◌≡◌, [], true, OnOk, IfErr, IfSome};
+ghost use Rattle.std.specs.Prelude.{◌≡◌, [], true, None, OnOk, IfErr, IfSome};
 ghost use Rattle.rdf_iri.specs.Scope.{InForce};
 ghost use Rattle.rdf_tokens.specs.Scans.{KnowsItsColon};
 ghost use Rattle.rdf_tokens.specs.declared.token.Token.{Token as Given};
@@ -12,7 +12,6 @@ ghost use Rattle.rdf_trig.specs.Straight.{Fills, slot_turn};
 
 use crate::fault::StepFault;
 use crate::give::is_idle;
-use crate::rest::Rest;
 use crate::state::{Around, Container, Held, Level, Mode, State};
 use crate::turn::{ObjectStart, SubjectStart, Turn, Verb};
 use rdf_iri::Scope;
@@ -38,6 +37,8 @@ impl<A: Allocator + Copy> State<A> {
     pub fn slot(&self, turn: Turn, kind: Kind) -> Option<Slot>
         ensures turn { IfSome result (λ p. slot_turn p ≡ turn) }
         ensures kind { IfSome result (λ p. StandsForIri kind) }
+        ensures held { IfSome result (λ p. self.now.held ≡ Held.Nothing) }
+        ensures rest { IfSome result (λ p. self.now.rest ≡ None) }
         ensures idle { IfSome result (λ p. (form : DocForm) (s : InForce) (t : Given) → given form s self.now t ≡ []) }
     {
         if !stands_for_iri(kind) || !is_idle(self) {
@@ -52,9 +53,11 @@ impl<A: Allocator + Copy> State<A> {
         }
     }
 
-    /// Takes a token whose IRI goes there.
+    /// Takes a token whose IRI goes there. Nothing is held, and no rdf:rest is owed, so that these stay.
     #[inline(always)]
     pub fn fill(&mut self, slot: Slot, scope: &Scope<A>, token: &Token<'_>) -> Result<(), StepFault>
+        requires held { self.old.held ≡ Held.Nothing }
+        requires rest { self.old.rest ≡ None }
         requires token { IsTurtleToken token.now }
         requires kind { StandsForIri token.now.kind }
         requires colon { KnowsItsColon token.now }
@@ -65,21 +68,24 @@ impl<A: Allocator + Copy> State<A> {
             Slot::Subject(level) => {
                 self.begin(level);
                 self.frame.subject.set_name(self.alloc, scope, token)?;
-                self.stand(Mode::AfterSubject);
+                self.mode = Mode::AfterSubject;
             }
             Slot::Verb(around) => {
                 self.frame.verb.set(self.alloc, scope, token)?;
                 self.frame.container = Container::List(around);
-                self.stand(Mode::Want);
+                self.mode = Mode::Want;
             }
             Slot::Object => {
                 self.object.set_name(self.alloc, scope, token)?;
-                self.hold_object(Rest::none());
+                self.text.clear();
+                self.held = Held::Resource;
+                self.mode = Mode::After;
             }
             Slot::Datatype => {
                 self.tag.clear();
                 self.datatype.set(self.alloc, scope, token)?;
-                self.hold(Rest::none(), Held::WithType);
+                self.held = Held::WithType;
+                self.mode = Mode::After;
             }
         }
         Ok(())

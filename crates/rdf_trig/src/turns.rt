@@ -25,10 +25,20 @@ impl<A: Allocator + Copy> State<A> {
     {
         match turn {
             Turn::Lead(outer) => self.lead(outer),
-            Turn::Prefix(spelling) => self.take_prefix(spelling, token)?,
+            Turn::Prefix(spelling) => {
+                // A copy is lent, so that LLVM keeps the token itself in registers. So too below.
+                let token = *token;
+                self.take_prefix(spelling, &token)?
+            }
             Turn::GraphName => self.graph_name(),
-            Turn::GraphLabel => self.graph_label(token)?,
-            Turn::GraphBracket => self.take_bracket(token),
+            Turn::GraphLabel => {
+                let token = *token;
+                self.graph_label(&token)?
+            }
+            Turn::GraphBracket => {
+                let token = *token;
+                self.take_bracket(&token)
+            }
             Turn::GraphNode => self.graph_node(),
             Turn::SubjectBlock => self.subject_block(),
             Turn::Subject(level, start) => self.subject(level, start, token)?,
