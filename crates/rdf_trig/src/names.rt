@@ -281,7 +281,8 @@ fn bind<A: Allocator + Copy>(
 }
 
 impl<A: Allocator + Copy> State<A> {
-    /// Looks up what a token stands for: the state's name is its IRI. In a directive the scope changes, and there is no name.
+    /// Looks up what a token stands for: the state's name is its IRI. In a directive the scope changes, and there is no
+    /// name.
     #[inline(always)]
     pub fn look_up(&mut self, scope: &mut Scope<A>, token: &Token<'_>) -> Result<(), StepFault>
         requires none { self.old.name ≡ None }

@@ -26,13 +26,15 @@ pub enum Slot {
     Subject(Level),
     /// The verb of a predicate list.
     Verb(Around),
+    /// An object, after a verb or a comma.
     Object,
+    /// The datatype of a string.
     Datatype,
 }
 
 impl<A: Allocator + Copy> State<A> {
-    /// Where the IRI of the token goes, if no quad is given out before. Elsewhere what is held has to stay until the quads are put, so that it goes
-    /// into a text of its own first.
+    /// Where the IRI of the token goes, if no quad is given out before. Elsewhere what is held has to stay until the
+    /// quads are put, so that the IRI goes into a text of its own first (`State::look_up`).
     #[inline(always)]
     pub fn slot(&self, turn: Turn, kind: Kind) -> Option<Slot>
         ensures turn { IfSome result (λ p. slot_turn p ≡ turn) }
@@ -53,7 +55,8 @@ impl<A: Allocator + Copy> State<A> {
         }
     }
 
-    /// Takes a token whose IRI goes there. Nothing is held, and no rdf:rest is owed, so that these stay.
+    /// Takes a token whose IRI goes there. Nothing is held, and no rdf:rest is owed, so that these stay as they are.
+    /// After an error nothing is known of the state.
     #[inline(always)]
     pub fn fill(&mut self, slot: Slot, scope: &Scope<A>, token: &Token<'_>) -> Result<(), StepFault>
         requires held { self.old.held ≡ Held.Nothing }
