@@ -1,14 +1,13 @@
 // What references and names stand for, and what directives do to the scope.
 
-ghost use Rattle.std.specs.Prelude.{◌≡◌, ◌≢◌, ◌≤◌, ◌*◌, ℕ, List, true, Some, None, IfOk, IfErr, OnOk, length, is_some, unwrap_or};
+ghost use Rattle.std.specs.Prelude.{◌≡◌, ◌≤◌, ◌*◌, ℕ, List, true, Some, None, IfOk, IfErr, OnOk, length, is_some, unwrap_or};
 ghost use Rattle.std.specs.Str.{chars};
 ghost use Rattle.std.specs.String.{string_bytes};
 ghost use Rattle.rdf_terms.specs.Terms.{IsIri};
-ghost use Rattle.rdf_terms.specs.Local.{without_backslashes};
 ghost use Rattle.rdf_terms.specs.Views.{iri_chars};
 ghost use Rattle.rdf_terms.specs.Known.{known_chars};
 ghost use Rattle.rdf_iri.specs.Texts.{IsIriText, byte_len};
-ghost use Rattle.rdf_iri.specs.Scope.{ExpandsHere, NotExpanded, ResolvesHere};
+ghost use Rattle.rdf_iri.specs.Scope.{ResolvesHere};
 ghost use Rattle.rdf_tokens.specs.Leaves.{iri_of};
 ghost use Rattle.rdf_tokens.specs.Scans.{KnowsItsColon};
 ghost use Rattle.rdf_trig.specs.Machine as M;
@@ -22,7 +21,7 @@ use crate::fault::StepFault;
 use crate::plain::{lacks_escapes, lacks_iri_escapes};
 use crate::spelled::{parts, plain_parts};
 use crate::state::{Mode, Outer, State};
-use rdf_iri::{IriFault, Scope};
+use rdf_iri::Scope;
 use rdf_terms::{IriView, Kind, Known, TextBuffer, known, put_iri, without_ends};
 use rdf_tokens::Token;
 use std::alloc::{Allocator, Global};
@@ -169,6 +168,7 @@ fn put_prefixed<A: Allocator + Copy>(
         let (prefix, local) = plain_parts(token.text, token.colon);
         return Ok(scope.expand_into(prefix, local, text)?);
     }
+    // A copy is lent, so that LLVM keeps the token itself in registers.
     let token = *token;
     put_spelled(text, scope, &token)
 }
@@ -296,7 +296,7 @@ impl<A: Allocator + Copy> State<A> {
     {
         match self.mode {
             Mode::Outer(outer) => {
-                // A copy is lent, so that LLVM keeps the token itself in registers. So too below.
+                // A copy is lent, so that LLVM keeps the token itself in registers.
                 let token = *token;
                 self.look_up_outer(outer, scope, &token)
             }
