@@ -7,7 +7,7 @@ use rdf_terms::Reason;
 use rdf_tokens::{Blanks, Dialect, Kind, Peeked, RunClass, Scanner, plain_run};
 use std::alloc::{AllocError, Global};
 
-// What a call answers: the kind, the offset, the line and the number of bytes of a token; of a plain name the place of its colon too.
+// What a call answers: the kind, the offset, the line and the number of bytes of a token; of a plain name the place after its colon too.
 #[derive(Clone, Copy, PartialEq, Eq)]
 enum Answer {
     Started,
@@ -123,7 +123,7 @@ fn take(alloc: Global, scanner: &mut Scanner, step: Step) -> Answer {
 }
 
 /// What is done with a scanner, and what it answers.
-static STEPS: [(Step, Answer); 274] = [
+static STEPS: [(Step, Answer); 292] = [
     // The longer look sees less frequent tokens too, and those at the end of the text, but none behind more than a space.
     (Step::Start(Dialect::Turtle, 64), Answer::Started),
     (
@@ -131,17 +131,41 @@ static STEPS: [(Step, Answer); 274] = [
         Answer::Took(38),
     ),
     (Step::Next, Answer::Token(Kind::Semicolon, 0, 1, 1)),
-    (Step::See, Answer::Unseen),
     (Step::SeeFar, Answer::Token(Kind::PnameLn, 2, 1, 5)),
     (Step::SeeFar, Answer::Token(Kind::PnameLn, 8, 1, 4)),
     (Step::SeeFar, Answer::Token(Kind::True, 13, 1, 4)),
     (Step::SeeFar, Answer::Token(Kind::Integer, 18, 1, 2)),
+    (Step::See, Answer::Unseen),
     (Step::SeeFar, Answer::Token(Kind::ShortString, 21, 1, 3)),
     (Step::SeeFar, Answer::Token(Kind::PnameLn, 25, 1, 6)),
     (Step::SeeFar, Answer::Token(Kind::PnameLn, 32, 1, 3)),
     (Step::SeeFar, Answer::Unseen),
     (Step::PassBlanks, Answer::Passed),
     (Step::SeeFar, Answer::Token(Kind::Semicolon, 37, 2, 1)),
+    // Of names without an escape the place after the colon is known. Words and signed numbers are seen too.
+    (Step::Start(Dialect::Turtle, 64), Answer::Started),
+    (Step::Push(b"; :a.b :\xD1\x8F :a\\,b ;"), Answer::Took(18)),
+    (Step::Next, Answer::Token(Kind::Semicolon, 0, 1, 1)),
+    (Step::See, Answer::PlainName(2, 1, 4, 1)),
+    (Step::See, Answer::PlainName(7, 1, 3, 1)),
+    (Step::See, Answer::Token(Kind::PnameLn, 11, 1, 5)),
+    (Step::See, Answer::Unseen),
+    (Step::SeeFar, Answer::Token(Kind::Semicolon, 17, 1, 1)),
+    (Step::Start(Dialect::Turtle, 64), Answer::Started),
+    (
+        Step::Push(b"; x:a.b x:\xD1\x8F x:a\\,b true false -1 +1.5 -1e3 ;"),
+        Answer::Took(45),
+    ),
+    (Step::Next, Answer::Token(Kind::Semicolon, 0, 1, 1)),
+    (Step::See, Answer::PlainName(2, 1, 5, 2)),
+    (Step::See, Answer::PlainName(8, 1, 4, 2)),
+    (Step::See, Answer::Token(Kind::PnameLn, 13, 1, 6)),
+    (Step::See, Answer::Token(Kind::True, 20, 1, 4)),
+    (Step::See, Answer::Token(Kind::False, 25, 1, 5)),
+    (Step::See, Answer::Token(Kind::Integer, 31, 1, 2)),
+    (Step::See, Answer::Token(Kind::Decimal, 34, 1, 4)),
+    (Step::See, Answer::Token(Kind::Double, 39, 1, 4)),
+    (Step::Next, Answer::Token(Kind::Semicolon, 44, 1, 1)),
     // Frequent tokens are seen before they are taken, but for the first of a document.
     (Step::Start(Dialect::Turtle, 64), Answer::Started),
     (
@@ -150,9 +174,9 @@ static STEPS: [(Step, Answer); 274] = [
     ),
     (Step::See, Answer::Unseen),
     (Step::Next, Answer::Token(Kind::Semicolon, 0, 1, 1)),
-    (Step::See, Answer::PlainName(2, 1, 3, 1)),
+    (Step::See, Answer::PlainName(2, 1, 3, 2)),
     (Step::See, Answer::Token(Kind::A, 6, 1, 1)),
-    (Step::See, Answer::PlainName(8, 1, 7, 3)),
+    (Step::See, Answer::PlainName(8, 1, 7, 4)),
     (Step::See, Answer::Token(Kind::Comma, 16, 1, 1)),
     (Step::See, Answer::Token(Kind::LabelNode, 18, 1, 3)),
     (Step::See, Answer::Token(Kind::OpenBracket, 22, 1, 1)),
@@ -194,12 +218,12 @@ static STEPS: [(Step, Answer); 274] = [
     (Step::See, Answer::Token(Kind::Decimal, 6, 1, 3)),
     (Step::See, Answer::Token(Kind::OpenBrace, 10, 1, 1)),
     (Step::See, Answer::Token(Kind::CloseBrace, 12, 1, 1)),
-    (Step::See, Answer::Token(Kind::PnameLn, 14, 1, 2)),
-    (Step::See, Answer::Token(Kind::PnameNs, 17, 1, 1)),
+    (Step::See, Answer::PlainName(14, 1, 2, 1)),
+    (Step::See, Answer::PlainName(17, 1, 1, 1)),
     (Step::See, Answer::Token(Kind::Dot, 19, 1, 1)),
     (Step::See, Answer::Unseen),
     (Step::PassBlanks, Answer::Passed),
-    (Step::See, Answer::PlainName(29, 3, 3, 1)),
+    (Step::See, Answer::PlainName(29, 3, 3, 2)),
     (Step::PassBlanks, Answer::Stayed),
     (Step::See, Answer::Unseen),
     (Step::PassBlanks, Answer::Stayed),
@@ -225,13 +249,11 @@ static STEPS: [(Step, Answer); 274] = [
     (Step::Next, Answer::Token(Kind::Semicolon, 0, 1, 1)),
     (Step::See, Answer::Token(Kind::ShortString, 2, 1, 6)),
     (Step::See, Answer::Token(Kind::Carets, 8, 1, 2)),
-    (Step::See, Answer::PlainName(10, 1, 3, 1)),
+    (Step::See, Answer::PlainName(10, 1, 3, 2)),
     (Step::See, Answer::Token(Kind::LongString, 14, 1, 9)),
-    (Step::See, Answer::Unseen),
-    (Step::Next, Answer::Token(Kind::PnameLn, 24, 1, 18)),
+    (Step::See, Answer::Token(Kind::PnameLn, 24, 1, 18)),
     (Step::See, Answer::Token(Kind::Comma, 42, 1, 1)),
-    (Step::See, Answer::Unseen),
-    (Step::Next, Answer::Token(Kind::PnameLn, 44, 1, 14)),
+    (Step::See, Answer::PlainName(44, 1, 14, 2)),
     (Step::See, Answer::Unseen),
     (Step::Next, Answer::Token(Kind::PnameLn, 59, 1, 3)),
     (Step::Next, Answer::Fault(Reason::NoToken, 62)),

@@ -1,12 +1,14 @@
 -- A token that is seen before it is taken: the white space before it, and that it is the next step.
-use Rattle.std.proofs.Common.{◌≡◌, ℕ, zero, suc, ◌+◌, ◌≤◌, ◌==◌, Bool, true, false, cond, not, nat_lt, List, [], ◌∷◌, ◌++◌, ◌<◌, refl, sym, ap, ◌∙◌, subst, length, length-append, length-drop, get_or, take, drop, count_by, arith, Option, Some, None, IsUtf8}
+use Rattle.std.proofs.Common.{◌≡◌, ℕ, zero, suc, ◌+◌, ◌-◌, ◌≤◌, ◌==◌, Bool, true, false, cond, not, nat_lt, List, [], ◌∷◌, ◌++◌, ◌<◌, refl, sym, ap, ◌∙◌, subst, length, length-append, length-drop, get_or, take, drop, count_by, arith, Option, Some, None, IsUtf8, ⊎_elim}
 use Rattle.std.specs.Prelude.{◌&&◌, IfSome, encode_utf8_all}
 use Rattle.std.specs.Str.{chars, IsCharBoundary}
-use Rattle.std.proofs.lemmas.Bool.{and_parts, eqb-true, ltb-true, or_left, true≢false}
-use Rattle.std.proofs.lemmas.List.{append-nil, get_or-take, length-take-le, take-append-drop}
+use Rattle.std.proofs.lemmas.Bool.{and_parts, cases_Bool, eqb-true, ltb-true, or_left, true≢false}
+use Rattle.std.proofs.lemmas.List.{append-nil, drop-take, get_or-take, length-take-le, take-append-drop}
 use Rattle.std.proofs.lemmas.Str.{encodes-append, encodes-chars, IsCharBoundary-after_ascii, IsCharBoundary-start}
 use Rattle.rdf_terms.specs.Classes.{is_letter, is_turtle}
-use Rattle.rdf_terms.specs.Runs.{IsRun, is_name_byte}
+use Rattle.rdf_terms.specs.Runs.{IsRun, PassBetween, is_name_byte, is_unescaped}
+use Rattle.rdf_terms.specs.Terms.{all_have}
+use Rattle.rdf_terms.proofs.EscapesLemmas.{slice_passes}
 use Rattle.rdf_terms.specs.declared.kind.Dialect.{Dialect}
 use Rattle.rdf_terms.specs.declared.kind.Dialect.TheVariants.{Lines, Turtle}
 use Rattle.rdf_tokens.specs.Blank.{comment_after}
@@ -46,28 +48,42 @@ local_is bs from end e =
     let l = ltb-true from end q.0 in
     record { ends = p.0; some = λ z. omega (arith, z, l); no_hyphen = λ z. let h : not (get_or bs from 0 == 45) ≡ false = ap (λ b. not (b == 45)) z in absurd (true≢false (sym q.1 ∙ h)) }
 
--- of a plain name its colon may be said
-knows : (bs : List ℕ) (n : ℕ) → IsPlainName bs n → KnowsColon bs n
-knows bs zero p = tt
-knows bs (suc n) p = p
+-- a byte of names is no backslash
+unescaped_byte : (b : ℕ) → is_name_byte b ≡ true → is_unescaped b ≡ true
+unescaped_byte b h = ⊎_elim (λ t. absurd (true≢false (sym h ∙ ap is_name_byte (eqb-true b 92 t)))) (λ f. ap not f) (cases_Bool (b == 92))
 
--- a name of a letter, a run, a colon and a run up to its end is plain
-pub plain_name : (bs : List ℕ) (colon end : ℕ) → is_letter (get_or bs 0 0) ≡ true → IsRun is_name_byte bs 1 colon → is_colon bs colon ≡ true →
-    IsRun is_name_byte bs (colon + 1) end → KnowsColon (take end bs) colon
-plain_name bs colon end letter first is second =
-    let some = first.from in
-    let past = second.from in
-    let n : length (take end bs) ≡ end = length-take-le end bs second.within in
-    knows (take end bs) colon (record {
-      within = omega (arith, n);
-      is = get_or-take end bs colon 0 (omega arith) ∙ eqb-true _ 58 (and_parts (nat_lt colon (length bs)) _ is).1;
-      before = λ k from to. ap is_name_byte (get_or-take end bs k 0 (omega arith)) ∙ front k to;
-      after = λ k from to. ap is_name_byte (get_or-take end bs k 0 (omega (arith, n))) ∙ second.pass k from (omega (arith, n));
+-- the place after the colon of a plain name may be told
+knows : (bs : List ℕ) (n m : ℕ) → m ≡ n + 1 → IsPlainName bs n → KnowsColon bs m
+knows bs n zero e p = absurd (omega (arith, e))
+knows bs n (suc m) e p = let same : n ≡ m = omega (arith, e) in subst (IsPlainName bs) same p
+
+-- a letter and a run of such bytes are a prefix
+pub prefix_bytes : (bs : List ℕ) (colon : ℕ) → is_letter (get_or bs 0 0) ≡ true → IsRun is_name_byte bs 1 colon → PassBetween is_name_byte bs 0 colon
+prefix_bytes bs colon letter run zero from to = or_left _ _ (or_left _ _ (or_left _ _ letter))
+prefix_bytes bs colon letter run (suc k) from to = run.pass (suc k) (omega arith) to
+
+-- a name of so many bytes is plain if its prefix is, and no backslash comes after its colon
+pub known_past : (bs : List ℕ) (colon len : ℕ) → colon < len → len ≤ length bs → is_colon bs colon ≡ true → PassBetween is_name_byte bs 0 colon →
+    all_have is_unescaped (take (len - (colon + 1)) (drop (colon + 1) bs)) ≡ true → KnowsColon (take len bs) (colon + 1)
+known_past bs colon len l w is before after =
+    let n : length (take len bs) ≡ len = length-take-le len bs w in
+    let m : len ≡ colon + 1 + (len - (colon + 1)) = omega (arith, l) in
+    knows (take len bs) colon (colon + 1) refl (record {
+      within = omega (arith, n, l);
+      is = get_or-take len bs colon 0 l ∙ eqb-true _ 58 (and_parts (nat_lt colon (length bs)) _ is).1;
+      before = λ k from to. ap is_name_byte (get_or-take len bs k 0 (omega (arith, l, to))) ∙ before k from to;
+      after = ap (all_have is_unescaped) (ap (λ k. drop (colon + 1) (take k bs)) m ∙ drop-take (colon + 1) (len - (colon + 1)) bs) ∙ after;
     })
-  where
-    front : (k : ℕ) → k < colon → is_name_byte (get_or bs k 0) ≡ true
-    front zero to = or_left _ _ (or_left _ _ (or_left _ _ letter))
-    front (suc k) to = first.pass (suc k) (omega arith) to
+
+-- so is a name whose local part is a run, which may be empty
+pub run_past : (bs : List ℕ) (colon end : ℕ) → PassBetween is_name_byte bs 0 colon → is_colon bs colon ≡ true → IsRun is_name_byte bs (colon + 1) end →
+    KnowsColon (take end bs) (colon + 1)
+run_past bs colon end before is run =
+    let from = run.from in
+    let within = run.within in
+    let n : colon + 1 + (end - (colon + 1)) ≡ end = omega (arith, from) in
+    known_past bs colon end (omega (arith, from)) within is before
+    (slice_passes is_unescaped bs (colon + 1) (end - (colon + 1)) (omega (arith, n, within)) (λ k a b. unescaped_byte _ (run.pass k a (omega (arith, n, b)))))
 
 -- there is no white space before such a byte, and no comment
 bare_front : (bs : List ℕ) → IsBare bs → (blank Turtle false bs ≡ 0) × (comment_after Turtle false bs ≡ false)

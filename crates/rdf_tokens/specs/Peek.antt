@@ -2,6 +2,8 @@
 use Rattle.std.specs.Prelude.{◌≡◌, ◌<◌, ◌≤◌, ◌==◌, ◌&&◌, ℕ, Bool, true, false, cond, not, nat_lt, List, length, get_or, take, drop, count_by, encode_utf8_all, Option, Some, None}
 use Rattle.rdf_terms.specs.Classes.{is_turtle}
 use Rattle.rdf_terms.specs.declared.kind.Dialect.TheVariants.{Turtle}
+use Rattle.rdf_terms.specs.declared.kind.Kind.{Kind}
+use Rattle.rdf_terms.specs.declared.kind.Kind.TheVariants.{Decimal, Double, Integer, PnameLn, PnameNs}
 use Rattle.rdf_tokens.specs.Blank.{comment_step, comment_after}
 use Rattle.rdf_tokens.specs.Front.{bytes_of}
 use Rattle.rdf_tokens.specs.Look.{IsLook}
@@ -11,7 +13,11 @@ use Rattle.rdf_tokens.specs.Scans.{GivesToken, KnowsItsColon, KnowsColon, is_end
 use Rattle.rdf_tokens.specs.Tokens.{Tail, blank, rest_of, step}
 use Rattle.rdf_tokens.specs.Unread.{Unread}
 use Rattle.rdf_tokens.specs.declared.look.Look.TheVariants.{Token as IsAt}
+use Rattle.rdf_tokens.specs.declared.peek.FarName.{FarName}
+use Rattle.rdf_tokens.specs.declared.peek.FarName.TheVariants as far
 use Rattle.rdf_tokens.specs.declared.peek.Peeked.{Peeked}
+use Rattle.rdf_tokens.specs.declared.peek.Signed.{Signed}
+use Rattle.rdf_tokens.specs.declared.peek.Signed.TheVariants as signed
 use Rattle.rdf_tokens.specs.declared.token.Token.{Token as Given}
 
 -- the length of the space that comes first
@@ -21,6 +27,23 @@ one_space bs = cond (stands_at 32 bs 0) 1 0
 -- something stands between two places that does not begin with '-', and after it a byte with which no name goes on
 abbrev pub is_local : List ℕ → ℕ → ℕ → Bool
 is_local bs from end = is_name_end bs end && (nat_lt from end && not (get_or bs from 0 == 45))
+
+-- the kind of a name with an empty prefix, by its length
+abbrev pub local_kind : ℕ → Kind
+local_kind n = cond (n == 1) PnameNs PnameLn
+
+-- what is told of a name is so, whose local part begins at this place
+abbrev pub IsFarName : List ℕ → ℕ → FarName → Type 0
+IsFarName bs past far.Unknown = Unit {0}
+IsFarName bs past (far.Plain n) = IsToken Turtle bs n PnameLn × KnowsColon (take n bs) past
+IsFarName bs past (far.Escaped n) = IsToken Turtle bs n PnameLn
+
+-- what is told of a number with a sign is so
+abbrev pub IsSigned : List ℕ → Signed → Type 0
+IsSigned bs signed.Unknown = Unit {0}
+IsSigned bs (signed.Integer n) = IsToken Turtle bs n Integer
+IsSigned bs (signed.Decimal n) = IsToken Turtle bs n Decimal
+IsSigned bs (signed.Double n) = IsToken Turtle bs n Double
 
 -- The text begins with this token, seen after so many bytes of white space.
 abbrev pub Sees : List ℕ → ℕ → Option Peeked → Type 0

@@ -5,7 +5,7 @@ use Rattle.std.specs.Str.{chars}
 use Rattle.rdf_terms.specs.declared.kind.Dialect.{Dialect}
 use Rattle.rdf_terms.specs.declared.kind.Dialect.TheVariants.{Lines, Turtle}
 use Rattle.rdf_terms.specs.declared.kind.Kind.{Kind}
-use Rattle.rdf_terms.specs.declared.kind.Kind.TheVariants.{Dot, LineEnd, Semicolon, Comma, OpenBracket, CloseBracket, OpenParen, CloseParen, OpenBrace, CloseBrace}
+use Rattle.rdf_terms.specs.declared.kind.Kind.TheVariants.{Dot, LineEnd, Semicolon, Comma, OpenBracket, CloseBracket, OpenParen, CloseParen, OpenBrace, CloseBrace, True, False}
 use Rattle.rdf_terms.specs.Classes.{is_digit, is_letter, is_turtle, one_of}
 use Rattle.rdf_terms.specs.declared.runs.Run.{Run}
 use Rattle.rdf_terms.specs.declared.runs.Run.TheVariants.{QuoteText, SingleQuoteText, LongQuoteText, LongSingleQuoteText}
@@ -89,6 +89,10 @@ is_a bs end = (end == 1) && ((get_or bs 0 0 == 97) && is_name_end bs end)
 -- another word, likewise
 abbrev pub is_word : List ℕ → List ℕ → ℕ → Bool
 is_word w bs end = (end == length w) && (starts_with ◌==◌ bs w && is_name_end bs end)
+
+-- the kind of the word `true` or `false`, by its length
+abbrev pub word_kind : ℕ → Kind
+word_kind n = cond (n == 4) True False
 
 -- a dot of Turtle before a byte of ASCII that is no digit, with which no number begins
 abbrev pub is_dot : Dialect → List ℕ → Bool

@@ -1,12 +1,13 @@
 -- What a scanner has read, and what its calls give.
-use Rattle.std.specs.Prelude.{◌≡◌, ◌≢◌, ℕ, zero, suc, ◌<◌, ◌≤◌, ◌+◌, ◌-◌, ◌*◌, ◌/◌, min, max, Bool, true, false, cond, List, [], ◌∷◌, ◌++◌, ◌⊎◌, length, take, get_or, encode_utf8_all, ⊤, Option, Some, None, Result, Ok, Err}
+use Rattle.std.specs.Prelude.{◌≡◌, ◌≢◌, ℕ, zero, suc, ◌<◌, ◌≤◌, ◌+◌, ◌-◌, ◌*◌, ◌/◌, min, max, Bool, true, false, cond, List, [], ◌∷◌, ◌++◌, ◌⊎◌, length, take, drop, get_or, encode_utf8_all, ⊤, Option, Some, None, Result, Ok, Err}
 use Rattle.std.specs.Str.{chars}
 use Rattle.rdf_terms.specs.declared.kind.Dialect.{Dialect}
 use Rattle.rdf_terms.specs.declared.kind.Kind.TheVariants.{End}
 use Rattle.rdf_terms.specs.declared.reason.Reason.{Reason}
 use Rattle.rdf_terms.specs.declared.reason.Reason.TheVariants.{BadUtf8, NoToken, BadEscape, TokenTooLong, DocumentTooLong, Memory, Ended}
-use Rattle.rdf_terms.specs.Runs.{PassBetween, is_name_byte}
+use Rattle.rdf_terms.specs.Runs.{PassBetween, is_name_byte, is_unescaped}
 use Rattle.rdf_terms.specs.Shapes.{Shape}
+use Rattle.rdf_terms.specs.Terms.{all_have}
 use Rattle.rdf_terms.specs.Values.{is_fit}
 use Rattle.rdf_tokens.specs.declared.token.Token.{Token as Given}
 use Rattle.rdf_tokens.specs.declared.token.Fault.{Fault}
@@ -42,17 +43,17 @@ pub record HasScanned (v : Unread) (bytes : List ℕ) (ts : List Token) : Type 0
 abbrev pub token_of : Given → Token
 token_of t = record { kind = t.kind; text = chars t.text.now; at = record { offset = t.offset; line = t.line } }
 
--- a name of ASCII letters, digits, '_' and '-' alone, but for one colon, which stands at this place
+-- a name without a backslash, whose first colon stands at this place, after ASCII letters, digits, '_' and '-' or after nothing
 pub record IsPlainName (bs : List ℕ) (colon : ℕ) : Type 0 where
   pub within : colon < length bs
   pub is : get_or bs colon 0 ≡ 58
   pub before : PassBetween is_name_byte bs 0 colon
-  pub after : PassBetween is_name_byte bs (colon + 1) (length bs)
+  pub after : all_have is_unescaped (drop (colon + 1) bs) ≡ true
 
--- what the colon of a token says of its bytes; 0 says nothing
+-- what the place after a token's colon says of its bytes; 0 says nothing
 abbrev pub KnowsColon : List ℕ → ℕ → Type 0
 KnowsColon bs zero = ⊤
-KnowsColon bs (suc n) = IsPlainName bs (suc n)
+KnowsColon bs (suc n) = IsPlainName bs n
 
 -- it is so of the colon that comes with a token
 abbrev pub KnowsItsColon : Given → Type 0

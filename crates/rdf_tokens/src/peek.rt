@@ -1,27 +1,52 @@
 // The next token, seen before it is taken.
 
-ghost use Rattle.std.specs.Prelude.{◌≡◌, ℕ, ◌<◌, List, true, length, get_or, Some, IfSome};
+ghost use Rattle.std.specs.Prelude.{◌≡◌, ℕ, ◌<◌, ◌+◌, List, true, length, get_or, take, Some, IfSome};
 ghost use Rattle.rdf_terms.specs.Classes.{is_digit, is_letter};
 ghost use Rattle.rdf_terms.specs.declared.kind.Dialect.TheVariants.{Turtle};
-ghost use Rattle.rdf_tokens.specs.Peek.{IsBare, IsSeen, Sees, is_local, one_space};
+ghost use Rattle.rdf_terms.specs.Runs.{IsRun, PassBetween, is_name_byte};
+ghost use Rattle.rdf_tokens.specs.Peek.{IsBare, IsFarName, IsSeen, IsSigned, Sees, is_local, local_kind, one_space};
+ghost use Rattle.rdf_tokens.specs.Scans.{KnowsColon};
 ghost use Rattle.rdf_terms.specs.declared.kind.Kind.TheVariants.{Carets, Decimal, Integer, IriRef, LabelNode, LangTag, LongString, PnameLn, PnameNs, ShortString};
-ghost use Rattle.rdf_tokens.specs.Quick.{IsToken, begins_iri, is_colon, opens_with, single};
+ghost use Rattle.rdf_tokens.specs.Quick.{IsQuick, IsToken, begins_iri, is_colon, opens_with, single, word_kind};
 ghost use Rattle.rdf_tokens.specs.declared.states.text.Quote.TheVariants.{Double};
 
 use crate::blank::is_bare;
 use crate::front::NoNames;
 use crate::quick::{
-    ByPeekFar, are_carets, begins_label, begins_tag, digits_end, is_a, is_colon, is_decimal_end,
-    is_dot, is_integer_end, is_name_end, is_point, is_sought, quick_front, quick_long, quick_named,
-    quick_tag, stands_at,
+    ByPeekFar, Quick, are_carets, begins_label, begins_signed, begins_tag, digits_end, is_a,
+    is_colon, is_decimal_end, is_dot, is_integer_end, is_name_end, is_point, is_sought,
+    quick_front, quick_local, quick_long, quick_name, quick_named, quick_number, quick_tag,
+    stands_at, word_at,
 };
 use crate::states::text::Quote;
 use crate::strings::quoted_len;
-use rdf_terms::runs::{Run, run_end, two_run_ends};
+use rdf_terms::runs::{Run, is_run, run_end, two_run_ends};
 use rdf_terms::{Dialect, Kind};
 
 /// A bit for each of `,`, `.`, `;` and `{`, at the number that its last six bits are.
 const MARKS: u64 = 1 << 44 | 1 << 46 | 1 << 59;
+
+/// What is told of a name whose local part goes on after its run of letters, digits, `_` and `-`. It goes back in registers.
+#[derive(Clone, Copy)]
+enum FarName {
+    /// Nothing.
+    Unknown,
+    /// Its length, and that it has no escape.
+    Plain(usize),
+    /// Its length.
+    Escaped(usize),
+}
+
+/// What is told of a number with a sign. It goes back in registers.
+#[derive(Clone, Copy)]
+enum Signed {
+    /// Nothing.
+    Unknown,
+    /// Its length, of each kind.
+    Integer(usize),
+    Decimal(usize),
+    Double(usize),
+}
 
 /// A token that stands next: seen, and not yet taken.
 #[derive(Clone, Copy, Debug)]
@@ -32,7 +57,7 @@ pub struct Peeked {
     pub(crate) blank: usize,
     // How many bytes it has.
     pub(crate) len: usize,
-    // The colon, as the token has it.
+    // The place after its colon, as the token has it.
     pub(crate) colon: usize,
 }
 
@@ -64,7 +89,20 @@ fn seen_quick(blank: usize, text: &str, no_names: &Option<NoNames>) -> Option<Pe
     if !is_bare(text.as_bytes(), 0) {
         return None;
     }
-    let quick = quick_front::<ByPeekFar>(Dialect::Turtle, text, no_names);
+    if is_sought(Dialect::Turtle, text.as_bytes(), no_names) {
+        return seen_told(blank, quick_name(text));
+    }
+    seen_told(
+        blank,
+        quick_front::<ByPeekFar>(Dialect::Turtle, text, no_names),
+    )
+}
+
+/// The token that is told.
+#[inline(always)]
+fn seen_told(blank: usize, quick: Quick) -> Option<Peeked>
+    ensures { (bs : List ℕ) → IsQuick Turtle bs quick.len quick.kind → Sees bs blank result }
+{
     match quick.kind {
         Some(kind) => Some(Peeked {
             kind,
@@ -111,6 +149,7 @@ fn seen(blank: usize, text: &str, no_names: &Option<NoNames>) -> Option<Peeked>
         b'"' => seen_string(blank, text),
         b'0'..=b'9' => seen_number(blank, text),
         b':' => seen_local(blank, text),
+        b'+' | b'-' => seen_signed(blank, text),
         b'@' => seen_as(Kind::LangTag, blank, tag_len(text)),
         b'^' => seen_as(Kind::Carets, blank, carets_len(text)),
         _ => None,
@@ -203,10 +242,10 @@ fn seen_name(blank: usize, text: &str) -> Option<Peeked>
                 kind: Kind::PnameLn,
                 blank,
                 len: end,
-                colon,
+                colon: colon + 1,
             });
         }
-        return None;
+        return seen_far(blank, colon + 1, far_name(text));
     }
     if is_a(bytes, colon) {
         return Some(Peeked {
@@ -216,7 +255,47 @@ fn seen_name(blank: usize, text: &str) -> Option<Peeked>
             colon: 0,
         });
     }
-    None
+    seen_word(blank, text)
+}
+
+/// The word `true` or `false`.
+#[inline(always)]
+fn seen_word(blank: usize, text: &str) -> Option<Peeked>
+    requires { 0 < length text.now }
+    ensures { Sees text.now blank result }
+{
+    match word_len(text) {
+        Some(4) => Some(Peeked {
+            kind: Kind::True,
+            blank,
+            len: 4,
+            colon: 0,
+        }),
+        Some(len) => Some(Peeked {
+            kind: Kind::False,
+            blank,
+            len,
+            colon: 0,
+        }),
+        None => None,
+    }
+}
+
+/// A name of which this is told, by the place after its colon.
+#[inline(always)]
+fn seen_far(blank: usize, past: usize, name: FarName) -> Option<Peeked>
+    ensures { (bs : List ℕ) → IsFarName bs past name → Sees bs blank result }
+{
+    match name {
+        FarName::Plain(len) => Some(Peeked {
+            kind: Kind::PnameLn,
+            blank,
+            len,
+            colon: past,
+        }),
+        FarName::Escaped(len) => seen_as(Kind::PnameLn, blank, Some(len)),
+        FarName::Unknown => None,
+    }
 }
 
 /// Whether some bytes stand between two places, of which the first is no hyphen, and after them one with which no name goes on.
@@ -240,6 +319,19 @@ fn seen_number(blank: usize, text: &str) -> Option<Peeked>
     }
 }
 
+/// A number with a sign.
+#[inline(always)]
+fn seen_signed(blank: usize, text: &str) -> Option<Peeked>
+    ensures { Sees text.now blank result }
+{
+    match signed_number(text) {
+        Signed::Integer(len) => seen_as(Kind::Integer, blank, Some(len)),
+        Signed::Decimal(len) => seen_as(Kind::Decimal, blank, Some(len)),
+        Signed::Double(len) => seen_as(Kind::Double, blank, Some(len)),
+        Signed::Unknown => None,
+    }
+}
+
 /// A string in double quotes, one at each end or three.
 #[inline(always)]
 fn seen_string(blank: usize, text: &str) -> Option<Peeked>
@@ -259,9 +351,23 @@ fn seen_local(blank: usize, text: &str) -> Option<Peeked>
     ensures { Sees text.now blank result }
 {
     match local_len(text) {
-        Some(len) => seen_as(Kind::PnameLn, blank, Some(len)),
-        None => seen_as(Kind::PnameNs, blank, prefix_len(text)),
+        Some(1) => seen_plain(Kind::PnameNs, blank, 1),
+        Some(len) => seen_plain(Kind::PnameLn, blank, len),
+        None => seen_far(blank, 1, far_local(text)),
     }
+}
+
+/// A name with an empty prefix and without an escape.
+#[inline(always)]
+fn seen_plain(kind: Kind, blank: usize, len: usize) -> Option<Peeked>
+    ensures { (bs : List ℕ) → IsToken Turtle bs len kind → KnowsColon (take len bs) 1 → Sees bs blank result }
+{
+    Some(Peeked {
+        kind,
+        blank,
+        len,
+        colon: 1,
+    })
 }
 
 // The lengths of tokens are found by calls, so that the look at the first byte, which every token needs, is inlined. A number goes back
@@ -362,28 +468,110 @@ fn decimal_len(text: &str) -> Option<usize>
     None
 }
 
-/// The length of a name with an empty prefix and a local part.
+/// The length of a name with an empty prefix, and with a local part of letters, digits, `_` and `-` or none. LLVM would inline it.
+#[inline(never)]
 fn local_len(text: &str) -> Option<usize>
     requires { is_colon text.now 0 ≡ true }
-    ensures { IfSome result (λ n. IsToken Turtle text.now n PnameLn) }
+    ensures { IfSome result (λ n. IsToken Turtle text.now n (local_kind n) × KnowsColon (take n text.now) 1) }
+{
+    let bytes = text.as_bytes();
+    let end = run_end(Run::Name, bytes, 1);
+    if !is_name_end(bytes, end) {
+        return None;
+    }
+    if end == 1 {
+        return Some(end);
+    }
+    if bytes[1] == b'-' {
+        return None;
+    }
+    Some(end)
+}
+
+/// What is told of a name with an empty prefix and another local part.
+fn far_local(text: &str) -> FarName
+    requires { is_colon text.now 0 ≡ true }
+    ensures { IsFarName text.now 1 result }
 {
     let quick = quick_named(text);
     match quick.kind {
-        Some(Kind::PnameLn) => Some(quick.len),
-        _ => None,
+        Some(Kind::PnameLn) => far_name_of(text.as_bytes(), 0, quick.len),
+        _ => FarName::Unknown,
     }
 }
 
-/// The length of an empty prefix with its colon, where no local part comes after it.
-fn prefix_len(text: &str) -> Option<usize>
-    requires { is_colon text.now 0 ≡ true }
-    ensures { IfSome result (λ n. IsToken Turtle text.now n PnameNs) }
+/// What is told of a name with a prefix and such a local part. Its runs are sought once more: were they handed on, LLVM would keep less in
+/// registers, and all names would take 3 % more.
+#[inline(never)]
+fn far_name(text: &str) -> FarName
+    requires some { 0 < length text.now }
+    requires letter { is_letter (get_or text.now 0 0) ≡ true }
+    ensures { (colon : ℕ) → IsRun is_name_byte text.now 1 colon → IsFarName text.now (colon + 1) result }
 {
-    let quick = quick_named(text);
-    match quick.kind {
-        Some(Kind::PnameNs) => Some(quick.len),
-        _ => None,
+    let bytes = text.as_bytes();
+    let (colon, end) = two_run_ends(Run::Name, bytes, 1);
+    if !is_colon(bytes, colon) {
+        return FarName::Unknown;
     }
+    let quick = quick_local(text, colon, end);
+    match quick.kind {
+        Some(Kind::PnameLn) => far_name_of(bytes, colon, quick.len),
+        _ => FarName::Unknown,
+    }
+}
+
+/// What is told of a name of so many bytes by its colon.
+#[inline(always)]
+fn far_name_of(bytes: &[u8], colon: usize, len: usize) -> FarName
+    requires colon { is_colon bytes.now colon ≡ true }
+    requires before { PassBetween is_name_byte bytes.now 0 colon }
+    ensures { IsToken Turtle bytes.now len PnameLn → IsFarName bytes.now (colon + 1) result }
+{
+    if lacks_escapes(bytes, colon, len) {
+        FarName::Plain(len)
+    } else {
+        FarName::Escaped(len)
+    }
+}
+
+/// Whether no backslash comes after the colon of a name of so many bytes.
+#[inline(always)]
+fn lacks_escapes(bytes: &[u8], colon: usize, len: usize) -> bool
+    requires colon { is_colon bytes.now colon ≡ true }
+    requires before { PassBetween is_name_byte bytes.now 0 colon }
+    ensures { result ≡ true → KnowsColon (take len bytes.now) (colon + 1) }
+{
+    if colon < len && len <= bytes.len() {
+        return is_run(Run::Unescaped, &bytes[colon + 1..len]);
+    }
+    false
+}
+
+/// What is told of a number whose first byte is its sign.
+#[inline(never)]
+fn signed_number(text: &str) -> Signed
+    ensures { IsSigned text.now result }
+{
+    if !begins_signed(Dialect::Turtle, text.as_bytes()) {
+        return Signed::Unknown;
+    }
+    let quick = quick_number(text, 1);
+    match quick.kind {
+        Some(Kind::Integer) => Signed::Integer(quick.len),
+        Some(Kind::Decimal) => Signed::Decimal(quick.len),
+        Some(Kind::Double) => Signed::Double(quick.len),
+        _ => Signed::Unknown,
+    }
+}
+
+/// The length of the word `true` or `false`, which tells them apart. Its run is sought once more, too. Were it a `bool` that goes back, names
+/// would take 1.3 % more.
+#[inline(never)]
+fn word_len(text: &str) -> Option<usize>
+    requires { 0 < length text.now }
+    ensures { IfSome result (λ n. IsToken Turtle text.now n (word_kind n)) }
+{
+    word_at(text, run_end(Run::Name, text.as_bytes(), 1))
 }
 
 /// The length of a language tag.

@@ -6,7 +6,7 @@ ghost use Rattle.rdf_terms.specs.declared.kind.Dialect.{Dialect};
 ghost use Rattle.rdf_terms.specs.declared.kind.Dialect.TheVariants.{Turtle};
 ghost use Rattle.rdf_terms.specs.declared.kind.Kind.TheVariants.{PnameLn};
 ghost use Rattle.rdf_tokens.specs.Quick.{IsQuick, IsToken, single, stands_at};
-ghost use Rattle.rdf_tokens.specs.Quick.{is_sought, is_named, IsPrefix, is_colon, ends_name, is_name_end, is_a, is_word};
+ghost use Rattle.rdf_tokens.specs.Quick.{is_sought, is_named, IsPrefix, is_colon, ends_name, is_name_end, is_a, is_word, word_kind};
 ghost use Rattle.rdf_tokens.specs.Quick.{BeginsNumber, IsMantissa, begins_signed, is_exponent, after_sign, is_double_end};
 ghost use Rattle.rdf_tokens.specs.Quick.{is_dot, begins_number, is_point, is_integer_end, is_decimal_end, ends_integer, ends_number};
 ghost use Rattle.rdf_tokens.specs.Quick.{begins_iri, quote_byte, opens_with, begins_string, is_empty_string, begins_label, begins_label_name};
@@ -475,7 +475,7 @@ pub(crate) fn is_sought(dialect: Dialect, bytes: &[u8], no_names: &Option<NoName
 /// A name of Turtle that begins with a letter, and whose other characters are letters, digits, `_` and `-`; or one of the words `a`, `true` and
 /// `false`.
 #[inline(always)]
-fn quick_name(text: &str) -> Quick
+pub(crate) fn quick_name(text: &str) -> Quick
     requires some { 0 < length text.now }
     requires letter { is_letter (get_or text.now 0 0) ≡ true }
     ensures { IsQuick Turtle text.now result.len result.kind }
@@ -500,26 +500,39 @@ fn quick_word(text: &str, end: usize) -> Quick
     requires { IsRun is_name_byte text.now 1 end }
     ensures { IsQuick Turtle text.now result.len result.kind }
 {
+    match word_at(text, end) {
+        Some(4) => Quick {
+            len: 4,
+            kind: Some(Kind::True),
+        },
+        Some(len) => Quick {
+            len,
+            kind: Some(Kind::False),
+        },
+        None => Quick { len: 0, kind: None },
+    }
+}
+
+/// Its length, which tells which of the two it is.
+#[inline(always)]
+pub(crate) fn word_at(text: &str, end: usize) -> Option<usize>
+    requires { IsRun is_name_byte text.now 1 end }
+    ensures { IfSome result (λ n. IsToken Turtle text.now n (word_kind n)) }
+{
     let bytes = text.as_bytes();
     if is_word(b"true", bytes, end) {
-        return Quick {
-            len: end,
-            kind: Some(Kind::True),
-        };
+        return Some(4);
     }
     if is_word(b"false", bytes, end) {
-        return Quick {
-            len: end,
-            kind: Some(Kind::False),
-        };
+        return Some(5);
     }
-    Quick { len: 0, kind: None }
+    None
 }
 
 /// A name of Turtle, whose prefix ends before the colon at this place, and after it the run of letters, digits, `_` and `-`, which may be
 /// empty, at the other.
 #[inline(always)]
-fn quick_local(text: &str, colon: usize, end: usize) -> Quick
+pub(crate) fn quick_local(text: &str, colon: usize, end: usize) -> Quick
     requires prefix { IsPrefix text.now colon }
     requires colon { is_colon text.now colon ≡ true }
     requires local { IsRun is_name_byte text.now (colon + 1) end }
@@ -621,7 +634,7 @@ fn begins_number(dialect: Dialect, bytes: &[u8]) -> bool
 
 /// A number of Turtle whose digits begin at a place, up to a byte of ASCII with which no number goes on.
 #[inline(never)]
-fn quick_number(text: &str, from: usize) -> Quick
+pub(crate) fn quick_number(text: &str, from: usize) -> Quick
     requires { BeginsNumber text.now from }
     ensures { IsQuick Turtle text.now result.len result.kind }
 {
@@ -699,7 +712,7 @@ fn is_double_end(bytes: &[u8], from: usize, at: usize) -> bool
 
 /// Whether the text of Turtle begins with a sign and a digit.
 #[inline(always)]
-fn begins_signed(dialect: Dialect, bytes: &[u8]) -> bool
+pub(crate) fn begins_signed(dialect: Dialect, bytes: &[u8]) -> bool
     ensures { result ≡ begins_signed dialect bytes.now }
 {
     dialect == Dialect::Turtle && matches!(bytes, [b'+' | b'-', b'0'..=b'9', ..])

@@ -219,8 +219,8 @@ impl<A: Allocator + Copy> Scanner<A> {
         first_seen(self.rest(), &self.no_names)
     }
 
-    /// The same of less frequent tokens too, at more cost: names with dots, escapes or letters of other scripts, signed numbers, `true` and `false`,
-    /// strings in `'`. It is asked where `peek` tells nothing and `pass_blanks` passes nothing.
+    /// The same of less frequent tokens too, at more cost: strings in `'` and empty ones, doubles without a sign, prefixes alone, and tokens at the
+    /// end of the text. It is asked where `peek` tells nothing and `pass_blanks` passes nothing.
     #[inline(always)]
     pub fn peek_far(&self) -> Option<Peeked>
         requires { MayPeek self.now }

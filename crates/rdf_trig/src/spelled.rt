@@ -1,12 +1,12 @@
 // The texts that tokens spell.
 
-ghost use Rattle.std.specs.Prelude.{◌≡◌, ◌≤◌, ◌*◌, [], true, OnOk, Some, drop, length, unwrap_or};
+ghost use Rattle.std.specs.Prelude.{◌≡◌, ◌<◌, ◌≤◌, ◌*◌, [], true, OnOk, Some, drop, length, unwrap_or};
 ghost use Rattle.std.specs.Str.{chars};
 ghost use Rattle.std.specs.String.{string_bytes};
 ghost use Rattle.rdf_terms.specs.Terms.{IsTag};
 ghost use Rattle.rdf_terms.specs.Values.{is_fit, local_value};
 ghost use Rattle.rdf_iri.specs.Texts.{IsIriText, before, after};
-ghost use Rattle.rdf_tokens.specs.Scans.{IsPlainName};
+ghost use Rattle.rdf_tokens.specs.Scans.{KnowsColon};
 ghost use Rattle.rdf_trig.specs.Scopes.{MeansLocal};
 ghost use Rattle.rdf_trig.specs.Spelled.{long_in, SpellsTag};
 ghost use Rattle.rdf_trig.specs.States.{leaf, IsTurtleToken};
@@ -47,15 +47,17 @@ pub fn parts(name: &str) -> (&str, &str)
     }
 }
 
-/// The same of a name that is plain, by its colon: what stands after it has no escape, and so is its own value.
+/// The same of a name that is plain, by the place after its colon: what stands there has no escape, and so is its own
+/// value.
 #[inline(always)]
-pub fn plain_parts(name: &str, colon: usize) -> (&str, &str)
-    requires colon { IsPlainName name.now colon }
+pub fn plain_parts(name: &str, past: usize) -> (&str, &str)
+    requires some { 0 < past }
+    requires colon { KnowsColon name.now past }
     requires means { MeansLocal (unwrap_or (after 58 (chars name.now)) []) }
     ensures prefix { chars result.0.now ≡ before 58 (chars name.now) }
     ensures local { chars result.1.now ≡ unwrap_or (after 58 (chars name.now)) [] }
     ensures text { IsIriText (chars result.1.now) }
     ensures value { local_value (chars result.1.now) ≡ Some (chars result.1.now) }
 {
-    (&name[..colon], &name[colon + 1..])
+    (&name[..past - 1], &name[past..])
 }

@@ -6,17 +6,12 @@ use Rattle.std.proofs.lemmas.Bool.{and_parts, and_from, cases_Bool, cond-true, c
 use Rattle.rdf_terms.specs.Classes.{has}
 use Rattle.rdf_terms.specs.Classes.Class.{iri_char}
 use Rattle.rdf_terms.specs.Terms.{all_have}
-use Rattle.rdf_terms.specs.Runs.{is_unescaped, PassBetween}
+use Rattle.rdf_terms.specs.Runs.{is_unescaped}
 use Rattle.rdf_terms.specs.Local.{without_backslashes}
 use Rattle.rdf_terms.specs.Values.{local_value, iri_value, value, of_string, of_iri, move, allowed, go, outside, slash, leads, means, fails}
 use Rattle.rdf_terms.proofs.ValuesLemmas.{iri_value_characters}
 use Rattle.rdf_terms.proofs.LocalLemmas.{local-means}
 use Rattle.rdf_terms.proofs.EscapesLemmas.{run_stands}
-
--- if all bytes pass between the ends, the text passes
-pub all_pass : (p : ℕ → Bool) (bs : List ℕ) → PassBetween p bs 0 (length bs) → all_have p bs ≡ true
-all_pass p [] h = refl
-all_pass p (b ∷ bs) h = and_from (p b) (all_have p bs) (h 0 (omega arith) (omega arith)) (all_pass p bs (λ k from to. h (suc k) (omega arith) (omega arith)))
 
 -- a text without backslashes is what it is without them
 without : (w : List ℕ) → all_have is_unescaped w ≡ true → without_backslashes w ≡ w

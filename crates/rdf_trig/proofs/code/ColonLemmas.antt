@@ -1,14 +1,14 @@
 -- The parts of a name round its first colon, by bytes and by characters.
-use Rattle.std.proofs.Common.{◌≡◌, ◌<◌, ◌+◌, ℕ, zero, suc, get_or, length-drop, Bool, true, false, cond, List, [], ◌∷◌, ◌==◌, not, length, take, drop, Option, Some, None, option_map, refl, sym, ap, ◌∙◌, subst, ⊎_elim, arith}
+use Rattle.std.proofs.Common.{◌≡◌, ◌<◌, ◌+◌, ◌-◌, ℕ, zero, suc, get_or, Bool, true, false, cond, List, [], ◌∷◌, ◌==◌, not, length, take, drop, Option, Some, None, option_map, refl, sym, ap, ◌∙◌, subst, ⊎_elim, arith}
 use Rattle.std.specs.Prelude.{unwrap_or}
 use Rattle.std.specs.List.{before_first, after_first, position_or_len}
 use Rattle.std.specs.Str.{IsCharBoundary, IsUtf8, chars, encode_utf8_all}
 use Rattle.std.proofs.lemmas.Bool.{cases_Bool, cond-true, cond-false, and_parts, and_from, eqb-true, false≢true}
-use Rattle.std.proofs.lemmas.List.{get_or-drop}
 use Rattle.std.proofs.lemmas.List.Sums.{position_or_len_is}
 use Rattle.std.proofs.lemmas.Str.{IsCharBoundary-after_ascii, IsCharBoundary-before_ascii, encodes-chars, chars-encodes, scalars-chars}
 use lib.Utf8.{scalar, scalars}
-use Rattle.rdf_terms.specs.Runs.{PassBetween, is_name_byte, is_unescaped}
+use Rattle.rdf_terms.specs.Runs.{is_name_byte, is_unescaped}
+use Rattle.rdf_terms.specs.Terms.{all_have}
 use Rattle.rdf_tokens.specs.Scans.{IsPlainName, KnowsColon}
 use Rattle.rdf_iri.specs.Texts.{before, after}
 use Rattle.rdf_iri.proofs.Encoded.{before-bytes, after-bytes}
@@ -109,44 +109,43 @@ no_colon bs u h =
     by None e = refl
     by (Some w) e = absurd (cc)
 
--- a byte of names is neither the colon nor a backslash
+-- a byte of names is not the colon
 no_colon_byte : (b : ℕ) → is_name_byte b ≡ true → is_colon b ≡ false
 no_colon_byte b h = ⊎_elim (λ t. absurd (false≢true (sym (ap is_name_byte (eqb-true b 58 t)) ∙ h))) (λ f. f) (cases_Bool (b == 58))
 
-unescaped_byte : (b : ℕ) → is_name_byte b ≡ true → is_unescaped b ≡ true
-unescaped_byte b h = ⊎_elim (λ t. absurd (false≢true (sym (ap is_name_byte (eqb-true b 92 t)) ∙ h))) (λ f. ap not f) (cases_Bool (b == 92))
+-- where the place after a colon is known, the name is plain
+known_colon : (bs : List ℕ) (past : ℕ) → 0 < past → KnowsColon bs past → IsPlainName bs (past - 1)
+known_colon bs zero l k = absurd (omega (arith, l))
+known_colon bs (suc n) l k = let n_is : n ≡ suc n - 1 = omega arith in subst (IsPlainName bs) n_is k
 
 -- of a plain name the first colon is the one that is known
-module _ (bs : List ℕ) (colon : ℕ) (u : IsUtf8 bs) (p : IsPlainName bs colon) where
-  first : position_or_len is_colon bs ≡ colon
+module _ (bs : List ℕ) (past : ℕ) (u : IsUtf8 bs) (some : 0 < past) (k : KnowsColon bs past) where
+  p : IsPlainName bs (past - 1)
+  p = known_colon bs past some k
+
+  next : past - 1 + 1 ≡ past
+  next = omega (arith, some)
+
+  first : position_or_len is_colon bs ≡ past - 1
   first =
       let w = p.within in
-      position_or_len_is is_colon bs colon 0 (omega arith) (λ k l. no_colon_byte (get_or bs k 0) (p.before k (omega arith) l)) (λ _. ap is_colon p.is)
+      position_or_len_is is_colon bs (past - 1) 0 (omega arith) (λ k l. no_colon_byte (get_or bs k 0) (p.before k (omega arith) l)) (λ _. ap is_colon p.is)
 
   -- so the text may be cut before it and after it
-  pub plain_cut : IsCharBoundary bs colon
-  plain_cut = IsCharBoundary-before_ascii bs colon p.within (let e = p.is in omega (arith, e))
+  pub plain_cut : IsCharBoundary bs (past - 1)
+  plain_cut = IsCharBoundary-before_ascii bs (past - 1) p.within (let e = p.is in omega (arith, e))
 
-  pub plain_cut_after : IsCharBoundary bs (colon + 1)
-  plain_cut_after = IsCharBoundary-after_ascii bs colon u p.within (let e = p.is in omega (arith, e))
+  pub plain_cut_after : IsCharBoundary bs past
+  plain_cut_after = subst (IsCharBoundary bs) next (IsCharBoundary-after_ascii bs (past - 1) u p.within (let e = p.is in omega (arith, e)))
 
   -- the parts are those of the definition
-  pub plain_front : (front : List ℕ) → front ≡ take colon bs → chars front ≡ before 58 (chars bs)
+  pub plain_front : (front : List ℕ) → front ≡ take (past - 1) bs → chars front ≡ before 58 (chars bs)
   plain_front front e = front_chars bs front u (e ∙ ap (λ n. take n bs) (sym first))
 
-  pub plain_back : (back : List ℕ) → back ≡ drop (colon + 1) bs → chars back ≡ unwrap_or (after 58 (chars bs)) []
-  plain_back back e = back_chars bs back u (let w = p.within in omega (arith, first, w)) (e ∙ ap (λ n. drop (n + 1) bs) (sym first))
+  pub plain_back : (back : List ℕ) → back ≡ drop past bs → chars back ≡ unwrap_or (after 58 (chars bs)) []
+  plain_back back e =
+      back_chars bs back u (let w = p.within in omega (arith, first, w)) (e ∙ ap (λ n. drop n bs) (sym next ∙ ap (λ n. n + 1) (sym first)))
 
   -- and the second has no backslash
-  pub plain_rest : (back : List ℕ) → back ≡ drop (colon + 1) bs → PassBetween is_unescaped back 0 (length back)
-  plain_rest back e k from to =
-      let w = p.within in
-      let n : length back ≡ length (drop (colon + 1) bs) = ap length e in
-      ap (λ v. is_unescaped (get_or v k 0)) e
-      ∙ (ap is_unescaped (get_or-drop (colon + 1) bs k 0)
-      ∙ unescaped_byte (get_or bs (colon + 1 + k) 0) (p.after (colon + 1 + k) (omega arith) (omega (arith, n, to, length-drop (colon + 1) bs))))
-
--- where a colon is known, the name is plain
-pub known_colon : (bs : List ℕ) (n : ℕ) → 0 < n → KnowsColon bs n → IsPlainName bs n
-known_colon bs zero l k = absurd (omega (arith, l))
-known_colon bs (suc n) l k = k
+  pub plain_rest : (back : List ℕ) → back ≡ drop past bs → all_have is_unescaped back ≡ true
+  plain_rest back e = ap (all_have is_unescaped) (e ∙ ap (λ n. drop n bs) (sym next)) ∙ p.after

@@ -4,10 +4,11 @@ use Rattle.std.proofs.lemmas.Bool.{and_parts, ltb-true}
 use Rattle.rdf_terms.specs.declared.kind.Dialect.TheVariants.{Turtle}
 use Rattle.rdf_terms.specs.declared.kind.Kind.TheVariants.{A, PnameLn}
 use Rattle.rdf_terms.specs.Classes.{is_letter}
+use Rattle.rdf_terms.specs.Runs.{IsRun, is_name_byte}
 use Rattle.rdf_tokens.specs.Quick.{IsToken}
 use Rattle.rdf_tokens.specs.Scans.{KnowsColon}
 use Rattle.rdf_tokens.proofs.LocalLemmas.{quick_local}
-use Rattle.rdf_tokens.proofs.PeekLemmas.{local_is, plain_name}
+use Rattle.rdf_tokens.proofs.PeekLemmas.{local_is, prefix_bytes, run_past}
 use Rattle.rdf_tokens.proofs.QuickLemmas.{quick_a}
 use Rattle.rdf_tokens.proofs.peek.seen_name.Goals as goal
 
@@ -24,7 +25,7 @@ returns-then-is_local c =
     let l = local_is bs (colon + 1) end (sym c.is_local.ensures ∙ c.if-is_local.true) in (
       refl,
       subst (λ b. IsToken Turtle b end PnameLn) v (quick_local bs colon end (subst IsUtf8 (sym v) c.utf8.text) (inr (letter, first)) is second l.ends l.some l.no_hyphen),
-      subst (λ b. KnowsColon (take end b) colon) v (plain_name bs colon end letter first is second),
+      subst (λ b. KnowsColon (take end b) (colon + 1)) v (run_past bs colon end (prefix_bytes bs colon letter first) is second),
     )
 
 pub returns-then-is_a : goal.returns-then-is_a
@@ -36,3 +37,9 @@ returns-then-is_a c =
           (quick_a bs c.two_run_ends-colon.result.0 (subst IsUtf8 (sym v) c.utf8.text) c.two_run_ends-colon.ensures.first (sym c.is_a.ensures ∙ c.if-is_a.true)),
       tt,
     )
+
+pub returns-then-is_colon : goal.returns-then-is_colon
+returns-then-is_colon c =
+    let colon = c.two_run_ends-colon.result.0 in
+    c.seen_far.ensures c.args.text.now
+    (c.far_name.ensures colon (subst (λ b. IsRun is_name_byte b 1 colon) c.as_bytes-bytes.ensures.value c.two_run_ends-colon.ensures.first))

@@ -4,13 +4,9 @@ use Rattle.std.specs.Prelude.{unwrap_or}
 use Rattle.std.specs.Str.{chars}
 use Rattle.rdf_terms.specs.Values.{local_value}
 use Rattle.rdf_trig.specs.States.{leaf}
-use Rattle.rdf_trig.proofs.code.ColonLemmas.{known_colon}
 use Rattle.rdf_trig.proofs.code.LocalShapes.{token_local}
 use Rattle.rdf_trig.proofs.code.LookUps.{name_names}
 use Rattle.rdf_trig.proofs.names.put_prefixed.Goals as goal
-
-pub plain_parts-requires-clause-colon : goal.plain_parts-requires-clause-colon
-plain_parts-requires-clause-colon g c = known_colon c.args.token.now.text.now c.args.token.now.colon c.if-token-gt0.true c.requires.colon
 
 pub plain_parts-requires-clause-means : goal.plain_parts-requires-clause-means
 plain_parts-requires-clause-means g c = token_local c.args.token.now c.requires.kind c.requires.token
