@@ -12,7 +12,7 @@ use Rattle.rdf_terms.specs.Regex.{Regex, Matches}
 use Rattle.rdf_terms.specs.Regex.Regex.{nothing, empty, one, ◌·◌, ◌∣◌, many}
 use Rattle.rdf_terms.specs.declared.kind.Dialect.{Dialect}
 use Rattle.rdf_terms.specs.declared.kind.Dialect.TheVariants.{Lines, Turtle}
-use Rattle.rdf_terms.specs.declared.kind.Kind.TheVariants.{IriRef, LabelNode, LangTag}
+use Rattle.rdf_terms.specs.declared.kind.Kind.TheVariants.{IriRef, LabelNode, ShortString, LangTag}
 use Rattle.rdf_terms.specs.Shapes.{shape, Shape, label_name}
 use Rattle.rdf_terms.specs.Terms.{IsLabel, IsTag}
 use Rattle.rdf_terms.specs.Values.{of_string, EscapeState, outside, slash, digits, Move, leads, means, fails, move, go, value, iri_value, string_value, inside, is_fit}
@@ -23,6 +23,11 @@ use Rattle.rdf_terms.proofs.CharsLemmas.{few_bytes}
 pub fit_iri : (w : List ℕ) → is_fit IriRef w ≡ true → iri_value (inside 1 w) ≡ None → ⊥
 unfolding is_fit
 fit_iri w f n = false≢true (sym (ap is_some n) ∙ f)
+
+-- so has a fit string
+pub fit_string : (w : List ℕ) → is_fit ShortString w ≡ true → string_value (inside 1 w) ≡ None → ⊥
+unfolding is_fit
+fit_string w f n = false≢true (sym (ap is_some n) ∙ f)
 
 -- the value of a text, if it has one, has no more characters than the text
 value_short : (s : EscapeState) (w : List ℕ) → length (unwrap_or (value of_string s w) []) ≤ length w

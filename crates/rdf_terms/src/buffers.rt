@@ -1,12 +1,12 @@
 // Texts that are used again: what a token spells is put in place of what stood there before.
 
-ghost use Rattle.std.specs.Prelude.{◌≡◌, ◌≤◌, ◌*◌, true, OnOk, Some, is_some, length};
+ghost use Rattle.std.specs.Prelude.{◌≡◌, ◌≤◌, ◌*◌, true, OnOk, length};
 ghost use Rattle.std.specs.Str.{chars, encode_utf8_all};
 ghost use Rattle.std.specs.String.{string_bytes};
 ghost use Rattle.rdf_terms.specs.Classes.{has};
 ghost use Rattle.rdf_terms.specs.Classes.Class.{iri_char};
 ghost use Rattle.rdf_terms.specs.Terms.{all_have};
-ghost use Rattle.rdf_terms.specs.Values.{is_fit, string_value};
+ghost use Rattle.rdf_terms.specs.Values.{is_fit};
 ghost use Rattle.rdf_terms.specs.Buffers.{iri_in, string_in};
 
 use crate::Kind;
@@ -41,7 +41,6 @@ pub fn put_iri<A: Allocator>(out: &mut String<A>, text: &str) -> Result<(), Allo
 }
 
 /// The same of a string with one quote at each end.
-#[inline(always)]
 pub fn put_string<A: Allocator>(out: &mut String<A>, text: &str) -> Result<(), AllocError>
     requires { is_fit Kind.ShortString (chars text.now) ≡ true }
     ensures value { OnOk result (chars (string_bytes out.new) ≡ string_in (chars text.now)) }
@@ -51,17 +50,7 @@ pub fn put_string<A: Allocator>(out: &mut String<A>, text: &str) -> Result<(), A
     if is_run(Run::Unescaped, quoted.as_bytes()) {
         return put_text(out, quoted);
     }
-    put_escaped(out, quoted)
-}
-
-// Puts what stands between the quotes of a string with escapes. These are rare, and inlined into `put_string` this would cost each string some
-// instructions.
-#[inline(never)]
-fn put_escaped<A: Allocator>(out: &mut String<A>, inside: &str) -> Result<(), AllocError>
-    requires { is_some (string_value (chars inside.now)) ≡ true }
-    ensures { OnOk result (string_value (chars inside.now) ≡ Some (chars (string_bytes out.new))) }
-{
-    match set_string_value(out, inside) {
+    match set_string_value(out, quoted) {
         Ok(()) => Ok(()),
         Err(ValueFault::BadEscape) => unreachable!(),
         Err(ValueFault::Memory) => Err(AllocError),
