@@ -12,7 +12,7 @@ pub(crate) mod writable;
 
 ghost use Rattle.std.specs.Prelude.{◌≡◌, ◌↔◌, ◌∷◌, ◌++◌, ◌≤◌, chars, encode_utf8_all, length, string_bytes, IfOk, OnErr, OnOk};
 ghost use Rattle.std.specs.Result.{IsErrOf};
-ghost use Rattle.rdf_terms.specs.Views.{iris_quad, node_of, quad_of};
+ghost use Rattle.rdf_terms.specs.Views.{node_of, quad_of};
 ghost use Rattle.rdf_lines.specs.declared.form.Escapes.TheVariants.{Plain};
 ghost use Rattle.rdf_lines.specs.Forms.{form_of};
 ghost use Rattle.rdf_lines.specs.NodePrefixes.{line_in};
@@ -24,7 +24,7 @@ use crate::form::{Escapes, Style, WrittenForm};
 use at_once::put_at_once;
 use itoa::Buffer;
 use line::put_in_parts;
-use rdf_terms::{IriView, NodeRef, QuadRef};
+use rdf_terms::{NodeRef, QuadRef};
 use room::short_room;
 use std::alloc::{AllocError, Allocator};
 use term::letter_and_name;
@@ -135,31 +135,6 @@ fn put_plain<C, A: Allocator + Copy>(
         Some(room) => put_at_once(quad, form, room, at, out),
         None => put_apart(quad, form, at, out),
     }
-}
-
-/// The same of the quad of three IRIs in the default graph, which each style can write. It is made up here, so that LLVM has its parts in registers.
-#[inline(always)]
-pub(crate) fn put_iris<A: Allocator + Copy>(
-    subject: IriView<'_>,
-    predicate: IriView<'_>,
-    object: IriView<'_>,
-    form: &WrittenForm<'_>,
-    at: usize,
-    out: &mut Vec<u8, A>,
-) -> Result<usize, AllocError>
-    requires { at ≤ length out.old.items }
-    ensures written { IfOk result (λ end. WrittenAt out.old.items out.new.items at
-        (line_bytes (form_of form.now) (iris_quad subject.entry predicate.entry object.entry)) end) }
-    ensures kept { OnErr result (KeptFront out.old.items out.new.items at) }
-{
-    if let Escapes::Plain = form.escapes {
-        let quad = QuadRef::of_iris(subject, predicate, object);
-        if let Some(room) = short_room(&quad, form.prefix.as_str()) {
-            return put_at_once(&quad, form, room, at, out);
-        }
-    }
-    // Another quad is lent to a call, since what is lent stands in memory.
-    put_apart(&QuadRef::of_iris(subject, predicate, object), form, at, out)
 }
 
 // Part by part, since in ASCII each may have escapes. What stood after the first `at` bytes is cut off.

@@ -15,11 +15,6 @@ term_at (kind.Anon n) w = Some (Blank (Anon n))
 term_at (kind.Cell n) w = cell n
 term_at kind.Nil w = Some nil
 
--- the term is an IRI
-abbrev pub IsIriTerm : Option term.Subject → Type 0
-IsIriTerm (Some (term.Iri w)) = ⊤
-IsIriTerm t = ⊥
-
 -- the subject of this kind and text, as the machine has it, with the bytes of the text, whatever its kind is
 abbrev pub topic_at : SubjectKind → List ℕ → Topic
 topic_at k w = record { term = term_at k w; size = byte_len w }

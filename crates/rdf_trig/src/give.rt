@@ -13,7 +13,6 @@ ghost use Rattle.rdf_trig.specs.Machine as M;
 ghost use Rattle.rdf_trig.specs.Machine.{subject_at, verb_at, kept};
 ghost use Rattle.rdf_tokens.specs.declared.token.Token.{Token as Given};
 ghost use Rattle.rdf_trig.specs.States.{object_of, IsSettled, mode_in, graph_of, graph_in, cells_quad, rest_of};
-ghost use Rattle.rdf_trig.specs.Slots.{IsIriTerm};
 ghost use Rattle.rdf_trig.specs.Steps.{GaveUp, given, IsQuadAt, last_of, due_term, due_quad, IsListed, IsAfterObject};
 
 use crate::fault::StepFault;
@@ -63,7 +62,8 @@ fn is_after_object<A: Allocator>(state: &State<A>) -> bool
     }
 }
 
-// Puts the quad of an object of a predicate list. The quads of three IRIs in the default graph go a way of their own.
+// Puts the quad of an object of a predicate list. One whose object is an IRI is made up apart, where LLVM knows what
+// it is.
 #[inline(always)]
 fn give_listed<A: Allocator, S: QuadSink>(
     state: &State<A>,
@@ -78,50 +78,14 @@ fn give_listed<A: Allocator, S: QuadSink>(
     ensures err { IfErr result (λ r. (form : DocForm) (s : InForce) →
         GaveUp S.takes S.leaves S.has_failed r (given form s state.now token.now) sink.old sink.new) }
 {
-    if is_of_iris(state) {
-        return give_iris(state, sink);
+    if let Held::Resource = state.held {
+        if let SubjectRef::Iri(iri) = state.object.view() {
+            return put(Some(quad_listed(state, TermRef::Iri(iri))), sink);
+        }
     }
     match due_object(state, token) {
         None => Ok(0),
         Some(object) => put(Some(quad_listed(state, object)), sink),
-    }
-}
-
-// Whether the object's quad is one of three IRIs in the default graph. Of one with rdf:nil this is not told.
-#[inline(always)]
-fn is_of_iris<A: Allocator>(state: &State<A>) -> bool
-    ensures held { result ≡ true → state.now.held ≡ Held.Resource }
-    ensures subject { result ≡ true → IsIriTerm state.now.frame.subject.term }
-    ensures object { result ≡ true → IsIriTerm state.now.object.term }
-    ensures graph { result ≡ true → graph_of state.now.level state.now.graph ≡ None }
-{
-    matches!(state.held, Held::Resource)
-        && state.object.is_iri()
-        && state.frame.subject.is_iri()
-        && !matches!(state.level, Level::Block(Block::Named))
-}
-
-// Puts such a quad. This is a call of its own, in which the sink's code stands: so the quad's parts stay in registers, where those of a quad that is
-// lent to a call stand in memory.
-#[inline(never)]
-fn give_iris<A: Allocator, S: QuadSink>(state: &State<A>, sink: &mut S) -> Result<u64, StepFault>
-    requires after { IsAfterObject state.now }
-    requires held { state.now.held ≡ Held.Resource }
-    requires subject { IsIriTerm state.now.frame.subject.term }
-    requires object { IsIriTerm state.now.object.term }
-    requires graph { graph_of state.now.level state.now.graph ≡ None }
-    requires live { S.has_failed sink.old ≡ false }
-    ensures ok { OnOk result ((form : DocForm) (s : InForce) (t : Given) → Appends S.takes sink.old (given form s state.now t) sink.new) }
-    ensures count { IfOk result (λ n. (form : DocForm) (s : InForce) (t : Given) → n ≡ length (given form s state.now t)) }
-    ensures live { OnOk result (S.has_failed sink.new ≡ false) }
-    ensures err { IfErr result (λ r. (form : DocForm) (s : InForce) (t : Given) →
-        GaveUp S.takes S.leaves S.has_failed r (given form s state.now t) sink.old sink.new) }
-{
-    let predicate = state.frame.verb.view_or(Known::RdfType);
-    match sink.put_iris(state.frame.subject.iri(), predicate, state.object.iri()) {
-        Ok(()) => Ok(1),
-        Err(PutFault::Memory) => Err(StepFault::Memory),
-        Err(PutFault::Device) => Err(StepFault::Sink),
     }
 }
 

@@ -2,15 +2,15 @@
 
 ghost use Rattle.std.specs.Prelude.{◌≡◌, [], true, Some, None, OnOk, IfErr, option_map, is_some};
 ghost use Rattle.std.specs.Str.{chars};
-ghost use Rattle.rdf_terms.specs.Terms.{Iri, IsLabel, IsTag};
-ghost use Rattle.rdf_terms.specs.Views.{iri_chars, tag_chars, subject_by};
+ghost use Rattle.rdf_terms.specs.Terms.{IsLabel, IsTag};
+ghost use Rattle.rdf_terms.specs.Views.{tag_chars, subject_by};
 ghost use Rattle.rdf_tokens.specs.Scans.{KnowsItsColon};
 ghost use Rattle.rdf_trig.specs.Quads.{named};
 ghost use Rattle.rdf_trig.specs.Scopes.{StandsForIri, Unnamed};
 ghost use Rattle.rdf_trig.specs.States.{leaf, IsTurtleToken};
 ghost use Rattle.rdf_trig.specs.Straight.{IsTopic};
 ghost use Rattle.rdf_trig.specs.declared.slots.SubjectKind.TheVariants as SubjectKind;
-ghost use Rattle.rdf_trig.specs.Slots.{IsIriTerm, topic_at};
+ghost use Rattle.rdf_trig.specs.Slots.{topic_at};
 ghost use Rattle.rdf_trig.specs.Machine as M;
 ghost use Rattle.rdf_trig.specs.Owed.{iri_size};
 
@@ -119,27 +119,6 @@ impl<A: Allocator> Topic<A> {
             SubjectKind::Anon(offset) => SubjectRef::Node(NodeRef::Anon(offset)),
             SubjectKind::Cell(offset) => SubjectRef::Node(NodeRef::Cell(offset)),
             SubjectKind::Nil => SubjectRef::Iri(known(Known::RdfNil)),
-        }
-    }
-
-    /// Whether it is an IRI other than the empty collection.
-    #[inline(always)]
-    pub fn is_iri(&self) -> bool
-        ensures { result ≡ true → IsIriTerm self.now.term }
-    {
-        matches!(self.kind, SubjectKind::Iri)
-    }
-
-    /// The IRI, borrowed.
-    #[inline(always)]
-    pub fn iri(&self) -> IriView<'_>
-        requires { IsIriTerm self.now.term }
-        ensures { Some (Iri (iri_chars result)) ≡ self.now.term }
-    {
-        match self.kind {
-            SubjectKind::Iri => IriView::of_bytes(self.text.as_bytes()),
-            SubjectKind::Nil => known(Known::RdfNil),
-            SubjectKind::Label | SubjectKind::Anon(_) | SubjectKind::Cell(_) => unreachable!(),
         }
     }
 

@@ -14,6 +14,6 @@ returns-in-Some-clause-err g c =
     let failed = g.S.QuadSink.has_failed in
     let n = c.args.state.now in
     let due : Some (term_by chars c.in-Some.object) ≡ due_term n n.mode c.args.token.now = c.in-Some.ensures in
-    if_err c.put.result _ _ (λ r h form s. subst (λ qs. GaveUp takes leaves failed r qs c.args.sink.now c.put.new.sink)
-    (sym (given_listed form s n c.args.token.now _ (Some (quad_of c.quad_listed.result)) c.requires.after due c.quad_listed.ensures)) h)
-    c.put.ensures.err
+    if_err c.put-in-Some.result _ _ (λ r h form s. subst (λ qs. GaveUp takes leaves failed r qs c.args.sink.now c.put-in-Some.new.sink)
+    (sym (given_listed form s n c.args.token.now _ (Some (quad_of c.quad_listed-in-Some.result)) c.requires.after due c.quad_listed-in-Some.ensures)) h)
+    c.put-in-Some.ensures.err
