@@ -1,5 +1,6 @@
 -- Bytes that are placed in a buffer that has room for them, and how much room a line takes at most.
 use Rattle.std.specs.Prelude.{◌≡◌, ℕ, ◌+◌, ◌*◌, ◌/◌, ◌%◌, ◌≤◌, List, [], ◌∷◌, ◌++◌, Option, Some, None, decimal, length, take}
+use Rattle.rdf_terms.specs.declared.views.IriView.{IriView}
 use Rattle.rdf_terms.specs.declared.views.NodeRef.{NodeRef}
 use Rattle.rdf_terms.specs.declared.views.NodeRef.TheVariants as node_ref
 use Rattle.rdf_terms.specs.declared.views.TailRef.{TailRef}
@@ -52,6 +53,10 @@ graph_room (Some s) = subject_room s
 -- the most bytes of a line in the plain form, in which a byte of a string may become two, with a word of so many bytes in front of each name
 abbrev pub line_room : ℕ → QuadRef → ℕ
 line_room word q = subject_room q.subject + length q.predicate.text.now + 2 * term_room q.object + graph_room q.graph + 3 * word + 20
+
+-- the bytes of the line of three IRIs, in the plain form and in the default graph
+abbrev pub iris_room : IriView → IriView → IriView → ℕ
+iris_room s p o = length s.text.now + length p.text.now + length o.text.now + 11
 
 -- the bytes of a label with its `_:` and a word in front
 abbrev pub label_bytes : Style → List ℕ → List ℕ → List ℕ

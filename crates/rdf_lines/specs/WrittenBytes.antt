@@ -1,5 +1,5 @@
 -- The bytes that each part of a written line has, in UTF-8.
-use Rattle.std.specs.Prelude.{◌≡◌, ℕ, List, Option, option_map, flat_map, length, take, encode_utf8_all}
+use Rattle.std.specs.Prelude.{◌≡◌, ◌∷◌, ◌++◌, ℕ, List, [], Option, option_map, flat_map, length, take, encode_utf8_all}
 use Rattle.std.specs.Str.{chars}
 use Rattle.rdf_terms.specs.declared.views.IriView.{IriView}
 use Rattle.rdf_terms.specs.declared.views.NodeRef.{NodeRef}
@@ -15,7 +15,7 @@ use Rattle.rdf_lines.specs.declared.form.Escapes.{Escapes}
 use Rattle.rdf_lines.specs.declared.form.Escapes.TheVariants.{Plain, Ascii}
 use Rattle.rdf_lines.specs.declared.form.Style.{Style}
 use Rattle.rdf_lines.specs.NodePrefixes.{Form, name_node, name_subject, name_term, name_graph, line_in}
-use Rattle.rdf_lines.specs.Writing.{escaped, rename_node, node_text, iri_text, subject_text, string_text, tail_text, term_text, graph_text}
+use Rattle.rdf_lines.specs.Writing.{escaped, space, rename_node, node_text, iri_text, subject_text, string_text, tail_text, term_text, graph_text}
 
 -- what stands in a string as it is
 abbrev pub run_of : Escapes → Run
@@ -57,6 +57,10 @@ graph_bytes f g = encode_utf8_all (graph_text f.escapes (name_graph f (option_ma
 -- those of the line of a quad
 abbrev pub line_bytes : Form → QuadRef → List ℕ
 line_bytes f q = encode_utf8_all (line_in f (quad_of q))
+
+-- those of the line of three IRIs in the default graph, in the plain form, whatever names the nodes have
+abbrev pub iris_bytes : IriView → IriView → IriView → List ℕ
+iris_bytes s p o = (iri_bytes Plain s ++ space) ++ (iri_bytes Plain p ++ space) ++ (iri_bytes Plain o ++ space) ++ 46 ∷ 10 ∷ []
 
 -- The style names the node by a label of these bytes.
 abbrev pub IsNamed : Style → NodeRef → List ℕ → Type 0

@@ -2,7 +2,7 @@
 
 ghost use Rattle.std.specs.Prelude.{◌≡◌, ◌↔◌, ◌≤◌, ◌++◌, [], length, take, encode_utf8_all, IfOk, OnErr, OnOk};
 ghost use Rattle.std.specs.Result.{IsErrOf};
-ghost use Rattle.rdf_terms.specs.Views.{quad_of};
+ghost use Rattle.rdf_terms.specs.Views.{iris_quad, quad_of};
 ghost use Rattle.rdf_lines.specs.Escaped.{PassesInto};
 ghost use Rattle.rdf_lines.specs.Forms.{form_of};
 ghost use Rattle.rdf_lines.specs.NodePrefixes.{line_in};
@@ -12,10 +12,10 @@ use crate::canonical::end_tokens;
 use crate::escaped::{EscapedLine, Unpassed, Values, escaped_line};
 use crate::form::{Escapes, LineEnding, Style, WrittenForm};
 use crate::grammar::LineGrammar;
-use crate::writer::{LabelFault, Usual, put_quad};
+use crate::writer::{LabelFault, Usual, put_iris, put_quad};
 use rdf_driver::Reader;
-use rdf_terms::QuadRef;
 use rdf_terms::place::place_all;
+use rdf_terms::{IriView, QuadRef};
 use std::alloc::{AllocError, Allocator, Global};
 use std::marker::Model;
 
@@ -128,6 +128,23 @@ impl<A: Allocator + Copy> LineBuffer<A> {
         ensures not_labelled { IsErrOf result LabelFault.NotLabelled ↔ ¬ CanWrite form.entry.style (quad_of quad.now) }
     {
         self.len = put_quad::<C, A>(quad, &form, self.len, &mut self.bytes)?;
+        Ok(())
+    }
+
+    /// What `put_line` does, for the quad of three IRIs in the default graph, which each style can write.
+    #[inline(always)]
+    pub fn put_iris(
+        &mut self,
+        subject: IriView<'_>,
+        predicate: IriView<'_>,
+        object: IriView<'_>,
+        form: WrittenForm<'_>,
+    ) -> Result<(), AllocError>
+        ensures written { OnOk result (self.new ≡ self.old ++ encode_utf8_all (line_in (form_of form.entry)
+            (quad_of (iris_quad subject.entry predicate.entry object.entry)))) }
+        ensures unchanged { OnErr result (self.new ≡ self.old) }
+    {
+        self.len = put_iris(subject, predicate, object, &form, self.len, &mut self.bytes)?;
         Ok(())
     }
 

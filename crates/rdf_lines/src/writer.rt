@@ -12,7 +12,7 @@ pub(crate) mod writable;
 
 ghost use Rattle.std.specs.Prelude.{◌≡◌, ◌↔◌, ◌∷◌, ◌++◌, ◌≤◌, chars, encode_utf8_all, length, string_bytes, IfOk, OnErr, OnOk};
 ghost use Rattle.std.specs.Result.{IsErrOf};
-ghost use Rattle.rdf_terms.specs.Views.{node_of, quad_of};
+ghost use Rattle.rdf_terms.specs.Views.{iris_quad, node_of, quad_of};
 ghost use Rattle.rdf_lines.specs.declared.form.Escapes.TheVariants.{Plain};
 ghost use Rattle.rdf_lines.specs.Forms.{form_of};
 ghost use Rattle.rdf_lines.specs.NodePrefixes.{line_in};
@@ -21,11 +21,11 @@ ghost use Rattle.rdf_lines.specs.WrittenBytes.{line_bytes};
 ghost use Rattle.rdf_lines.specs.Writing.{CanWrite, CanWriteNode, line, node_text, rename_node};
 
 use crate::form::{Escapes, Style, WrittenForm};
-use at_once::put_at_once;
+use at_once::{put_at_once, put_iris_at_once};
 use itoa::Buffer;
 use line::put_in_parts;
-use rdf_terms::{NodeRef, QuadRef};
-use room::short_room;
+use rdf_terms::{IriView, NodeRef, QuadRef};
+use room::{short_iris, short_room};
 use std::alloc::{AllocError, Allocator};
 use term::letter_and_name;
 use writable::can_write;
@@ -132,9 +132,33 @@ fn put_plain<C, A: Allocator + Copy>(
     ensures kept { OnErr result (KeptFront out.old.items out.new.items at) }
 {
     match short_room(quad, form.prefix.as_str()) {
-        Some(room) => put_at_once(quad, form, room, at, out),
+        Some(room) => put_at_once::<C, A>(quad, form, room, at, out),
         None => put_apart(quad, form, at, out),
     }
+}
+
+/// Puts the line of the quad of three IRIs in the default graph, as `put_quad` does; each style can write it. The texts
+/// stay in registers, where the parts of a quad that is lent stand in memory.
+#[inline(always)]
+pub(crate) fn put_iris<A: Allocator + Copy>(
+    subject: IriView<'_>,
+    predicate: IriView<'_>,
+    object: IriView<'_>,
+    form: &WrittenForm<'_>,
+    at: usize,
+    out: &mut Vec<u8, A>,
+) -> Result<usize, AllocError>
+    requires { at ≤ length out.old.items }
+    ensures written { IfOk result (λ end. WrittenAt out.old.items out.new.items at
+        (line_bytes (form_of form.now) (iris_quad subject.entry predicate.entry object.entry)) end) }
+    ensures kept { OnErr result (KeptFront out.old.items out.new.items at) }
+{
+    if let Escapes::Plain = form.escapes {
+        if let Some(room) = short_iris(subject, predicate, object) {
+            return put_iris_at_once(subject, predicate, object, room, at, out);
+        }
+    }
+    put_apart(&QuadRef::of_iris(subject, predicate, object), form, at, out)
 }
 
 // Part by part, since in ASCII each may have escapes. What stood after the first `at` bytes is cut off.

@@ -2,7 +2,7 @@
 
 ghost use Rattle.std.specs.Prelude.{◌≡◌, ◌↔◌, [], ◌<◌, ◌≤◌, length, take, true, false, Bool, List, ℕ, Option, is_err, OnOk, OnErr, IfErr, IfOk};
 ghost use Rattle.std.specs.Io.KnownBytes.{Appends};
-ghost use Rattle.rdf_terms.specs.Views.{quad_of};
+ghost use Rattle.rdf_terms.specs.Views.{iris_quad, quad_of};
 ghost use Rattle.rdf_lines.specs.Canonical.{without_crs, written_as};
 ghost use Rattle.rdf_stream.specs.Converting.{Reports};
 ghost use Rattle.rdf_stream.specs.Devices.{AppendsFront};
@@ -24,7 +24,7 @@ use crate::views::see_quad;
 use crate::without_crs::put_without_crs;
 use rdf_driver::Reader;
 use rdf_lines::{Escapes, LabelFault, LineBuffer, LineEnding};
-use rdf_terms::{PutFault, QuadRef, QuadSink};
+use rdf_terms::{IriView, PutFault, QuadRef, QuadSink};
 use rdf_tokens::{Fault, Token};
 use std::alloc::{AllocError, Allocator, Global};
 
@@ -249,6 +249,37 @@ impl<'a, D: Drain, A: Allocator + Copy> LineOut<'a, D, A> {
         }
     }
 
+    // The same of three IRIs in the default graph.
+    #[inline(always)]
+    fn put_line_of_iris(
+        &mut self,
+        subject: IriView<'_>,
+        predicate: IriView<'_>,
+        object: IriView<'_>,
+    ) -> Result<(), PutFault>
+        requires live { D.has_failed self.old.drain.now ≡ false }
+        ensures taken { OnOk result (TakesBytes D.contents D.has_failed self.old
+            (line_of self.old.form.lines (iris_quad subject.entry predicate.entry object.entry)) self.new) }
+        ensures left { OnErr result (LeavesBytes D.contents D.has_failed self.old
+            (line_of self.old.form.lines (iris_quad subject.entry predicate.entry object.entry)) self.new) }
+        ensures device { (D.has_failed self.new.drain.now ≡ true) ↔ (result ≡ Err PutFault.Device) }
+    {
+        match self
+            .buffer
+            .put_iris(subject, predicate, object, self.form.lines)
+        {
+            Ok(()) => {}
+            Err(_) => return Err(PutFault::Memory),
+        }
+        if self.buffer.len() < WAITING_LEN {
+            return Ok(());
+        }
+        match self.hand_over() {
+            Ok(()) => Ok(()),
+            Err(Failed) => Err(PutFault::Device),
+        }
+    }
+
     // Puts the line of a quad in the graph that was asked for. It stands apart, so that a put without one is no longer
     // for it.
     #[inline(never)]
@@ -296,6 +327,22 @@ impl<'a, D: Drain, A: Allocator + Copy> QuadSink for LineOut<'a, D, A> {
             return self.put_line::<AsItIs>(quad);
         }
         self.put_in_graph(quad)
+    }
+
+    // A call, whose arguments are in registers. Each call in it is lent a quad of its own, which LLVM makes up in memory
+    // where that call is made, and that is hardly ever.
+    #[inline(never)]
+    fn put_iris(
+        &mut self,
+        subject: IriView<'_>,
+        predicate: IriView<'_>,
+        object: IriView<'_>,
+    ) -> Result<(), PutFault> {
+        see_quad(&QuadRef::of_iris(subject, predicate, object));
+        if self.form.graph.is_none() {
+            return self.put_line_of_iris(subject, predicate, object);
+        }
+        self.put_in_graph(&QuadRef::of_iris(subject, predicate, object))
     }
 
     fn failed(&self) -> bool {

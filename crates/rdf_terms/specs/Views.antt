@@ -1,5 +1,5 @@
 -- What the code's terms mean: each text is seen as its characters.
-use Rattle.std.specs.Prelude.{ℕ, List, option_map}
+use Rattle.std.specs.Prelude.{ℕ, List, None, option_map}
 use Rattle.std.specs.Str.{chars}
 use Rattle.rdf_terms.specs.declared.views.IriView.{IriView}
 use Rattle.rdf_terms.specs.declared.views.LabelView.{LabelView}
@@ -53,6 +53,10 @@ term_by f (term.Literal l) = Literal (f l.lexical.now) (tail_by f l.tail)
 abbrev pub quad_by : (List ℕ → List ℕ) → QuadRef → Quad
 quad_by f q =
     record { subject = subject_by f q.subject; predicate = f q.predicate.text.now; object = term_by f q.object; graph = option_map (subject_by f) q.graph }
+
+-- the quad of three IRIs, in the default graph
+abbrev pub iris_quad : IriView → IriView → IriView → QuadRef
+iris_quad s p o = record { subject = subject.Iri s; predicate = p; object = term.Iri o; graph = None }
 
 -- the node and the quad that a view means
 abbrev pub node_of : NodeRef → Node

@@ -5,6 +5,9 @@ ghost use Rattle.rdf_terms.specs.Placing.{Placed};
 
 use std::simd::Simd;
 
+/// A text of so many bytes or more is two copies of this size or a larger one; a text of fewer takes smaller ones.
+pub(crate) const FEW: usize = 16;
+
 /// Places one byte.
 #[inline(always)]
 pub fn place_byte(slot: &mut [u8], at: usize, byte: u8) -> usize
@@ -44,16 +47,16 @@ pub fn place_text(slot: &mut [u8], at: usize, text: &[u8]) -> usize
     let len = text.len();
     if len > 32 {
         place_long(slot, at, text)
-    } else if len >= 16 {
-        place_ends::<16>(slot, at, text)
+    } else if len >= FEW {
+        place_ends::<FEW>(slot, at, text)
     } else {
         place_few(slot, at, text)
     }
 }
 
-// The same of fewer than sixteen bytes.
+/// The same of fewer than `FEW` bytes.
 #[inline(always)]
-fn place_few(slot: &mut [u8], at: usize, text: &[u8]) -> usize
+pub(crate) fn place_few(slot: &mut [u8], at: usize, text: &[u8]) -> usize
     requires { (length text.now < 16) × (at + length text.now ≤ length slot.old) }
     ensures { Placed slot.old slot.new at text.now result }
 {

@@ -5,7 +5,7 @@ ghost use Rattle.std.specs.Str.{chars, encode_utf8_all, IsCharBoundary};
 ghost use Rattle.rdf_terms.specs.Local.{without_backslashes};
 ghost use Rattle.rdf_terms.specs.Placing.{Placed};
 
-use crate::place::{place_byte, place_text};
+use crate::place::{FEW, place_byte, place_few, place_text};
 use std::alloc::{AllocError, Allocator, Global};
 use std::marker::Model;
 
@@ -91,6 +91,27 @@ impl<A: Allocator + Copy> TextBuffer<A> {
         fill(&mut self.bytes, text.len())?;
         self.len = place_text(self.bytes.as_mut_slice(), 0, text.as_bytes());
         Ok(())
+    }
+
+    /// What `put` does, faster for a text of few bytes. It is a call, so that the loop that copies a long one does not
+    /// stand in a reader's step, where it would take registers from all that is read.
+    #[inline(never)]
+    pub fn put_short(&mut self, text: &str) -> Result<(), AllocError>
+        ensures { OnOk result (self.new ≡ text.now) }
+    {
+        if text.len() <= self.bytes.len() && text.len() < FEW {
+            self.len = place_few(self.bytes.as_mut_slice(), 0, text.as_bytes());
+            return Ok(());
+        }
+        self.put_apart(text)
+    }
+
+    // By one more call: `put_short` then saves no registers for a loop.
+    #[inline(never)]
+    fn put_apart(&mut self, text: &str) -> Result<(), AllocError>
+        ensures { OnOk result (self.new ≡ text.now) }
+    {
+        self.put(text)
     }
 
     /// Puts two texts, one after the other, in its place. After an error nothing is known of it.

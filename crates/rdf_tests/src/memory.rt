@@ -214,6 +214,17 @@ fn put_bytes<A: Allocator + Copy>(bytes: &[u8], lines: &mut LineBuffer<A>) -> Re
     }
 }
 
+/// The line of three IRIs put into a buffer, likewise.
+fn put_iris<A: Allocator + Copy>(escapes: Escapes, lines: &mut LineBuffer<A>) -> Result<(), Stop> {
+    let len = lines.len();
+    let iri = known(Known::RdfFirst);
+    match lines.put_iris(iri, iri, iri, WrittenForm::new(Style::Tagged, escapes)) {
+        Ok(()) => Ok(()),
+        Err(_) if lines.len() == len => Err(Stop::Memory),
+        Err(_) => Err(Stop::Wrong),
+    }
+}
+
 fn fill_buffer<A: Allocator + Copy>(
     quad: QuadRef<'_>,
     lines: &mut LineBuffer<A>,
@@ -221,6 +232,8 @@ fn fill_buffer<A: Allocator + Copy>(
     for _ in 0..3 {
         put_line(quad, Escapes::Plain, lines)?;
         put_line(quad, Escapes::Ascii, lines)?;
+        put_iris(Escapes::Plain, lines)?;
+        put_iris(Escapes::Ascii, lines)?;
         put_bytes(b"<a:> <b:> <c:> .\n", lines)?;
     }
     Ok(())

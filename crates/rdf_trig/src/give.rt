@@ -1,11 +1,11 @@
 // The quads that a token determines are put: those that were held for it, and the one that waited to know it.
 
-ghost use Rattle.std.specs.Prelude.{◌≡◌, ◌+◌, ◌≤◌, length, ◌++◌, true, false, [], Option, Some, None, OnOk, IfOk, IfErr, option_map};
+ghost use Rattle.std.specs.Prelude.{◌≡◌, ◌∷◌, ◌+◌, ◌≤◌, length, ◌++◌, true, false, [], Option, Some, None, OnOk, IfOk, IfErr, option_map};
 ghost use Rattle.std.specs.Str.{chars};
 ghost use Rattle.std.specs.String.{string_bytes};
 ghost use Rattle.rdf_terms.specs.Terms as term;
 ghost use Rattle.rdf_terms.specs.Sinks.{Appends};
-ghost use Rattle.rdf_terms.specs.Views.{subject_by, term_by, tail_by, quad_of};
+ghost use Rattle.rdf_terms.specs.Views.{iri_chars, iris_quad, subject_by, term_by, tail_by, quad_of};
 ghost use Rattle.rdf_iri.specs.Scope.{InForce};
 ghost use Rattle.rdf_trig.specs.Quads.{stated, plain_literal};
 ghost use Rattle.rdf_trig.specs.declared.form.DocForm.{DocForm};
@@ -19,8 +19,8 @@ use crate::fault::StepFault;
 use crate::rest::Rest;
 use crate::state::{Block, Container, Frame, Held, Level, Mode, Outer, State};
 use rdf_terms::{
-    Kind, Known, LiteralRef, NodeRef, PutFault, QuadRef, QuadSink, SubjectRef, TailRef, TermRef,
-    known,
+    IriView, Kind, Known, LiteralRef, NodeRef, PutFault, QuadRef, QuadSink, SubjectRef, TailRef,
+    TermRef, known,
 };
 use rdf_tokens::Token;
 use std::alloc::Allocator;
@@ -79,14 +79,50 @@ fn give_listed<A: Allocator, S: QuadSink>(
         GaveUp S.takes S.leaves S.has_failed r (given form s state.now token.now) sink.old sink.new) }
 {
     if let Held::Resource = state.held {
-        if let SubjectRef::Iri(iri) = state.object.view() {
-            return put(Some(quad_listed(state, TermRef::Iri(iri))), sink);
+        if let Some(object) = state.object.iri() {
+            return give_iri(state, object, sink);
         }
     }
     match due_object(state, token) {
         None => Ok(0),
         Some(object) => put(Some(quad_listed(state, object)), sink),
     }
+}
+
+// Puts the quad of an object that is an IRI, whatever the token is. If its subject is one too, in the default graph, as
+// in most quads, the quad has a call of its own.
+#[inline(always)]
+fn give_iri<A: Allocator, S: QuadSink>(
+    state: &State<A>,
+    object: IriView<'_>,
+    sink: &mut S,
+) -> Result<u64, StepFault>
+    requires after { IsAfterObject state.now }
+    requires held { state.now.held ≡ Held.Resource }
+    requires object { Some (term.Iri (iri_chars object)) ≡ state.now.object.term }
+    requires live { S.has_failed sink.old ≡ false }
+    ensures ok { OnOk result ((form : DocForm) (s : InForce) (t : Given) → Appends S.takes sink.old (given form s state.now t) sink.new) }
+    ensures count { IfOk result (λ n. (form : DocForm) (s : InForce) (t : Given) → n ≡ length (given form s state.now t)) }
+    ensures live { OnOk result (S.has_failed sink.new ≡ false) }
+    ensures err { IfErr result (λ r. (form : DocForm) (s : InForce) (t : Given) →
+        GaveUp S.takes S.leaves S.has_failed r (given form s state.now t) sink.old sink.new) }
+{
+    // One test within the other: asked for together, names take half a per cent more.
+    if !is_in_named_graph(state) {
+        if let Some(subject) = state.frame.subject.iri() {
+            let predicate = state.frame.verb.view_or(Known::RdfType);
+            return put_iris(subject, predicate, object, sink);
+        }
+    }
+    put(Some(quad_listed(state, TermRef::Iri(object))), sink)
+}
+
+// Whether the statement stands in the block of a named graph.
+#[inline(always)]
+fn is_in_named_graph<A: Allocator>(state: &State<A>) -> bool
+    ensures { result ≡ false → graph_of state.now.level state.now.graph ≡ None }
+{
+    matches!(state.level, Level::Block(Block::Named))
 }
 
 /// Whether no quad is held, and none waits to know the token.
@@ -262,6 +298,28 @@ fn put<S: QuadSink>(quad: Option<QuadRef<'_>>, sink: &mut S) -> Result<u64, Step
         return Ok(0);
     };
     match sink.put(&quad) {
+        Ok(()) => Ok(1),
+        Err(PutFault::Memory) => Err(StepFault::Memory),
+        Err(PutFault::Device) => Err(StepFault::Sink),
+    }
+}
+
+// Puts the quad of three IRIs in the default graph, and answers that it put one.
+#[inline(always)]
+fn put_iris<S: QuadSink>(
+    subject: IriView<'_>,
+    predicate: IriView<'_>,
+    object: IriView<'_>,
+    sink: &mut S,
+) -> Result<u64, StepFault>
+    requires live { S.has_failed sink.old ≡ false }
+    ensures ok { OnOk result (Appends S.takes sink.old (quad_of (iris_quad subject.entry predicate.entry object.entry) ∷ []) sink.new) }
+    ensures count { IfOk result (λ n. n ≡ 1) }
+    ensures live { OnOk result (S.has_failed sink.new ≡ false) }
+    ensures err { IfErr result (λ r.
+        GaveUp S.takes S.leaves S.has_failed r (quad_of (iris_quad subject.entry predicate.entry object.entry) ∷ []) sink.old sink.new) }
+{
+    match sink.put_iris(subject, predicate, object) {
         Ok(()) => Ok(1),
         Err(PutFault::Memory) => Err(StepFault::Memory),
         Err(PutFault::Device) => Err(StepFault::Sink),

@@ -1,9 +1,9 @@
 // Texts that are used again: those of the subject, graph, object and tag of a state.
 
-ghost use Rattle.std.specs.Prelude.{◌≡◌, [], true, Some, None, OnOk, IfErr, option_map, is_some};
+ghost use Rattle.std.specs.Prelude.{◌≡◌, [], true, Some, None, OnOk, IfErr, IfSome, option_map, is_some};
 ghost use Rattle.std.specs.Str.{chars};
-ghost use Rattle.rdf_terms.specs.Terms.{IsLabel, IsTag};
-ghost use Rattle.rdf_terms.specs.Views.{tag_chars, subject_by};
+ghost use Rattle.rdf_terms.specs.Terms.{Iri, IsLabel, IsTag};
+ghost use Rattle.rdf_terms.specs.Views.{iri_chars, tag_chars, subject_by};
 ghost use Rattle.rdf_tokens.specs.Scans.{KnowsItsColon};
 ghost use Rattle.rdf_trig.specs.Quads.{named};
 ghost use Rattle.rdf_trig.specs.Scopes.{StandsForIri, Unnamed};
@@ -122,6 +122,17 @@ impl<A: Allocator> Topic<A> {
         }
     }
 
+    /// The IRI that it is, borrowed, or None for a node and for the empty collection.
+    #[inline(always)]
+    pub fn iri(&self) -> Option<IriView<'_>>
+        ensures { IfSome result (λ i. Some (Iri (iri_chars i)) ≡ self.now.term) }
+    {
+        match self.kind {
+            SubjectKind::Iri => Some(IriView::of_bytes(self.text.as_bytes())),
+            _ => None,
+        }
+    }
+
     /// How many bytes its text has memory for.
     #[inline(always)]
     pub fn capacity(&self) -> usize {
@@ -172,7 +183,7 @@ impl<A: Allocator + Copy> Topic<A> {
         ensures { OnOk result (self.new ≡ topic_at SubjectKind.Label (chars label.now)) }
     {
         self.kind = SubjectKind::Nil;
-        self.text.put(label)?;
+        self.text.put_short(label)?;
         self.kind = SubjectKind::Label;
         Ok(())
     }

@@ -5,9 +5,9 @@ ghost use Rattle.rdf_terms.specs.Views.{iri_chars};
 ghost use Rattle.rdf_lines.specs.declared.form.Escapes.TheVariants.{Plain};
 ghost use Rattle.rdf_lines.specs.Forms.{form_of};
 ghost use Rattle.rdf_terms.specs.Placing.{Placed};
-ghost use Rattle.rdf_lines.specs.Placing.{WrittenAt, graph_room, label_bytes, line_room, node_room, number_bytes, subject_room, tail_room, term_room};
+ghost use Rattle.rdf_lines.specs.Placing.{WrittenAt, graph_room, iris_room, label_bytes, line_room, node_room, number_bytes, subject_room, tail_room, term_room};
 ghost use Rattle.rdf_lines.specs.Writing.{space, type_text};
-ghost use Rattle.rdf_lines.specs.WrittenBytes.{BeginsWith, graph_bytes, iri_bytes, line_bytes, node_bytes, string_bytes_of, subject_bytes, tail_bytes, term_bytes};
+ghost use Rattle.rdf_lines.specs.WrittenBytes.{BeginsWith, graph_bytes, iri_bytes, iris_bytes, line_bytes, node_bytes, string_bytes_of, subject_bytes, tail_bytes, term_bytes};
 
 use crate::form::{Style, WrittenForm};
 use crate::writer::characters::place_characters;
@@ -24,7 +24,7 @@ const COMMON_ROOM: usize = 192;
 
 /// Puts the line of a quad that takes so many bytes at most after the first `at` bytes, and answers where it ends.
 #[inline(always)]
-pub fn put_at_once<A: Allocator + Copy>(
+pub fn put_at_once<C, A: Allocator + Copy>(
     quad: &QuadRef<'_>,
     form: &WrittenForm<'_>,
     room: usize,
@@ -39,7 +39,28 @@ pub fn put_at_once<A: Allocator + Copy>(
     ensures unchanged { OnErr result (out.new.items ≡ out.old.items) }
 {
     make_room(out, at, room)?;
-    Ok(place_line(out.as_mut_slice(), at, quad, form))
+    Ok(place_line::<C>(out.as_mut_slice(), at, quad, form))
+}
+
+/// Puts the line of three IRIs in the default graph, which takes so many bytes at most, in the same way. Nothing is asked
+/// of the terms.
+#[inline(always)]
+pub fn put_iris_at_once<A: Allocator + Copy>(
+    subject: IriView<'_>,
+    predicate: IriView<'_>,
+    object: IriView<'_>,
+    room: usize,
+    at: usize,
+    out: &mut Vec<u8, A>,
+) -> Result<usize, AllocError>
+    requires at { at ≤ length out.old.items }
+    requires room { iris_room subject predicate object ≤ room }
+    requires short { room ≤ 32768 }
+    ensures written { IfOk result (λ end. WrittenAt out.old.items out.new.items at (iris_bytes subject.entry predicate.entry object.entry) end) }
+    ensures unchanged { OnErr result (out.new.items ≡ out.old.items) }
+{
+    make_room(out, at, room)?;
+    Ok(place_iris(out.as_mut_slice(), at, subject, predicate, object))
 }
 
 /// Appends bytes of any value, where fewer than these come after the first `at`.
@@ -68,15 +89,33 @@ fn make_room<A: Allocator + Copy>(
 
 // Each part and a space, then the dot and LF: where the line ends.
 #[inline(always)]
-fn place_line(slot: &mut [u8], at: usize, quad: &QuadRef<'_>, form: &WrittenForm<'_>) -> usize
+fn place_line<C>(slot: &mut [u8], at: usize, quad: &QuadRef<'_>, form: &WrittenForm<'_>) -> usize
     requires plain { form.now.escapes ≡ Plain }
     requires room { at + line_room (length form.now.prefix.word.now) quad.now ≤ length slot.old }
     ensures { Placed slot.old slot.new at (line_bytes (form_of form.now) quad.now) result }
 {
     let second = place_subject(slot, at, &quad.subject, form);
-    let third = place_predicate(slot, second, quad.predicate);
-    let fourth = place_object(slot, third, &quad.object, form);
+    let third = place_spaced(slot, second, quad.predicate);
+    let fourth = place_object::<C>(slot, third, &quad.object, form);
     let last = place_graph(slot, fourth, &quad.graph, form);
+    place_two(slot, last, b'.', b'\n')
+}
+
+// The same of three IRIs in the default graph.
+#[inline(always)]
+fn place_iris(
+    slot: &mut [u8],
+    at: usize,
+    subject: IriView<'_>,
+    predicate: IriView<'_>,
+    object: IriView<'_>,
+) -> usize
+    requires { at + iris_room subject predicate object ≤ length slot.old }
+    ensures { Placed slot.old slot.new at (iris_bytes subject.entry predicate.entry object.entry) result }
+{
+    let second = place_spaced(slot, at, subject);
+    let third = place_spaced(slot, second, predicate);
+    let last = place_spaced(slot, third, object);
     place_two(slot, last, b'.', b'\n')
 }
 
@@ -110,12 +149,12 @@ fn place_name(slot: &mut [u8], at: usize, name: &SubjectRef<'_>, form: &WrittenF
 }
 
 #[inline(always)]
-fn place_predicate(slot: &mut [u8], at: usize, predicate: IriView<'_>) -> usize
-    requires { at + (length predicate.text.now + 3) ≤ length slot.old }
-    ensures placed { Placed slot.old slot.new at (iri_bytes Plain predicate.entry ++ space) result }
-    ensures within { result ≤ at + (length predicate.entry.text.now + 3) }
+fn place_spaced(slot: &mut [u8], at: usize, iri: IriView<'_>) -> usize
+    requires { at + (length iri.text.now + 3) ≤ length slot.old }
+    ensures placed { Placed slot.old slot.new at (iri_bytes Plain iri.entry ++ space) result }
+    ensures within { result ≤ at + (length iri.entry.text.now + 3) }
 {
-    let end = place_iri(slot, at, predicate);
+    let end = place_iri(slot, at, iri);
     place_byte(slot, end, b' ')
 }
 
@@ -143,7 +182,7 @@ fn place_node(slot: &mut [u8], at: usize, node: &NodeRef<'_>, form: &WrittenForm
     }
 }
 
-// Apart, as offsets and strings are, so that lines of IRIs run through less code.
+// Apart, as offsets are, so that lines of IRIs run through less code.
 #[inline(never)]
 fn place_label(slot: &mut [u8], at: usize, label: LabelView<'_>, form: &WrittenForm<'_>) -> usize
     requires { at + (length label.text.now + length form.now.prefix.word.now + 3) ≤ length slot.old }
@@ -197,18 +236,23 @@ fn place_start(slot: &mut [u8], at: usize, word: &str) -> usize
 }
 
 #[inline(always)]
-fn place_object(slot: &mut [u8], at: usize, object: &TermRef<'_>, form: &WrittenForm<'_>) -> usize
+fn place_object<C>(
+    slot: &mut [u8],
+    at: usize,
+    object: &TermRef<'_>,
+    form: &WrittenForm<'_>,
+) -> usize
     requires plain { form.now.escapes ≡ Plain }
     requires room { at + (2 * term_room object.now + length form.now.prefix.word.now + 7) ≤ length slot.old }
     ensures placed { Placed slot.old slot.new at (term_bytes (form_of form.now) object.now ++ space) result }
     ensures within { result ≤ at + (2 * term_room object.now + length form.now.prefix.word.now + 7) }
 {
-    let end = place_term(slot, at, object, form);
+    let end = place_term::<C>(slot, at, object, form);
     place_byte(slot, end, b' ')
 }
 
 #[inline(always)]
-fn place_term(slot: &mut [u8], at: usize, term: &TermRef<'_>, form: &WrittenForm<'_>) -> usize
+fn place_term<C>(slot: &mut [u8], at: usize, term: &TermRef<'_>, form: &WrittenForm<'_>) -> usize
     requires plain { form.now.escapes ≡ Plain }
     requires room { at + (2 * term_room term.now + length form.now.prefix.word.now + 6) ≤ length slot.old }
     ensures placed { Placed slot.old slot.new at (term_bytes (form_of form.now) term.now) result }
@@ -217,12 +261,13 @@ fn place_term(slot: &mut [u8], at: usize, term: &TermRef<'_>, form: &WrittenForm
     match term {
         TermRef::Iri(iri) => place_iri(slot, at, *iri),
         TermRef::Node(node) => place_node(slot, at, node, form),
-        TermRef::Literal(literal) => place_literal(slot, at, literal),
+        TermRef::Literal(literal) => place_literal::<C>(slot, at, literal),
     }
 }
 
-#[inline(never)]
-fn place_literal(slot: &mut [u8], at: usize, literal: &LiteralRef<'_>) -> usize
+// It is too large for LLVM to take a mark for it, and stands in its caller where it is called once: hence an instance
+// for each, as `put_plain` has.
+fn place_literal<C>(slot: &mut [u8], at: usize, literal: &LiteralRef<'_>) -> usize
     requires room { at + (2 * (length literal.now.lexical.now + tail_room literal.now.tail) + 6) ≤ length slot.old }
     ensures placed { Placed slot.old slot.new at (string_bytes_of Plain literal.now.lexical.now ++ tail_bytes Plain literal.now.tail) result }
     ensures within { result ≤ at + (2 * (length literal.now.lexical.now + tail_room literal.now.tail) + 6) }

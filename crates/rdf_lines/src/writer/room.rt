@@ -1,9 +1,9 @@
 // How much room a line takes at most, where its texts are short.
 
 ghost use Rattle.std.specs.Prelude.{◌≡◌, ◌+◌, ◌^◌, ◌<◌, ◌≤◌, length, IfSome};
-ghost use Rattle.rdf_lines.specs.Placing.{graph_room, line_room, node_room, subject_room, tail_room, term_room};
+ghost use Rattle.rdf_lines.specs.Placing.{graph_room, iris_room, line_room, node_room, subject_room, tail_room, term_room};
 
-use rdf_terms::{LiteralRef, NodeRef, QuadRef, SubjectRef, TailRef, TermRef};
+use rdf_terms::{IriView, LiteralRef, NodeRef, QuadRef, SubjectRef, TailRef, TermRef};
 
 /// The most bytes that the names of a short line have, and those of its graph and of the word in front of each name.
 const SHORT: usize = 512;
@@ -24,6 +24,24 @@ pub fn short_room(quad: &QuadRef<'_>, word: &str) -> Option<usize>
         return None;
     }
     Some(names + 2 * object + others + 2 * word.len() + 20)
+}
+
+/// The bytes of the line of three IRIs in the default graph, in which none becomes two, or None where a text is long.
+#[inline(always)]
+pub fn short_iris(
+    subject: IriView<'_>,
+    predicate: IriView<'_>,
+    object: IriView<'_>,
+) -> Option<usize>
+    ensures room { IfSome result (λ room. iris_room subject.entry predicate.entry object.entry ≤ room) }
+    ensures short { IfSome result (λ room. room ≤ 32768) }
+{
+    let names = subject.as_bytes().len() + predicate.as_bytes().len();
+    let object = object.as_bytes().len();
+    if names > SHORT || object > SHORT_OBJECT {
+        return None;
+    }
+    Some(names + object + 11)
 }
 
 #[inline(always)]

@@ -7,13 +7,13 @@ use Rattle.rdf_trig.proofs.code.DueQuads.{given_listed}
 use Rattle.rdf_trig.proofs.code.TurnsLemmas.{if_err}
 use Rattle.rdf_trig.proofs.give.give_listed.Goals as goal
 
-pub returns-in-Some-clause-err : goal.returns-in-Some-clause-err
-returns-in-Some-clause-err g c =
+pub returns-in-Some-due_object-clause-err : goal.returns-in-Some-due_object-clause-err
+returns-in-Some-due_object-clause-err g c =
     let takes = g.S.QuadSink.takes in
     let leaves = g.S.QuadSink.leaves in
     let failed = g.S.QuadSink.has_failed in
     let n = c.args.state.now in
-    let due : Some (term_by chars c.in-Some.object) ≡ due_term n n.mode c.args.token.now = c.in-Some.ensures in
-    if_err c.put-in-Some.result _ _ (λ r h form s. subst (λ qs. GaveUp takes leaves failed r qs c.args.sink.now c.put-in-Some.new.sink)
-    (sym (given_listed form s n c.args.token.now _ (Some (quad_of c.quad_listed-in-Some.result)) c.requires.after due c.quad_listed-in-Some.ensures)) h)
-    c.put-in-Some.ensures.err
+    let due : Some (term_by chars c.in-Some-due_object.object) ≡ due_term n n.mode c.args.token.now = c.in-Some-due_object.ensures in
+    if_err c.put.result _ _ (λ r h form s. subst (λ qs. GaveUp takes leaves failed r qs c.args.sink.now c.put.new.sink)
+    (sym (given_listed form s n c.args.token.now _ (Some (quad_of c.quad_listed.result)) c.requires.after due c.quad_listed.ensures)) h)
+    c.put.ensures.err

@@ -6,7 +6,7 @@ use Rattle.rdf_terms.proofs.Places.{Placed-as}
 use Rattle.rdf_lines.proofs.writer.at_once.place_term.Goals as goal
 
 pub returns-in-Literal-clause-placed : goal.returns-in-Literal-clause-placed
-returns-in-Literal-clause-placed c =
+returns-in-Literal-clause-placed g c =
     let form = form_of c.args.form.now in
     let literal = c.in-Literal.literal in
     let plain = c.requires.plain in

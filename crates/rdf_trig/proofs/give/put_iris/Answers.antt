@@ -1,0 +1,15 @@
+use Rattle.std.proofs.Common.{[], ◌∷◌, refl, inl, sym, ap, ◌∙◌, Err}
+use Rattle.std.proofs.lemmas.Bool.{false_from_ne_true}
+use Rattle.rdf_terms.specs.Views.{iris_quad, quad_of}
+use Rattle.rdf_trig.proofs.give.put_iris.Goals as goal
+
+pub returns-in-Err-Memory-clause-err : goal.returns-in-Err-Memory-clause-err
+returns-in-Err-Memory-clause-err g c =
+    let memory = c.in-Err-Memory.is ∙ ap Err c.in-Err-Memory.field-0-is in
+    let quad = quad_of (iris_quad c.args.subject c.args.predicate c.args.object) in
+    ((quad ∷ [], [], refl, inl (refl, c.in-Err-Memory.ensures.left)), false_from_ne_true _ (λ h. let z = sym memory ∙ c.put_iris.ensures.device.0 h in cc))
+
+pub returns-in-Err-Device-clause-err : goal.returns-in-Err-Device-clause-err
+returns-in-Err-Device-clause-err g c =
+    let quad = quad_of (iris_quad c.args.subject c.args.predicate c.args.object) in
+    ((quad ∷ [], [], refl, inl (refl, c.in-Err-Device.ensures.left)), c.put_iris.ensures.device.1 (c.in-Err-Device.is ∙ ap Err c.in-Err-Device.field-0-is))
