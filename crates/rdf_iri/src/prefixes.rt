@@ -1,6 +1,6 @@
 // The prefixes that are bound, and their IRIs.
 
-ghost use Rattle.std.specs.Prelude.{◌≡◌, ◌≤◌, ◌<◌, ◌+◌, ◌*◌, ◌^◌, ℕ, List, [], Some, None, OnOk, OnErr, MatchBool, MatchOption, length};
+ghost use Rattle.std.specs.Prelude.{◌≡◌, ◌≤◌, ◌<◌, ◌+◌, ◌*◌, ◌^◌, ℕ, List, [], Some, None, IfSome, OnOk, OnErr, MatchBool, MatchOption, length};
 ghost use Rattle.std.specs.List.{sum_by};
 ghost use Rattle.std.specs.Str.{chars, bytes_eq};
 ghost use Rattle.rdf_iri.specs.Texts.{byte_len};
@@ -56,7 +56,22 @@ impl<A: Allocator> Prefixes<A> {
         }
     }
 
-    /// The same where the row has many.
+    /// The same of a short prefix where few are bound. Else it tells nothing. It calls nothing, so that a function that does without other calls too
+    /// saves no registers.
+    #[inline(always)]
+    pub(crate) fn get_short(&self, prefix: &str) -> Option<&Iri<A>>
+        ensures { IfSome result (λ iri. bound_to self.now (chars prefix.now) ≡ Some iri.now) }
+    {
+        if self.row.len() > ROW || prefix.len() > SHORT {
+            return None;
+        }
+        match place_in(&self.row, prefix) {
+            Some(place) => Some(&self.row[place].1),
+            None => None,
+        }
+    }
+
+    /// What `get` does where the row has many.
     #[inline(never)]
     fn get_of_many(&self, prefix: &str) -> Option<&Iri<A>>
         ensures { text_of result ≡ bound_to self.now (chars prefix.now) }

@@ -1,6 +1,6 @@
 // The scope of a document: a base and prefixes.
 
-ghost use Rattle.std.specs.Prelude.{◌≡◌, ◌≢◌, ℕ, List, Some, ◌++◌, ◌*◌, ◌≤◌, [], IfOk, IfErr, OnOk, OnErr, MatchBool, length};
+ghost use Rattle.std.specs.Prelude.{◌≡◌, ◌≢◌, ℕ, List, Some, true, ◌++◌, ◌*◌, ◌≤◌, [], IfOk, IfErr, OnOk, OnErr, MatchBool, length};
 ghost use Rattle.std.specs.Str.{chars};
 ghost use Rattle.std.specs.String.{string_bytes};
 ghost use Rattle.rdf_terms.specs.Local.{without_backslashes};
@@ -208,7 +208,31 @@ impl<A: Allocator + Copy> Scope<A> {
     }
 
     /// Puts the IRI of a name in place of a text, in the memory that the text has. After an error nothing is known of the text.
+    ///
+    /// What most names take is here without a call but the last one, which goes on in place of this: so no registers are saved.
+    #[inline(never)]
     pub fn expand_into(
+        &self,
+        prefix: &str,
+        local: &str,
+        text: &mut TextBuffer<A>,
+    ) -> Result<(), IriFault>
+        requires { IsIriText (chars local.now) }
+        ensures expanded { OnOk result (ExpandsHere self.now (chars prefix.now) (chars local.now) (chars text.new)) }
+        ensures is_iri { OnOk result (IsIri (chars text.new)) }
+        ensures refused { IfErr result (NotExpanded self.now (chars prefix.now) (chars local.now)) }
+    {
+        if let Some(front) = self.names.get_short(prefix) {
+            if put_short_joined(text, front, local, self.limits.iri()) {
+                return Ok(());
+            }
+        }
+        self.expand_apart(prefix, local, text)
+    }
+
+    /// The same of any name.
+    #[inline(never)]
+    fn expand_apart(
         &self,
         prefix: &str,
         local: &str,
@@ -225,7 +249,7 @@ impl<A: Allocator + Copy> Scope<A> {
         put_joined(text, front, local, self.limits.iri())
     }
 
-    /// The same of a local part as it is written, with the backslashes of its escapes. Where memory is short it is not known whether the
+    /// What `expand_into` does with a local part as it is written, with the backslashes of its escapes. Where memory is short it is not known whether the
     /// IRI is within the limit.
     pub fn expand_escaped_into(
         &self,
@@ -288,4 +312,21 @@ fn put_joined<A: Allocator + Copy>(
     }
     text.put_joined(front, local)?;
     Ok(())
+}
+
+/// The same of short texts, without a call. It says whether it did; it puts nothing where they are long, or pass the limit, or want more memory.
+#[inline(always)]
+fn put_short_joined<A: Allocator + Copy>(
+    text: &mut TextBuffer<A>,
+    front: &Iri<A>,
+    local: &str,
+    limit: u64,
+) -> bool
+    requires { IsIriText (chars local.now) }
+    ensures joined { result ≡ true → chars text.new ≡ front.now ++ chars local.now }
+    ensures is_iri { result ≡ true → IsIri (chars text.new) }
+    ensures within { result ≡ true → byte_len (chars text.new) ≤ limit }
+{
+    let front = front.as_str();
+    (front.len() + local.len()) as u64 <= limit && text.put_short_joined(front, local)
 }

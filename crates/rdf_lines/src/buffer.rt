@@ -1,6 +1,6 @@
 // Lines in memory that is filled once and used again.
 
-ghost use Rattle.std.specs.Prelude.{◌≡◌, ◌↔◌, ◌≤◌, ◌++◌, [], length, take, encode_utf8_all, IfOk, OnErr, OnOk};
+ghost use Rattle.std.specs.Prelude.{◌≡◌, ◌↔◌, ◌≤◌, ◌++◌, [], length, take, true, false, encode_utf8_all, IfOk, OnErr, OnOk};
 ghost use Rattle.std.specs.Result.{IsErrOf};
 ghost use Rattle.rdf_terms.specs.Views.{iris_quad, quad_of};
 ghost use Rattle.rdf_lines.specs.Escaped.{PassesInto};
@@ -12,7 +12,7 @@ use crate::canonical::end_tokens;
 use crate::escaped::{EscapedLine, Unpassed, Values, escaped_line};
 use crate::form::{Escapes, LineEnding, Style, WrittenForm};
 use crate::grammar::LineGrammar;
-use crate::writer::{LabelFault, Usual, put_iris, put_quad};
+use crate::writer::{LabelFault, Usual, put_iris, put_quad, put_short_iris};
 use rdf_driver::Reader;
 use rdf_terms::place::place_all;
 use rdf_terms::{IriView, QuadRef};
@@ -146,6 +146,30 @@ impl<A: Allocator + Copy> LineBuffer<A> {
     {
         self.len = put_iris(subject, predicate, object, &form, self.len, &mut self.bytes)?;
         Ok(())
+    }
+
+    /// What `put_iris` does in the plain form, where each text is short and memory for the longest line of such is filled. Else it puts nothing. It calls
+    /// nothing, so that a function that does without other calls too saves no registers.
+    #[inline(always)]
+    pub fn put_short_iris(
+        &mut self,
+        subject: IriView<'_>,
+        predicate: IriView<'_>,
+        object: IriView<'_>,
+        form: WrittenForm<'_>,
+    ) -> bool
+        ensures written { result ≡ true → self.new ≡ self.old ++ encode_utf8_all (line_in (form_of form.entry)
+            (quad_of (iris_quad subject.entry predicate.entry object.entry))) }
+        ensures unchanged { result ≡ false → self.new ≡ self.old }
+    {
+        let slot = self.bytes.as_mut_slice();
+        match put_short_iris(subject, predicate, object, &form, self.len, slot) {
+            Some(end) => {
+                self.len = end;
+                true
+            }
+            None => false,
+        }
     }
 
     /// Passes the line that the text begins with, as `pass_escaped` does, and answers how many bytes it has, or none. Where memory is refused, it is not passed.

@@ -10,7 +10,7 @@ mod string;
 mod term;
 pub(crate) mod writable;
 
-ghost use Rattle.std.specs.Prelude.{◌≡◌, ◌↔◌, ◌∷◌, ◌++◌, ◌≤◌, chars, encode_utf8_all, length, string_bytes, IfOk, OnErr, OnOk};
+ghost use Rattle.std.specs.Prelude.{◌≡◌, ◌↔◌, ◌∷◌, ◌++◌, ◌≤◌, chars, encode_utf8_all, length, string_bytes, None, IfOk, IfSome, OnErr, OnOk};
 ghost use Rattle.std.specs.Result.{IsErrOf};
 ghost use Rattle.rdf_terms.specs.Views.{iris_quad, node_of, quad_of};
 ghost use Rattle.rdf_lines.specs.declared.form.Escapes.TheVariants.{Plain};
@@ -21,7 +21,7 @@ ghost use Rattle.rdf_lines.specs.WrittenBytes.{line_bytes};
 ghost use Rattle.rdf_lines.specs.Writing.{CanWrite, CanWriteNode, line, node_text, rename_node};
 
 use crate::form::{Escapes, Style, WrittenForm};
-use at_once::{put_at_once, put_iris_at_once};
+use at_once::{put_at_once, put_few_at_once, put_iris_at_once};
 use itoa::Buffer;
 use line::put_in_parts;
 use rdf_terms::{IriView, NodeRef, QuadRef};
@@ -159,6 +159,27 @@ pub(crate) fn put_iris<A: Allocator + Copy>(
         }
     }
     put_apart(&QuadRef::of_iris(subject, predicate, object), form, at, out)
+}
+
+/// What `put_iris` does in the plain form, where each text is short and the bytes have room for any such line. Else it puts nothing. It calls nothing.
+#[inline(always)]
+pub(crate) fn put_short_iris(
+    subject: IriView<'_>,
+    predicate: IriView<'_>,
+    object: IriView<'_>,
+    form: &WrittenForm<'_>,
+    at: usize,
+    slot: &mut [u8],
+) -> Option<usize>
+    requires { at ≤ length slot.old }
+    ensures written { IfSome result (λ end. WrittenAt slot.old slot.new at
+        (line_bytes (form_of form.now) (iris_quad subject.entry predicate.entry object.entry)) end) }
+    ensures unchanged { result ≡ None → slot.new ≡ slot.old }
+{
+    match form.escapes {
+        Escapes::Plain => put_few_at_once(subject, predicate, object, at, slot),
+        Escapes::Ascii => None,
+    }
 }
 
 // Part by part, since in ASCII each may have escapes. What stood after the first `at` bytes is cut off.

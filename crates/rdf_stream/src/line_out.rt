@@ -249,9 +249,40 @@ impl<'a, D: Drain, A: Allocator + Copy> LineOut<'a, D, A> {
         }
     }
 
-    // The same of three IRIs in the default graph.
+    // The same of three IRIs in the default graph. What most lines take is here without a call.
     #[inline(always)]
     fn put_line_of_iris(
+        &mut self,
+        subject: IriView<'_>,
+        predicate: IriView<'_>,
+        object: IriView<'_>,
+    ) -> Result<(), PutFault>
+        requires live { D.has_failed self.old.drain.now ≡ false }
+        ensures taken { OnOk result (TakesBytes D.contents D.has_failed self.old
+            (line_of self.old.form.lines (iris_quad subject.entry predicate.entry object.entry)) self.new) }
+        ensures left { OnErr result (LeavesBytes D.contents D.has_failed self.old
+            (line_of self.old.form.lines (iris_quad subject.entry predicate.entry object.entry)) self.new) }
+        ensures device { (D.has_failed self.new.drain.now ≡ true) ↔ (result ≡ Err PutFault.Device) }
+    {
+        let lines = self.form.lines;
+        if !self
+            .buffer
+            .put_short_iris(subject, predicate, object, lines)
+        {
+            return self.put_long_iris(subject, predicate, object);
+        }
+        if self.buffer.len() < WAITING_LEN {
+            return Ok(());
+        }
+        match self.hand_over() {
+            Ok(()) => Ok(()),
+            Err(Failed) => Err(PutFault::Device),
+        }
+    }
+
+    // Puts the line of three IRIs of any length.
+    #[inline(never)]
+    fn put_long_iris(
         &mut self,
         subject: IriView<'_>,
         predicate: IriView<'_>,
@@ -292,6 +323,24 @@ impl<'a, D: Drain, A: Allocator + Copy> LineOut<'a, D, A> {
         self.put_line::<InGraph>(&in_graph(quad, self.form.graph))
     }
 
+    // The same of three IRIs.
+    #[inline(never)]
+    fn put_iris_in_graph(
+        &mut self,
+        subject: IriView<'_>,
+        predicate: IriView<'_>,
+        object: IriView<'_>,
+    ) -> Result<(), PutFault>
+        requires live { D.has_failed self.old.drain.now ≡ false }
+        ensures taken { OnOk result (TakesBytes D.contents D.has_failed self.old
+            (line_bytes self.old.form (quad_of (iris_quad subject.entry predicate.entry object.entry))) self.new) }
+        ensures left { OnErr result (LeavesBytes D.contents D.has_failed self.old
+            (line_bytes self.old.form (quad_of (iris_quad subject.entry predicate.entry object.entry))) self.new) }
+        ensures device { (D.has_failed self.new.drain.now ≡ true) ↔ (result ≡ Err PutFault.Device) }
+    {
+        self.put_in_graph(&QuadRef::of_iris(subject, predicate, object))
+    }
+
     /// Puts the line of a token.
     #[inline(always)]
     pub(crate) fn put_token(&mut self, token: Token<'_>) -> Result<(), PutFault>
@@ -329,8 +378,8 @@ impl<'a, D: Drain, A: Allocator + Copy> QuadSink for LineOut<'a, D, A> {
         self.put_in_graph(quad)
     }
 
-    // A call, whose arguments are in registers. Each call in it is lent a quad of its own, which LLVM makes up in memory
-    // where that call is made, and that is hardly ever.
+    // A call, whose arguments are in registers. What most lines take calls nothing, and nothing here is lent a quad, which
+    // LLVM would make up in memory first. So it saves no registers.
     #[inline(never)]
     fn put_iris(
         &mut self,
@@ -342,7 +391,7 @@ impl<'a, D: Drain, A: Allocator + Copy> QuadSink for LineOut<'a, D, A> {
         if self.form.graph.is_none() {
             return self.put_line_of_iris(subject, predicate, object);
         }
-        self.put_in_graph(&QuadRef::of_iris(subject, predicate, object))
+        self.put_iris_in_graph(subject, predicate, object)
     }
 
     fn failed(&self) -> bool {

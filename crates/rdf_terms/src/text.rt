@@ -1,6 +1,6 @@
 // Texts in memory that is filled once and used again.
 
-ghost use Rattle.std.specs.Prelude.{◌≡◌, ◌+◌, ◌++◌, ◌≤◌, [], length, take, IsUtf8, OnOk};
+ghost use Rattle.std.specs.Prelude.{◌≡◌, ◌+◌, ◌++◌, ◌≤◌, [], length, take, true, false, IsUtf8, OnOk};
 ghost use Rattle.std.specs.Str.{chars, encode_utf8_all, IsCharBoundary};
 ghost use Rattle.rdf_terms.specs.Local.{without_backslashes};
 ghost use Rattle.rdf_terms.specs.Placing.{Placed};
@@ -11,6 +11,9 @@ use std::marker::Model;
 
 /// How many bytes are filled at least.
 const LEAST_LEN: usize = 64;
+
+/// A text of so many bytes or fewer is placed without a loop.
+const SHORT: usize = 64;
 
 /// A text. It differs from a `String` in cost alone: its memory stays filled, and the next text is placed over what stands there
 /// by a few wide stores, where a `String` would append it by calls.
@@ -123,6 +126,23 @@ impl<A: Allocator + Copy> TextBuffer<A> {
         fill(&mut self.bytes, front.len() + back.len())?;
         self.len = place_joined(self.bytes.as_mut_slice(), front, back);
         Ok(())
+    }
+
+    /// What `put_joined` does where each text is short and memory for both is filled. Else it puts nothing. It calls nothing, so that a function that
+    /// does without other calls too saves no registers.
+    #[inline(always)]
+    pub fn put_short_joined(&mut self, front: &str, back: &str) -> bool
+        ensures joined { result ≡ true → self.new ≡ front.now ++ back.now }
+        ensures unchanged { result ≡ false → self.new ≡ self.old }
+    {
+        if front.len() > SHORT
+            || back.len() > SHORT
+            || front.len() + back.len() > self.bytes.len()
+        {
+            return false;
+        }
+        self.len = place_joined(self.bytes.as_mut_slice(), front, back);
+        true
     }
 
     /// Appends a text. After an error nothing is known of what stands here.

@@ -123,7 +123,7 @@ fn take(alloc: Global, scanner: &mut Scanner, step: Step) -> Answer {
 }
 
 /// What is done with a scanner, and what it answers.
-static STEPS: [(Step, Answer); 292] = [
+static STEPS: [(Step, Answer); 301] = [
     // The longer look sees less frequent tokens too, and those at the end of the text, but none behind more than a space.
     (Step::Start(Dialect::Turtle, 64), Answer::Started),
     (
@@ -207,7 +207,21 @@ static STEPS: [(Step, Answer); 292] = [
     (Step::PassLineFeed, Answer::Passed),
     (Step::See, Answer::Unseen),
     (Step::Next, Answer::Token(Kind::Semicolon, 62, 8, 1)),
-    // So are these, and any of them once white space and comments are passed.
+    // Two line feeds are passed too, with the indentation after them.
+    (Step::Push(b"\n\n  ,\n\n;"), Answer::Took(8)),
+    (Step::PassLineFeed, Answer::Passed),
+    (Step::See, Answer::Token(Kind::Comma, 67, 10, 1)),
+    (Step::PassLineFeed, Answer::Passed),
+    (Step::Next, Answer::Token(Kind::Semicolon, 70, 12, 1)),
+    // A tag is seen with all its parts.
+    (
+        Step::Push(b" @de-CH-1996 @a-b-c1-d @a- ;"),
+        Answer::Took(28),
+    ),
+    (Step::See, Answer::Token(Kind::LangTag, 72, 12, 11)),
+    (Step::See, Answer::Token(Kind::LangTag, 84, 12, 9)),
+    (Step::See, Answer::Unseen),
+    // Decimals and braces are seen too, and each token once the white space and comments before it are passed.
     (Step::Start(Dialect::Turtle, 64), Answer::Started),
     (
         Step::Push(b"; @en 1.5 { } :x : .\n \t# a\n  y:z ;"),

@@ -1,4 +1,4 @@
--- Language tags of one part or two: the states over their letters and digits, and after the byte that ends them.
+-- Language tags: the states over their letters and digits, and after the byte that ends them.
 use Rattle.std.proofs.Common.{◌≡◌, ℕ, ◌+◌, ◌<◌, Bool, true, false, cond, nat_lt, List, [], ◌∷◌, ◌&&◌, ◌||◌, ◌==◌, not, refl, sym, ap, ◌∙◌, subst, length, get_or, drop, arith, Option, Some, None, IsUtf8}
 use Rattle.std.proofs.lemmas.Bool.{agree_below, agree_below_at, and_parts, false≢true, eqb-true, ltb-true}
 use Rattle.std.proofs.lemmas.Bool.Decides.{nat_tests}
@@ -13,12 +13,14 @@ use Rattle.rdf_terms.specs.Runs.{IsRun}
 use Rattle.rdf_terms.specs.Values.{is_fit}
 use Rattle.rdf_tokens.specs.declared.states.machine.State.{State}
 use Rattle.rdf_tokens.specs.declared.states.machine.State.TheVariants.{Start, Tag}
+use Rattle.rdf_tokens.specs.declared.states.tag.Tag.{Tag as PartOfTag}
 use Rattle.rdf_tokens.specs.declared.states.tag.Tag.TheVariants as tag
 use Rattle.rdf_tokens.specs.Tokens.{three_quotes, only_long}
 use Rattle.rdf_tokens.specs.Fixed.{left, is_begun, live_by, rows_of}
 use Rattle.rdf_tokens.specs.Front.{Reached, Rests, longer_front, begins, front_by}
 use Rattle.rdf_tokens.specs.Machine.{step}
-use Rattle.rdf_tokens.specs.Quick.{IsToken, stands_at, begins_directive, begins_tag, is_part_byte, ends_tag, is_tag_end, is_later_end}
+use Rattle.rdf_tokens.specs.Quick.{IsLaterPart, IsTagTo, IsToken, begins_directive, begins_tag, is_part_byte, ends_tag, is_tag_end}
+use Rattle.rdf_tokens.specs.Tag.{accepts}
 use Rattle.rdf_tokens.proofs.NoNamesLemmas.{implied}
 use Rattle.rdf_tokens.proofs.NumberQuick.{first_rows}
 use Rattle.rdf_tokens.proofs.PlainQuick.{byte_on, quotes_of}
@@ -105,14 +107,17 @@ rests_part bs at end r =
     rests_run (Tag tag.Part) is_part_byte bs at end r (λ d c l e. (part_steps d c e).1) (λ d c b l h e. absurd (let x = low_part b e in omega arith))
     (λ b x h p e. absurd (let y = low_part b p in omega arith))
 
--- the steps of '@' and of a hyphen
+-- the steps of '@', and of a hyphen after a part
 at_sign : (d : Dialect) → Tag tag.At ≡ step d Start 64
 at_sign Lines = refl
 at_sign Turtle = refl
 
-hyphen : (d : Dialect) → Tag tag.Hyphen ≡ step d (Tag tag.Letters) 45
-hyphen Lines = refl
-hyphen Turtle = refl
+hyphen : (d : Dialect) (p : PartOfTag) → accepts p ≡ true → Tag tag.Hyphen ≡ step d (Tag p) 45
+hyphen Lines tag.Letters e = refl
+hyphen Turtle tag.Letters e = refl
+hyphen Lines tag.Part e = refl
+hyphen Turtle tag.Part e = refl
+hyphen d p e = absurd (false≢true e)
 
 -- no tag has an escape
 tag-fit : (w : List ℕ) → is_fit LangTag w ≡ true
@@ -157,8 +162,8 @@ unspelled d (c ∷ []) l a e = absurd (omega arith)
 unspelled d (c ∷ x ∷ []) l a e = absurd (omega arith)
 unspelled d (c ∷ x ∷ y ∷ t) l a e = subst (λ c. (front_by (rows_of d fixed) (c ∷ x ∷ y ∷ t) ≡ None) × (live_by (rows_of d fixed) (c ∷ x ∷ y ∷ t) ≡ false)) (sym a) (no_directive d x y t e)
 
--- A text that begins a tag, and the run of letters in it.
-module _ (d : Dialect) (bs : List ℕ) (end : ℕ) (u : IsUtf8 bs) (e : begins_tag bs ≡ true) (r : IsRun is_letter bs 2 end) where
+-- A text that begins a tag.
+module _ (d : Dialect) (bs : List ℕ) (u : IsUtf8 bs) (e : begins_tag bs ≡ true) where
   three : 2 < length bs
   three = ltb-true 2 (length bs) (and_parts (nat_lt 2 (length bs)) _ e).0
 
@@ -176,50 +181,57 @@ module _ (d : Dialect) (bs : List ℕ) (end : ℕ) (u : IsUtf8 bs) (e : begins_t
   tag_here : Some LangTag ≡ only_long (three_quotes d (chars bs)) (Some LangTag)
   tag_here = sym (ap (λ x. only_long x (Some LangTag)) quotes)
 
-  -- the states after the letters
-  letters : Reached d bs end (Tag tag.Letters) (Some (end, LangTag))
-  letters =
+  -- the byte with which a tag ends is ASCII
+  ascii : (at : ℕ) → is_tag_end bs at ≡ true → (at < length bs) × (get_or bs at 0 < 128) × (ends_tag (get_or bs at 0) ≡ true)
+  ascii at z =
+      let p = and_parts (nat_lt at (length bs)) _ z in
+      (ltb-true at (length bs) p.0, ltb-true (get_or bs at 0) 128 (and_parts _ _ p.1).0, p.1)
+
+  -- its first part
+  pub first_part : (end : ℕ) → IsRun is_letter bs 2 end → IsTagTo d bs end
+  first_part end r =
       let l = three in
       let a = is_64 in
       let c = get_or bs 1 0 in
       let first = first-none d bs (Tag tag.At) u (omega arith) (omega (arith, a)) (at_sign d ∙ sym (ap (step d Start) a)) refl in
       let second = byte_on d bs 1 (Tag tag.At) (Tag tag.Letters) (Some LangTag) None quotes (omega arith) (low_letter c begun.0) first (sym (letter_steps d c begun.0).0) refl in
-      reached-run d bs 2 end (Tag tag.Letters) (Some LangTag) None tag_here (rests_letters bs 2 end r) second
-
-  -- the token ends before a byte after which there is no tag
-  ended_at : (s : State) (to : ℕ) → Reached d bs to s (Some (to, LangTag)) → to < length bs → get_or bs to 0 < 128 → step d s (get_or bs to 0) ≡ Tag tag.Dead → IsToken d bs to LangTag
-  ended_at s to h i a x =
-      let n = unspelled d bs three is_64 (not_true _ begun.1) in
-      let over = byte_on d bs to s (Tag tag.Dead) None (Some (to, LangTag)) quotes i a h (sym x) refl in
-      settled d bs (to + 1) (Tag tag.Dead) (Some (to, LangTag)) None to LangTag u over refl (sym n.0) n.1 refl (tag-fit _)
-
-  -- a tag of one part
-  pub quick_tag : is_tag_end bs end ≡ true → IsToken d bs end LangTag
-  quick_tag z =
-      let p = and_parts (nat_lt end (length bs)) _ z in
-      let i : end < length bs = ltb-true end (length bs) p.0 in
       let x = get_or bs end 0 in
-      let ascii : x < 128 = ltb-true x 128 (and_parts _ _ p.1).0 in
-      ended_at (Tag tag.Letters) end letters i ascii
-      (no_tag-state _ (other (is_letter x) _ (implied (ends_tag x) _ (agree_below_at (letters_over d) (λ c. true) 128 x (letter_all d).1 ascii) p.1) (r.stops i)))
+      record {
+        part = tag.Letters;
+        whole = refl;
+        reached = reached-run d bs 2 end (Tag tag.Letters) (Some LangTag) None tag_here (rests_letters bs 2 end r) second;
+        over = λ z. let o = ascii end z in
+            no_tag-state _ (other (is_letter x) _ (implied (ends_tag x) _ (agree_below_at (letters_over d) (λ c. true) 128 x (letter_all d).1 o.1) o.2) (r.stops o.0));
+      }
 
-  -- a tag of two
-  pub quick_long_tag : (last : ℕ) → stands_at 45 bs end ≡ true → IsRun is_part_byte bs (end + 1) last → is_later_end bs end last ≡ true → IsToken d bs last LangTag
-  quick_long_tag last m q z =
-      let o = and_parts (nat_lt (end + 1) last) _ z in
-      let p = and_parts (nat_lt last (length bs)) _ o.1 in
-      let more : end + 1 < last = ltb-true (end + 1) last o.0 in
-      let i : last < length bs = ltb-true last (length bs) p.0 in
-      let x = get_or bs last 0 in
-      let ascii : x < 128 = ltb-true x 128 (and_parts _ _ p.1).0 in
-      let is_45 : get_or bs end 0 ≡ 45 = eqb-true (get_or bs end 0) 45 (and_parts (nat_lt end (length bs)) (get_or bs end 0 == 45) m).1 in
-      let at_hyphen : Reached d bs (end + 1) (Tag tag.Hyphen) (Some (end, LangTag)) =
-      byte_on d bs end (Tag tag.Letters) (Tag tag.Hyphen) None (Some (end, LangTag)) quotes (omega arith) (omega (arith, is_45)) letters (hyphen d ∙ sym (ap (step d (Tag tag.Letters)) is_45)) refl in
-      let c = get_or bs (end + 1) 0 in
-      let is_part : is_part_byte c ≡ true = q.pass (end + 1) (omega arith) more in
-      let first : Reached d bs (end + 1 + 1) (Tag tag.Part) (Some (end + 1 + 1, LangTag)) =
-      byte_on d bs (end + 1) (Tag tag.Hyphen) (Tag tag.Part) (Some LangTag) (Some (end, LangTag)) quotes (omega arith) (low_part c is_part) at_hyphen (sym (part_steps d c is_part).0) refl in
-      let within = q.within in
-      let rest : IsRun is_part_byte bs (end + 1 + 1) last = record { from = omega arith; within = within; pass = λ k a b. q.pass k (omega arith) b; stops = q.stops } in
-      ended_at (Tag tag.Part) last (reached-run d bs (end + 1 + 1) last (Tag tag.Part) (Some LangTag) None tag_here (rests_part bs (end + 1 + 1) last rest) first) i ascii
-      (no_tag-state _ (other (is_part_byte x) _ (implied (ends_tag x) _ (agree_below_at (part_over d) (λ c. true) 128 x (part_all d).1 ascii) p.1) (q.stops i)))
+  -- and one more
+  pub later_part : (at end : ℕ) → IsTagTo d bs at → IsLaterPart bs at end → IsTagTo d bs end
+  later_part at end t p =
+      let m = and_parts (nat_lt at (length bs)) (get_or bs at 0 == 45) p.hyphen in
+      let within = p.run.within in
+      let more = p.some in
+      let is_45 : get_or bs at 0 ≡ 45 = eqb-true (get_or bs at 0) 45 m.1 in
+      let at_hyphen : Reached d bs (at + 1) (Tag tag.Hyphen) (Some (at, LangTag)) =
+      byte_on d bs at (Tag t.part) (Tag tag.Hyphen) None (Some (at, LangTag)) quotes (omega arith) (omega (arith, is_45)) t.reached
+      (hyphen d t.part t.whole ∙ sym (ap (step d (Tag t.part)) is_45)) refl in
+      let c = get_or bs (at + 1) 0 in
+      let is_part : is_part_byte c ≡ true = p.run.pass (at + 1) (omega arith) more in
+      let first : Reached d bs (at + 1 + 1) (Tag tag.Part) (Some (at + 1 + 1, LangTag)) =
+      byte_on d bs (at + 1) (Tag tag.Hyphen) (Tag tag.Part) (Some LangTag) (Some (at, LangTag)) quotes (omega arith) (low_part c is_part) at_hyphen (sym (part_steps d c is_part).0) refl in
+      let rest : IsRun is_part_byte bs (at + 1 + 1) end = record { from = omega arith; within = within; pass = λ k a b. p.run.pass k (omega arith) b; stops = p.run.stops } in
+      let x = get_or bs end 0 in
+      record {
+        part = tag.Part;
+        whole = refl;
+        reached = reached-run d bs (at + 1 + 1) end (Tag tag.Part) (Some LangTag) None tag_here (rests_part bs (at + 1 + 1) end rest) first;
+        over = λ z. let o = ascii end z in
+            no_tag-state _ (other (is_part_byte x) _ (implied (ends_tag x) _ (agree_below_at (part_over d) (λ c. true) 128 x (part_all d).1 o.1) o.2) (p.run.stops o.0));
+      }
+
+  -- up to a byte with which none goes on it is the token
+  pub whole_tag : (at : ℕ) → IsTagTo d bs at → is_tag_end bs at ≡ true → IsToken d bs at LangTag
+  whole_tag at t z =
+      let o = ascii at z in
+      let n = unspelled d bs three is_64 (not_true _ begun.1) in
+      let over = byte_on d bs at (Tag t.part) (Tag tag.Dead) None (Some (at, LangTag)) quotes o.0 o.1 t.reached (sym (t.over z)) refl in
+      settled d bs (at + 1) (Tag tag.Dead) (Some (at, LangTag)) None at LangTag u over refl (sym n.0) n.1 refl (tag-fit _)

@@ -1,9 +1,9 @@
 -- White space and comments: whether a comment is open after them.
-use Rattle.std.specs.Prelude.{ℕ, Bool, true, false, cond, List, [], ◌∷◌, ◌==◌, ◌&&◌, nat_lt, not, is_some, length, get_or, Option, Some, None}
+use Rattle.std.specs.Prelude.{◌≡◌, ◌<◌, take, count_by, ℕ, Bool, true, false, cond, List, [], ◌∷◌, ◌==◌, ◌&&◌, nat_lt, not, is_some, length, get_or, Option, Some, None}
 use Rattle.rdf_terms.specs.declared.kind.Dialect.{Dialect}
 use Rattle.rdf_terms.specs.declared.kind.Dialect.TheVariants.{Turtle}
 use Rattle.rdf_terms.specs.Runs.{is_comment_byte}
-use Rattle.rdf_tokens.specs.Tokens.{is_line_end, is_space}
+use Rattle.rdf_tokens.specs.Tokens.{blank, is_line_end, is_space}
 
 -- where a character of white space or of a comment leads: whether a comment is open after it
 abbrev pub comment_step : Dialect → Bool → ℕ → Option Bool
@@ -31,3 +31,7 @@ is_bare bs at = nat_lt at (length bs) && not (is_some (comment_step Turtle false
 -- '#' stands at a place
 abbrev pub is_hash : List ℕ → ℕ → Bool
 is_hash bs at = nat_lt at (length bs) && get_or bs at 0 == 35
+
+-- where they are any, so many bytes are all the white space of Turtle that comes first, no comment comes after them, and so many are line feeds
+abbrev pub IsIndentation : List ℕ → ℕ → ℕ → Type 0
+IsIndentation bs n feeds = 0 < n → (blank Turtle false bs ≡ n) × (comment_after Turtle false bs ≡ false) × (count_by (λ b. b == 10) (take n bs) ≡ feeds)

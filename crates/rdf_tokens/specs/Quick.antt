@@ -5,7 +5,7 @@ use Rattle.std.specs.Str.{chars}
 use Rattle.rdf_terms.specs.declared.kind.Dialect.{Dialect}
 use Rattle.rdf_terms.specs.declared.kind.Dialect.TheVariants.{Lines, Turtle}
 use Rattle.rdf_terms.specs.declared.kind.Kind.{Kind}
-use Rattle.rdf_terms.specs.declared.kind.Kind.TheVariants.{Dot, LineEnd, Semicolon, Comma, OpenBracket, CloseBracket, OpenParen, CloseParen, OpenBrace, CloseBrace, True, False}
+use Rattle.rdf_terms.specs.declared.kind.Kind.TheVariants.{Dot, LineEnd, Semicolon, Comma, OpenBracket, CloseBracket, OpenParen, CloseParen, OpenBrace, CloseBrace, True, False, LangTag}
 use Rattle.rdf_terms.specs.Classes.{is_digit, is_letter, is_turtle, one_of}
 use Rattle.rdf_terms.specs.declared.runs.Run.{Run}
 use Rattle.rdf_terms.specs.declared.runs.Run.TheVariants.{QuoteText, SingleQuoteText, LongQuoteText, LongSingleQuoteText}
@@ -14,11 +14,15 @@ use Rattle.rdf_terms.specs.Shapes.{is_live}
 use Rattle.rdf_terms.specs.Values.{is_fit}
 use Rattle.rdf_tokens.specs.declared.front.NoNames.{NoNames}
 use Rattle.rdf_tokens.specs.declared.states.machine.State.TheVariants as state
+use Rattle.rdf_tokens.specs.declared.states.tag.Tag.{Tag}
+use Rattle.rdf_tokens.specs.declared.states.tag.Tag.TheVariants as tag
 use Rattle.rdf_tokens.specs.declared.states.text.Text.TheVariants as text
 use Rattle.rdf_tokens.specs.declared.states.text.Quote.{Quote}
 use Rattle.rdf_tokens.specs.declared.states.text.Quote.TheVariants.{Double, Single}
 use Rattle.rdf_tokens.specs.Tokens.{longest}
-use Rattle.rdf_tokens.specs.Front.{Rests, in_bytes}
+use Rattle.rdf_tokens.specs.Front.{Reached, Rests, in_bytes}
+use Rattle.rdf_tokens.specs.Machine.{step}
+use Rattle.rdf_tokens.specs.Tag.{accepts}
 
 -- The text begins with this token of so many bytes, and with no longer one, whatever may come after it. Its escapes are fit.
 pub record IsToken (d : Dialect) (bs : List ℕ) (n : ℕ) (k : Kind) : Type 0 where
@@ -235,6 +239,15 @@ ends_tag b = nat_lt b 128 && not (b == 45)
 abbrev pub is_tag_end : List ℕ → ℕ → Bool
 is_tag_end bs at = nat_lt at (length bs) && ends_tag (get_or bs at 0)
 
--- such a byte, and something between a hyphen and it
-abbrev pub is_later_end : List ℕ → ℕ → ℕ → Bool
-is_later_end bs hyphen at = nat_lt (hyphen + 1) at && is_tag_end bs at
+-- a hyphen stands at a place, and letters and digits between it and the end
+pub record IsLaterPart (bs : List ℕ) (at end : ℕ) : Type 0 where
+  pub hyphen : stands_at 45 bs at ≡ true
+  pub some : at + 1 < end
+  pub run : IsRun is_part_byte bs (at + 1) end
+
+-- the bytes before a place are a tag that goes on with a hyphen alone: where a byte that ends a tag stands there, it leads to no tag
+pub record IsTagTo (d : Dialect) (bs : List ℕ) (at : ℕ) : Type 0 where
+  pub part : Tag
+  pub whole : accepts part ≡ true
+  pub reached : Reached d bs at (state.Tag part) (Some (at, LangTag))
+  pub over : is_tag_end bs at ≡ true → step d (state.Tag part) (get_or bs at 0) ≡ state.Tag tag.Dead

@@ -3,7 +3,7 @@
 ghost use Rattle.std.specs.Prelude.{◌≡◌, ◌==◌, ◌<◌, ◌≤◌, true, false, cond, length, take, count_by};
 ghost use Rattle.std.specs.Str.{chars};
 ghost use Rattle.rdf_tokens.specs.Tokens.{blank, is_line_end as ends_line, is_space as spaces};
-ghost use Rattle.rdf_tokens.specs.Blank.{comment_step, comment_after, goes_on, is_bare, is_cut, is_hash};
+ghost use Rattle.rdf_tokens.specs.Blank.{comment_step, comment_after, goes_on, is_bare, is_cut, is_hash, IsIndentation};
 ghost use Rattle.rdf_terms.specs.Runs.{IsRun, is_comment_byte};
 ghost use Rattle.rdf_tokens.specs.Front.{bytes_of};
 ghost use Rattle.rdf_terms.specs.declared.kind.Dialect.{Dialect};
@@ -21,6 +21,15 @@ pub(crate) struct Blank {
     pub(crate) len: usize,
     /// They are the whole text, and a comment goes on after it.
     pub(crate) in_comment: bool,
+}
+
+/// White space that begins with a line feed.
+#[derive(Clone, Copy)]
+pub(crate) struct Indentation {
+    /// How many bytes it has.
+    pub(crate) len: usize,
+    /// How many line feeds are among them.
+    pub(crate) feeds: usize,
 }
 
 /// The white space and the comments at the front of a text that may begin in a comment.
@@ -139,27 +148,55 @@ fn is_one_byte(white: u8, dialect: Dialect, bytes: &[u8]) -> bool
     }
 }
 
-/// How many bytes a line feed of Turtle has with the spaces and tabs after it, where they are all the white space that comes first, and no comment
-/// comes after them. Else it is none.
-pub(crate) fn indented_len(text: &str) -> usize
-    ensures len { 0 < result → bytes_of (blank Turtle false (chars text.now)) (chars text.now) ≡ result }
-    ensures comment { 0 < result → comment_after Turtle false (chars text.now) ≡ false }
-    ensures feeds { 0 < result → count_by (λ c. c == 10) (take (blank Turtle false (chars text.now)) (chars text.now)) ≡ 1 }
+/// The white space at the front of a text of Turtle that is one line feed or two, and spaces and tabs after them, where neither more white space nor a
+/// comment comes then. Else it has no bytes.
+pub(crate) fn indented(text: &str) -> Indentation
+    ensures len { 0 < result.len → bytes_of (blank Turtle false (chars text.now)) (chars text.now) ≡ result.len }
+    ensures comment { 0 < result.len → comment_after Turtle false (chars text.now) ≡ false }
+    ensures feeds { 0 < result.len → count_by (λ c. c == 10) (take (blank Turtle false (chars text.now)) (chars text.now)) ≡ result.feeds }
 {
     indented_bytes(text.as_bytes())
 }
 
 #[inline(always)]
-fn indented_bytes(bytes: &[u8]) -> usize
-    ensures len { 0 < result → blank Turtle false bytes.now ≡ result }
-    ensures comment { 0 < result → comment_after Turtle false bytes.now ≡ false }
-    ensures feeds { 0 < result → count_by (λ b. b == 10) (take result bytes.now) ≡ 1 }
+fn indented_bytes(bytes: &[u8]) -> Indentation
+    ensures { IsIndentation bytes.now result.len result.feeds }
+{
+    let len = indented_len(bytes);
+    if len > 0 {
+        return Indentation { len, feeds: 1 };
+    }
+    Indentation {
+        len: empty_line_len(bytes),
+        feeds: 2,
+    }
+}
+
+/// How many bytes a line feed has with the spaces and tabs after it.
+#[inline(always)]
+fn indented_len(bytes: &[u8]) -> usize
+    ensures white { IsIndentation bytes.now result 1 }
+    ensures within { result ≤ length bytes.now }
 {
     if !stands_at(b'\n', bytes, 0) {
         return 0;
     }
     let end = run_end(Run::Spaces, bytes, 1);
     if is_bare(bytes, end) { end } else { 0 }
+}
+
+/// How many bytes it has after another line feed, which comes first, with that.
+#[inline(always)]
+fn empty_line_len(bytes: &[u8]) -> usize
+    ensures { IsIndentation bytes.now result 2 }
+{
+    if !stands_at(b'\n', bytes, 0) {
+        return 0;
+    }
+    match indented_len(&bytes[1..]) {
+        0 => 0,
+        len => len + 1,
+    }
 }
 
 /// Whether at a place there is neither white space of Turtle nor the beginning of a comment, but some other byte.

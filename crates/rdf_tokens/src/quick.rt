@@ -10,7 +10,7 @@ ghost use Rattle.rdf_tokens.specs.Quick.{is_sought, is_named, IsPrefix, is_colon
 ghost use Rattle.rdf_tokens.specs.Quick.{BeginsNumber, IsMantissa, begins_signed, is_exponent, after_sign, is_double_end};
 ghost use Rattle.rdf_tokens.specs.Quick.{is_dot, begins_number, is_point, is_integer_end, is_decimal_end, ends_integer, ends_number};
 ghost use Rattle.rdf_tokens.specs.Quick.{begins_iri, quote_byte, opens_with, begins_string, is_empty_string, begins_label, begins_label_name};
-ghost use Rattle.rdf_tokens.specs.Quick.{begins_tag, begins_directive, is_part_byte, is_tag_end, is_later_end, are_carets};
+ghost use Rattle.rdf_tokens.specs.Quick.{begins_tag, begins_directive, is_part_byte, is_tag_end, IsLaterPart, IsTagTo, are_carets};
 ghost use Rattle.rdf_tokens.specs.Escapes.{FitsInString};
 ghost use Rattle.rdf_tokens.specs.Quick.{is_over, is_last, ends_local, RestsInLong, is_plain, long_run, stands_thrice};
 ghost use Rattle.rdf_terms.specs.Runs.{IsRun, is_name_byte};
@@ -357,30 +357,49 @@ fn begins_directive(first: u8, second: u8) -> bool
     first == b'p' && second == b'r' || first == b'b' && second == b'a'
 }
 
-/// A tag of one part or two, up to a byte of ASCII with which no tag goes on.
+/// A tag, up to a byte of ASCII with which no tag goes on.
 #[inline(always)]
 pub(crate) fn quick_tag(text: &str) -> Quick
     requires { begins_tag text.now ≡ true }
     ensures { (dialect : Dialect) → IsQuick dialect text.now result.len result.kind }
 {
-    let bytes = text.as_bytes();
-    let end = letters_end(bytes, 2);
-    if is_tag_end(bytes, end) {
+    let end = tag_parts_end(text);
+    if is_tag_end(text.as_bytes(), end) {
         return Quick {
             len: end,
             kind: Some(Kind::LangTag),
         };
     }
-    if stands_at(b'-', bytes, end) {
-        let last = part_end(bytes, end + 1);
-        if is_later_end(bytes, end, last) {
-            return Quick {
-                len: last,
-                kind: Some(Kind::LangTag),
-            };
-        }
-    }
     Quick { len: 0, kind: None }
+}
+
+/// Where the parts of a tag end.
+#[inline(always)]
+fn tag_parts_end(text: &str) -> usize
+    requires { begins_tag text.now ≡ true }
+    ensures { (dialect : Dialect) → IsTagTo dialect text.now result }
+{
+    let bytes = text.as_bytes();
+    let mut end = letters_end(bytes, 2);
+    while let Some(next) = later_part_end(bytes, end) {
+        end = next;
+    }
+    end
+}
+
+/// Where the part ends whose hyphen stands at a place.
+#[inline(always)]
+fn later_part_end(bytes: &[u8], at: usize) -> Option<usize>
+    ensures { IfSome result (λ end. IsLaterPart bytes.now at end) }
+{
+    if !stands_at(b'-', bytes, at) {
+        return None;
+    }
+    let end = part_end(bytes, at + 1);
+    if end == at + 1 {
+        return None;
+    }
+    Some(end)
 }
 
 /// Where the run of letters from a place on ends.
@@ -422,15 +441,6 @@ fn is_tag_end(bytes: &[u8], at: usize) -> bool
     ensures { result ≡ is_tag_end bytes.now at }
 {
     at < bytes.len() && (bytes[at] < 128 && bytes[at] != b'-')
-}
-
-/// Whether there is something between a hyphen and such a byte.
-#[inline(always)]
-fn is_later_end(bytes: &[u8], hyphen: usize, at: usize) -> bool
-    requires { hyphen < length bytes.now }
-    ensures { result ≡ is_later_end bytes.now hyphen at }
-{
-    hyphen + 1 < at && is_tag_end(bytes, at)
 }
 
 /// The kind of a byte that is a token whatever comes after it.

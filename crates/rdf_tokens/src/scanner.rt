@@ -15,7 +15,7 @@ ghost use Rattle.rdf_tokens.specs.Passing.{is_idle, passed};
 ghost use Rattle.rdf_tokens.specs.Front.{bytes_of};
 ghost use Rattle.rdf_tokens.specs.Peek.{IsPeeked, MayPeek, TakesSeen, is_plain};
 
-use crate::blank::{blank_run, indented_len, is_in_comment, is_one};
+use crate::blank::{blank_run, indented, is_in_comment, is_one};
 use crate::front::{NoNames, Walk};
 use crate::good::{few_line_feeds, good_front, line_feeds, mark_len};
 use crate::look::{Look, Tail, first_look, look_at};
@@ -240,8 +240,8 @@ impl<A: Allocator + Copy> Scanner<A> {
         self.give(peeked.kind, peeked.len, peeked.colon)
     }
 
-    /// Passes a line feed of Turtle that stands next and the spaces and tabs after it, where `peek` can be asked and neither more white space nor a
-    /// comment comes after them. What the next token is, and where it stands, stays as it is: it is only sooner looked for, and `peek` can be asked
+    /// Passes a line feed of Turtle that stands next, or two, and the spaces and tabs after them, where `peek` can be asked and neither more white space
+    /// nor a comment comes then. What the next token is, and where it stands, stays as it is: it is only sooner looked for, and `peek` can be asked
     /// again. It takes no memory.
     #[inline(always)]
     pub fn pass_line_feed(&mut self)
@@ -259,15 +259,15 @@ impl<A: Allocator + Copy> Scanner<A> {
         }
     }
 
-    // The same where a line feed stands next, with spaces or tabs.
+    // The same where a line feed stands next, with another after it or with spaces or tabs.
     fn pass_indentation(&mut self)
         requires { MayPeek self.old }
         ensures passes { PassesBlank self.old self.new }
         ensures again { MayPeek self.new }
     {
-        let len = indented_len(self.rest());
-        if len > 0 {
-            self.move_on(len, 1);
+        let blank = indented(self.rest());
+        if blank.len > 0 {
+            self.move_on(blank.len, blank.feeds);
         }
     }
 

@@ -1,6 +1,6 @@
 // Lines whose texts are short: the buffer grows once, and the parts are placed in what is new of it.
 
-ghost use Rattle.std.specs.Prelude.{◌≡◌, ◌++◌, ◌+◌, ◌*◌, ◌<◌, ◌≤◌, [], ◌∷◌, length, encode_utf8_all, IfOk, OnErr, OnOk};
+ghost use Rattle.std.specs.Prelude.{◌≡◌, ◌++◌, ◌+◌, ◌*◌, ◌<◌, ◌≤◌, [], ◌∷◌, length, encode_utf8_all, None, IfOk, IfSome, OnErr, OnOk};
 ghost use Rattle.rdf_terms.specs.Views.{iri_chars};
 ghost use Rattle.rdf_lines.specs.declared.form.Escapes.TheVariants.{Plain};
 ghost use Rattle.rdf_lines.specs.Forms.{form_of};
@@ -12,6 +12,7 @@ ghost use Rattle.rdf_lines.specs.WrittenBytes.{BeginsWith, graph_bytes, iri_byte
 use crate::form::{Style, WrittenForm};
 use crate::writer::characters::place_characters;
 use crate::writer::digits::place_digits;
+use crate::writer::room::{FEW_ROOM, are_few};
 use crate::writer::term::is_plain;
 use rdf_terms::place::{place_byte, place_text, place_two};
 use rdf_terms::{
@@ -61,6 +62,26 @@ pub fn put_iris_at_once<A: Allocator + Copy>(
 {
     make_room(out, at, room)?;
     Ok(place_iris(out.as_mut_slice(), at, subject, predicate, object))
+}
+
+/// The same of three IRIs of few bytes, where there is room for any such line; else it places nothing. It calls nothing, so that a function that does
+/// without other calls too saves no registers.
+#[inline(always)]
+pub fn put_few_at_once(
+    subject: IriView<'_>,
+    predicate: IriView<'_>,
+    object: IriView<'_>,
+    at: usize,
+    slot: &mut [u8],
+) -> Option<usize>
+    requires { at ≤ length slot.old }
+    ensures written { IfSome result (λ end. WrittenAt slot.old slot.new at (iris_bytes subject.entry predicate.entry object.entry) end) }
+    ensures unchanged { result ≡ None → slot.new ≡ slot.old }
+{
+    if !are_few(subject, predicate, object) || slot.len() - at < FEW_ROOM {
+        return None;
+    }
+    Some(place_iris(slot, at, subject, predicate, object))
 }
 
 /// Appends bytes of any value, where fewer than these come after the first `at`.

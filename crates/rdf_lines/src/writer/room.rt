@@ -1,6 +1,6 @@
 // How much room a line takes at most, where its texts are short.
 
-ghost use Rattle.std.specs.Prelude.{◌≡◌, ◌+◌, ◌^◌, ◌<◌, ◌≤◌, length, IfSome};
+ghost use Rattle.std.specs.Prelude.{◌≡◌, ◌+◌, ◌^◌, ◌<◌, ◌≤◌, length, true, IfSome};
 ghost use Rattle.rdf_lines.specs.Placing.{graph_room, iris_room, line_room, node_room, subject_room, tail_room, term_room};
 
 use rdf_terms::{IriView, LiteralRef, NodeRef, QuadRef, SubjectRef, TailRef, TermRef};
@@ -10,6 +10,12 @@ const SHORT: usize = 512;
 
 /// The most bytes that its object has, which may be a text of some lines.
 const SHORT_OBJECT: usize = 8192;
+
+/// The most bytes of an IRI that is placed without a loop.
+const FEW: usize = 64;
+
+/// The most bytes of the line of three of them.
+pub const FEW_ROOM: usize = 3 * FEW + 11;
 
 /// The most bytes of the line of a quad, where an escape may stand for each byte of its object, with a word of so many bytes in front of each name, or None where a text is long.
 #[inline(always)]
@@ -42,6 +48,16 @@ pub fn short_iris(
         return None;
     }
     Some(names + object + 11)
+}
+
+/// Whether each of three IRIs is so short that their line has no more than `FEW_ROOM` bytes.
+#[inline(always)]
+pub fn are_few(subject: IriView<'_>, predicate: IriView<'_>, object: IriView<'_>) -> bool
+    ensures { result ≡ true → iris_room subject.entry predicate.entry object.entry ≤ 203 }
+{
+    subject.as_bytes().len() <= FEW
+        && predicate.as_bytes().len() <= FEW
+        && object.as_bytes().len() <= FEW
 }
 
 #[inline(always)]

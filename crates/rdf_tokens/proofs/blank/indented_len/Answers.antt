@@ -1,23 +1,13 @@
--- The bytes of the white space are its characters.
-use Rattle.std.proofs.Common.{◌∙◌, sym, ap, ◌==◌, false, take, count_by}
-use Rattle.rdf_terms.specs.declared.kind.Dialect.TheVariants.{Turtle}
-use Rattle.rdf_tokens.specs.Tokens.{blank}
-use Rattle.rdf_tokens.specs.Blank.{comment_after}
-use Rattle.rdf_tokens.proofs.BlankLemmas.{blank-bytes, comment-bytes}
-use Rattle.rdf_tokens.proofs.HeldLemmas.{blank_feeds}
+-- A line feed, and the run after it up to a byte that is no white space.
+use Rattle.std.proofs.Common.{◌∙◌, sym}
+use Rattle.rdf_tokens.proofs.BlankRuns.{indented, one_feed}
 use Rattle.rdf_tokens.proofs.blank.indented_len.Goals as goal
 
-pub returns-clause-len : goal.returns-clause-len
-returns-clause-len c = λ e.
-    sym (ap (blank Turtle false) c.as_bytes.ensures.value ∙ blank-bytes Turtle false c.args.text.now c.utf8.text) ∙ c.indented_bytes.ensures.len e
-
-pub returns-clause-comment : goal.returns-clause-comment
-returns-clause-comment c = λ e.
-    sym (ap (comment_after Turtle false) c.as_bytes.ensures.value ∙ comment-bytes Turtle false c.args.text.now c.utf8.text) ∙ c.indented_bytes.ensures.comment e
-
-pub returns-clause-feeds : goal.returns-clause-feeds
-returns-clause-feeds c = λ e.
-    let v = c.as_bytes.ensures.value in
-    let n = c.indented_bytes.result in
-    blank_feeds Turtle false c.args.text.now c.utf8.text (ap (blank Turtle false) (sym v) ∙ c.indented_bytes.ensures.len e)
-    ∙ (ap (λ b. count_by (λ x. x == 10) (take n b)) (sym v) ∙ c.indented_bytes.ensures.feeds e)
+pub returns-then-is_bare-clause-white : goal.returns-then-is_bare-clause-white
+returns-then-is_bare-clause-white c = λ _.
+    let bs = c.args.bytes.now in
+    let end = c.run_end-end.result in
+    let feed = sym c.stands_at.ensures ∙ c.if-not-stands_at.false in
+    let bare = sym c.is_bare.ensures ∙ c.if-is_bare.true in
+    let i = indented bs end feed c.run_end-end.ensures bare in
+    (i.0, i.1, one_feed bs end feed c.run_end-end.ensures bare)

@@ -3,7 +3,6 @@ use Rattle.std.proofs.lemmas.Bool.{eqb-true}
 use Rattle.std.proofs.lemmas.Result.{on_err_weaker}
 use Rattle.rdf_terms.specs.Terms.{IsQuad}
 use Rattle.rdf_terms.specs.Views.{quad_of}
-use Rattle.rdf_stream.specs.LineOut.{Leaves}
 use Rattle.rdf_stream.proofs.LineOutLemmas.{left_by}
 use Rattle.rdf_stream.proofs.OutputLemmas.{no_graph}
 use Rattle.rdf_stream.proofs.line_out.LineOutQuadSink.put_iris.Goals as goal
@@ -17,10 +16,7 @@ returns-then-is_none-clause-left g c =
 
 pub returns-clause-left : goal.returns-clause-left
 returns-clause-left g c =
-    let contents = g.D.Drain.contents in
-    let failed = g.D.Drain.has_failed in
-    let seen = subst (λ q. ∥ IsQuad (quad_of q) ∥₁) (c.of_iris.ensures ∙ sym c.of_iris-2.ensures) c.see_quad.ensures in
-    on_err_weaker c.put_in_graph.result
-    (λ left. subst (λ q. Leaves contents failed c.args.self.now (quad_of q) c.put_in_graph.new.self) c.of_iris-2.ensures
-    (left_by contents failed c.args.self.now _ _ seen _ refl left))
-    c.put_in_graph.ensures.left
+    let seen = subst (λ q. ∥ IsQuad (quad_of q) ∥₁) c.of_iris.ensures c.see_quad.ensures in
+    on_err_weaker c.put_iris_in_graph.result
+    (left_by g.D.Drain.contents g.D.Drain.has_failed c.args.self.now _ _ seen _ refl)
+    c.put_iris_in_graph.ensures.left

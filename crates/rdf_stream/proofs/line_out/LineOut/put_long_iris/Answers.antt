@@ -1,6 +1,6 @@
 use Rattle.std.proofs.Common.{refl}
 use Rattle.rdf_stream.proofs.LineOutLemmas.{waits, waits_same}
-use Rattle.rdf_stream.proofs.line_out.LineOut.put_line_of_iris.Goals as goal
+use Rattle.rdf_stream.proofs.line_out.LineOut.put_long_iris.Goals as goal
 
 pub returns-in-Err-clause-left : goal.returns-in-Err-clause-left
 returns-in-Err-clause-left g c = record {

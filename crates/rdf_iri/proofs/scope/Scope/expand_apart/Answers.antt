@@ -6,9 +6,9 @@ use Rattle.rdf_iri.specs.Texts.{byte_len}
 use Rattle.rdf_iri.specs.Seen.{text_of}
 use Rattle.rdf_iri.specs.Scope.{InForce, bound_to, NotJoined}
 use Rattle.rdf_iri.proofs.ScopeLemmas.{expands_joined, expands_not}
-use Rattle.rdf_iri.proofs.scope.Scope.expand_into.Goals as goal
-use Rattle.rdf_iri.proofs.scope.Scope.expand_into.Goals.{After-put_joined}
-use Rattle.rdf_iri.proofs.scope.Scope.expand_into.Given.{Over}
+use Rattle.rdf_iri.proofs.scope.Scope.expand_apart.Goals as goal
+use Rattle.rdf_iri.proofs.scope.Scope.expand_apart.Goals.{After-put_joined}
+use Rattle.rdf_iri.proofs.scope.Scope.expand_apart.Given.{Over}
 
 pub returns-in_default-clause-refused : goal.returns-in_default-clause-refused
 returns-in_default-clause-refused g c =
