@@ -1,5 +1,5 @@
 -- The first part of a tag, and each later one.
-use Rattle.std.proofs.Common.{◌≡◌, true, sym, subst, arith}
+use Rattle.std.proofs.Common.{subst, arith}
 use Rattle.rdf_terms.specs.Classes.{is_letter}
 use Rattle.rdf_terms.specs.Runs.{IsRun}
 use Rattle.rdf_tokens.specs.Quick.{IsLaterPart}
