@@ -15,7 +15,7 @@ use crate::reader::Options;
 use crate::rules::Rules;
 use crate::state::State;
 use rdf_driver::{Foresees, Grammar, Holds, Known, QuadGrammar, QuadItem};
-use rdf_iri::{Limits, Scope};
+use rdf_iri::Scope;
 use rdf_terms::{Dialect, Kind, QuadSink, Reason};
 use rdf_tokens::Token;
 use std::alloc::{Allocator, Global};
@@ -72,23 +72,24 @@ impl<A: Allocator + Copy> TreeGrammar<A> {
 }
 
 // What is left after a step that failed. It leaves any state, so state and scope begin anew; but a token that is
-// unexpected has changed nothing. It is a call, so that the step itself stays as short as it was.
+// unexpected has changed nothing. It is a call, so that the step itself stays as short as it was. The rules are lent: for
+// limits that are handed over the step would have a place in memory, and fill it with zeros for each token.
 #[inline(never)]
 fn begin_anew<A: Allocator + Copy>(
     fault: StepFault,
     alloc: A,
-    limits: Limits,
+    rules: &Rules,
     state: &mut State<A>,
     scope: &mut Scope<A>,
 )
     ensures stays { fault ≡ StepFault.Unexpected → (state.new ≡ state.old) × (scope.new ≡ scope.old) }
-    ensures anew { fault ≢ StepFault.Unexpected → ((form : DocForm) (sizes : Sizes) → Keeps form sizes state.new) × (scope.new.limits ≡ limits) }
+    ensures anew { fault ≢ StepFault.Unexpected → ((form : DocForm) (sizes : Sizes) → Keeps form sizes state.new) × (scope.new.limits ≡ rules.now.limits) }
 {
     match fault {
         StepFault::Unexpected => {}
         _ => {
             *state = State::new(alloc);
-            *scope = Scope::new(alloc, None, limits);
+            *scope = Scope::new(alloc, None, rules.limits);
         }
     }
 }
@@ -142,8 +143,13 @@ impl<A: Allocator + Copy> QuadGrammar for TreeGrammar<A> {
         {
             Ok(given) => Ok(given),
             Err(fault) => {
-                let Rules { limits, .. } = self.rules;
-                begin_anew(fault, self.alloc, limits, &mut self.state, &mut self.scope);
+                begin_anew(
+                    fault,
+                    self.alloc,
+                    &self.rules,
+                    &mut self.state,
+                    &mut self.scope,
+                );
                 Err(reason_of(fault))
             }
         }
