@@ -378,8 +378,8 @@ impl<'a, D: Drain, A: Allocator + Copy> QuadSink for LineOut<'a, D, A> {
         self.put_in_graph(quad)
     }
 
-    // A call, whose arguments are in registers. What most lines take calls nothing, and nothing here is lent a quad, which
-    // LLVM would make up in memory first. So it saves no registers.
+    // A call, whose arguments are in registers. What most lines take calls nothing, and no call here is lent a quad, which
+    // would be made up in memory first (`see_quad` is gone once it is compiled). So few registers are saved.
     #[inline(never)]
     fn put_iris(
         &mut self,
