@@ -1,20 +1,32 @@
 -- The bytes of the parts of a line whose texts stand as they are.
-use Rattle.std.proofs.Common.{◌≡◌, ℕ, List, [], ◌∷◌, ◌++◌, append_assoc, refl, ap, sym, ◌∙◌, arith}
+use Rattle.std.proofs.Common.{◌≡◌, ◌≤◌, ℕ, Option, Some, None, List, [], ◌∷◌, ◌++◌, append_assoc, refl, ap, length, subst, sym, take, ◌∙◌, arith}
 use Rattle.std.specs.Prelude.{flat_map, decimal, encode_utf8_all}
-use Rattle.std.proofs.lemmas.List.{append-nil}
+use Rattle.std.specs.Str.{chars}
+use Rattle.rdf_terms.specs.declared.views.QuadRef.{QuadRef}
+use Rattle.rdf_terms.specs.declared.views.SubjectRef.{SubjectRef}
+use Rattle.rdf_terms.specs.declared.views.SubjectRef.TheVariants as subject
+use Rattle.rdf_terms.specs.Terms.{Iri}
+use Rattle.rdf_lines.specs.declared.form.WrittenForm.{WrittenForm}
+use Rattle.rdf_lines.specs.Forms.{form_of}
+use Rattle.std.proofs.lemmas.List.{append-nil, length-append, length-take, length-take-le}
+use Rattle.std.proofs.Math.Nat.{min-le_right}
+use Rattle.rdf_terms.specs.Placing.{Placed}
 use Rattle.rdf_terms.specs.declared.views.IriView.{IriView}
 use Rattle.rdf_terms.specs.declared.views.LabelView.{LabelView}
 use Rattle.rdf_terms.specs.declared.views.NodeRef.TheVariants as node_ref
-use Rattle.rdf_terms.specs.Views.{iri_chars, iris_quad}
+use Rattle.rdf_terms.specs.declared.views.LiteralRef.{LiteralRef}
+use Rattle.rdf_terms.specs.declared.views.TermRef.{TermRef}
+use Rattle.rdf_terms.specs.declared.views.TermRef.TheVariants as term
+use Rattle.rdf_terms.specs.Views.{iri_chars, iris_quad, tail_by}
 use Rattle.rdf_lines.specs.declared.form.Escapes.{Escapes}
 use Rattle.rdf_lines.specs.declared.form.Escapes.TheVariants.{Plain}
 use Rattle.rdf_lines.specs.declared.form.Style.{Style}
 use Rattle.rdf_lines.specs.declared.form.Style.TheVariants.{Kept, Tagged}
-use Rattle.rdf_lines.specs.NodePrefixes.{Form}
-use Rattle.rdf_lines.specs.Placing.{label_bytes, number_bytes}
-use Rattle.rdf_lines.specs.Writing.{space, written}
-use Rattle.rdf_lines.specs.WrittenBytes.{iri_bytes, iris_bytes, line_bytes, node_bytes}
-use Rattle.rdf_lines.proofs.EncodedLine.{between, encoded_line, encoded_node}
+use Rattle.rdf_lines.specs.NodePrefixes.{Form, unprefixed}
+use Rattle.rdf_lines.specs.Placing.{IsShort, IsShortGraph, IsShortSubject, IsShortTerm, label_bytes, number_bytes}
+use Rattle.rdf_lines.specs.Writing.{graph_text, space, string_text, tail_text, written}
+use Rattle.rdf_lines.specs.WrittenBytes.{graph_bytes, iri_bytes, iris_bytes, line_bytes, node_bytes, subject_bytes, term_bytes, usual}
+use Rattle.rdf_lines.proofs.EncodedLine.{between, encoded_line, encoded_node, literal_bytes as encoded_literal}
 use Rattle.rdf_lines.proofs.EscapedRuns.{plain_iri}
 
 -- an IRI in its brackets, in the plain form
@@ -45,3 +57,49 @@ plain_iris_bytes f s p o plain =
     let front : Escapes → List ℕ = λ e. (iri_bytes e s ++ space) ++ (iri_bytes e p ++ space) ++ (iri_bytes e o ++ space) in
     let end = ap (λ x. (x ++ 46 ∷ []) ++ 10 ∷ []) (sym (append-nil (front f.escapes))) in
     ap (λ e. front e ++ 46 ∷ 10 ∷ []) (sym plain) ∙ sym (append_assoc (front f.escapes) (46 ∷ []) (10 ∷ [])) ∙ end ∙ sym (encoded_line f (iris_quad s p o))
+
+-- what was placed ends within the bytes
+pub placed_within : {a b xs : List ℕ} {i j : ℕ} → i ≤ length a → Placed a b i xs j → j ≤ length b
+placed_within {a} {b} {xs} {i} {j} within p =
+    let lens = sym (length-take j b) ∙ ap length p.bytes ∙ length-append (take i a) xs in
+    omega (arith, lens, p.moved, length-take-le i a within, min-le_right j (length b))
+
+-- a form that names nodes by their letters alone, in the plain form, is the usual one
+same_form : (f : WrittenForm) → f.escapes ≡ Plain → f.style ≡ Tagged → f.prefix.word.now ≡ [] → usual ≡ form_of f
+unfolding chars
+same_form f e s p =
+    ap (λ x. unprefixed x Plain) (sym s) ∙ ap (unprefixed f.style) (sym e) ∙ ap (λ w. record { style = f.style; escapes = f.escapes; prefix = chars w }) (sym p)
+
+-- what a short part is written as does not hang on the form
+usual_subject : (f : WrittenForm) (s : SubjectRef) → f.escapes ≡ Plain → IsShortSubject f s → subject_bytes usual s ≡ subject_bytes (form_of f) s
+usual_subject f (subject.Iri i) e h = ap (λ x. iri_bytes x i) (sym e)
+usual_subject f (subject.Node n) e h = ap (λ g. subject_bytes g (subject.Node n)) (same_form f e h.0 h.1)
+
+usual_term : (f : WrittenForm) (o : TermRef) → f.escapes ≡ Plain → IsShortTerm f o → term_bytes usual o ≡ term_bytes (form_of f) o
+usual_term f (term.Iri i) e h = ap (λ x. iri_bytes x i) (sym e)
+usual_term f (term.Node n) e h = ap (λ g. term_bytes g (term.Node n)) (same_form f e h.0 h.1)
+usual_term f (term.Literal l) e h = ap (λ x. encode_utf8_all (string_text x (chars l.lexical.now) ++ tail_text x (tail_by chars l.tail))) (sym e)
+
+usual_graph : (f : WrittenForm) (g : Option SubjectRef) → f.escapes ≡ Plain → IsShortGraph g → graph_bytes usual g ≡ graph_bytes (form_of f) g
+usual_graph f None e h = refl
+usual_graph f (Some (subject.Iri i)) e h = ap (λ x. encode_utf8_all (graph_text x (Some (Iri (iri_chars i))))) (sym e)
+usual_graph f (Some (subject.Node n)) e h = absurd h
+
+-- the line of a short quad in the usual form is its line
+pub short_line : (f : WrittenForm) (q : QuadRef) → IsShort f q →
+    (subject_bytes usual q.subject ++ space) ++ (iri_bytes Plain q.predicate ++ space) ++ (term_bytes usual q.object ++ space) ++ graph_bytes usual q.graph ++ 46 ∷ 10 ∷ []
+    ≡ line_bytes (form_of f) q
+short_line f q h =
+    let e = h.plain in
+    let line : List ℕ → List ℕ → List ℕ → List ℕ → List ℕ = λ s p o g. (s ++ space) ++ (p ++ space) ++ (o ++ space) ++ g in
+    let front = line (subject_bytes usual q.subject) (iri_bytes Plain q.predicate) (term_bytes usual q.object) (graph_bytes usual q.graph) in
+    let whole =
+    ap (λ s. line s (iri_bytes Plain q.predicate) (term_bytes usual q.object) (graph_bytes usual q.graph)) (usual_subject f q.subject e h.subject)
+    ∙ ap (λ x. line (subject_bytes (form_of f) q.subject) (iri_bytes x q.predicate) (term_bytes usual q.object) (graph_bytes usual q.graph)) (sym e)
+    ∙ ap (λ o. line (subject_bytes (form_of f) q.subject) (iri_bytes f.escapes q.predicate) o (graph_bytes usual q.graph)) (usual_term f q.object e h.object)
+    ∙ ap (line (subject_bytes (form_of f) q.subject) (iri_bytes f.escapes q.predicate) (term_bytes (form_of f) q.object)) (usual_graph f q.graph e h.graph) in
+    sym (append_assoc front (46 ∷ []) (10 ∷ [])) ∙ ap (λ x. (x ++ 46 ∷ []) ++ 10 ∷ []) whole ∙ sym (encoded_line (form_of f) q)
+
+-- what was placed, in the same bytes up to the same end
+pub placed_at : {a b c xs : List ℕ} {i j k : ℕ} → c ≡ b → k ≡ j → Placed a b i xs j → Placed a c i xs k
+placed_at {a} {b} {c} {xs} {i} {j} {k} e f p = subst (λ l. Placed a l i xs k) (sym e) (subst (λ n. Placed a b i xs n) (sym f) p)

@@ -1,6 +1,7 @@
 -- Bytes that are placed in a buffer that has room for them, and how much room a line takes at most.
-use Rattle.std.specs.Prelude.{◌≡◌, ℕ, ◌+◌, ◌*◌, ◌/◌, ◌%◌, ◌≤◌, List, [], ◌∷◌, ◌++◌, Option, Some, None, decimal, length, take}
+use Rattle.std.specs.Prelude.{◌≡◌, ℕ, ◌+◌, ◌*◌, ◌/◌, ◌%◌, ◌<◌, ◌≤◌, List, [], ◌∷◌, ◌++◌, Option, Some, None, true, ⊤, decimal, length, take}
 use Rattle.rdf_terms.specs.declared.views.IriView.{IriView}
+use Rattle.rdf_terms.specs.declared.views.LiteralRef.{LiteralRef}
 use Rattle.rdf_terms.specs.declared.views.NodeRef.{NodeRef}
 use Rattle.rdf_terms.specs.declared.views.NodeRef.TheVariants as node_ref
 use Rattle.rdf_terms.specs.declared.views.TailRef.{TailRef}
@@ -10,6 +11,10 @@ use Rattle.rdf_terms.specs.declared.views.SubjectRef.TheVariants as subject_ref
 use Rattle.rdf_terms.specs.declared.views.TermRef.{TermRef}
 use Rattle.rdf_terms.specs.declared.views.TermRef.TheVariants as term_ref
 use Rattle.rdf_terms.specs.declared.views.QuadRef.{QuadRef}
+use Rattle.rdf_terms.specs.Runs.{is_short_byte}
+use Rattle.rdf_terms.specs.Terms.{all_have}
+use Rattle.rdf_lines.specs.declared.form.Escapes.TheVariants.{Plain}
+use Rattle.rdf_lines.specs.declared.form.WrittenForm.{WrittenForm}
 use Rattle.rdf_lines.specs.declared.form.Style.{Style}
 use Rattle.rdf_lines.specs.declared.form.Style.TheVariants.{Kept, Tagged}
 
@@ -39,11 +44,15 @@ abbrev pub tail_room : TailRef → ℕ
 tail_room (tail_ref.Lang t) = length t.text.now
 tail_room (tail_ref.Typed i) = length i.text.now
 
+-- the bytes of a literal's texts
+abbrev pub literal_room : LiteralRef → ℕ
+literal_room l = length l.lexical.now + tail_room l.tail
+
 -- the most bytes that the texts of an object have
 abbrev pub term_room : TermRef → ℕ
 term_room (term_ref.Iri i) = length i.text.now
 term_room (term_ref.Node n) = node_room n
-term_room (term_ref.Literal l) = length l.lexical.now + tail_room l.tail
+term_room (term_ref.Literal l) = literal_room l
 
 -- the same of a graph label
 abbrev pub graph_room : Option SubjectRef → ℕ
@@ -71,3 +80,34 @@ number_bytes Tagged word letter n = 95 ∷ 58 ∷ (word ++ letter ∷ decimal n)
 -- the two digits of a number below 100
 abbrev pub two_digits : ℕ → List ℕ
 two_digits n = (48 + n / 10) ∷ (48 + n % 10) ∷ []
+
+-- texts of at most 64 bytes, and offsets of at most twelve digits
+abbrev pub IsShortNode : NodeRef → Type 0
+IsShortNode (node_ref.Label l) = length l.text.now ≤ 64
+IsShortNode (node_ref.Anon n) = n < 1000000000000
+IsShortNode (node_ref.Cell n) = n < 1000000000000
+
+-- where it is a node, it is named by its letter and no word
+abbrev pub IsShortSubject : WrittenForm → SubjectRef → Type 0
+IsShortSubject f (subject_ref.Iri i) = length i.text.now ≤ 64
+IsShortSubject f (subject_ref.Node n) = (f.style ≡ Tagged) × (f.prefix.word.now ≡ []) × IsShortNode n
+
+-- the same of an object; no byte of a literal's lexical form is escaped
+abbrev pub IsShortTerm : WrittenForm → TermRef → Type 0
+IsShortTerm f (term_ref.Iri i) = length i.text.now ≤ 64
+IsShortTerm f (term_ref.Node n) = (f.style ≡ Tagged) × (f.prefix.word.now ≡ []) × IsShortNode n
+IsShortTerm f (term_ref.Literal l) = (literal_room l ≤ 128) × (all_have (is_short_byte 34) l.lexical.now ≡ true)
+
+-- no graph, or an IRI
+abbrev pub IsShortGraph : Option SubjectRef → Type 0
+IsShortGraph None = ⊤
+IsShortGraph (Some (subject_ref.Iri i)) = length i.text.now ≤ 64
+IsShortGraph (Some (subject_ref.Node n)) = ⊥
+
+-- the line is placed without a call: its texts are short, and in the plain form
+pub record IsShort (f : WrittenForm) (q : QuadRef) : Type 0 where
+  pub plain : f.escapes ≡ Plain
+  pub subject : IsShortSubject f q.subject
+  pub predicate : length q.predicate.text.now ≤ 64
+  pub object : IsShortTerm f q.object
+  pub graph : IsShortGraph q.graph

@@ -2,6 +2,7 @@
 use Rattle.std.specs.Prelude.{◌≡◌, ◌∷◌, ◌++◌, ℕ, List, [], Option, option_map, flat_map, length, take, encode_utf8_all}
 use Rattle.std.specs.Str.{chars}
 use Rattle.rdf_terms.specs.declared.views.IriView.{IriView}
+use Rattle.rdf_terms.specs.declared.views.LiteralRef.{LiteralRef}
 use Rattle.rdf_terms.specs.declared.views.NodeRef.{NodeRef}
 use Rattle.rdf_terms.specs.declared.views.TailRef.{TailRef}
 use Rattle.rdf_terms.specs.declared.views.SubjectRef.{SubjectRef}
@@ -14,7 +15,8 @@ use Rattle.rdf_terms.specs.Views.{iri_chars, node_by, node_of, tail_by, subject_
 use Rattle.rdf_lines.specs.declared.form.Escapes.{Escapes}
 use Rattle.rdf_lines.specs.declared.form.Escapes.TheVariants.{Plain, Ascii}
 use Rattle.rdf_lines.specs.declared.form.Style.{Style}
-use Rattle.rdf_lines.specs.NodePrefixes.{Form, name_node, name_subject, name_term, name_graph, line_in}
+use Rattle.rdf_lines.specs.declared.form.Style.TheVariants.{Tagged}
+use Rattle.rdf_lines.specs.NodePrefixes.{Form, unprefixed, name_node, name_subject, name_term, name_graph, line_in}
 use Rattle.rdf_lines.specs.Writing.{escaped, space, rename_node, node_text, iri_text, subject_text, string_text, tail_text, term_text, graph_text}
 
 -- what stands in a string as it is
@@ -58,9 +60,17 @@ graph_bytes f g = encode_utf8_all (graph_text f.escapes (name_graph f (option_ma
 abbrev pub line_bytes : Form → QuadRef → List ℕ
 line_bytes f q = encode_utf8_all (line_in f (quad_of q))
 
+-- those of a literal in the plain form
+abbrev pub literal_bytes : LiteralRef → List ℕ
+literal_bytes l = string_bytes_of Plain l.lexical.now ++ tail_bytes Plain l.tail
+
 -- those of the line of three IRIs in the default graph, in the plain form, whatever names the nodes have
 abbrev pub iris_bytes : IriView → IriView → IriView → List ℕ
 iris_bytes s p o = (iri_bytes Plain s ++ space) ++ (iri_bytes Plain p ++ space) ++ (iri_bytes Plain o ++ space) ++ 46 ∷ 10 ∷ []
+
+-- nodes by their letters, and characters as they are
+abbrev pub usual : Form
+usual = unprefixed Tagged Plain
 
 -- The style names the node by a label of these bytes.
 abbrev pub IsNamed : Style → NodeRef → List ℕ → Type 0

@@ -12,7 +12,7 @@ use crate::canonical::end_tokens;
 use crate::escaped::{EscapedLine, Unpassed, Values, escaped_line};
 use crate::form::{Escapes, LineEnding, Style, WrittenForm};
 use crate::grammar::LineGrammar;
-use crate::writer::{LabelFault, Usual, put_iris, put_quad, put_short_iris};
+use crate::writer::{LabelFault, Usual, put_iris, put_quad, put_short, put_short_iris};
 use rdf_driver::Reader;
 use rdf_terms::place::place_all;
 use rdf_terms::{IriView, QuadRef};
@@ -170,6 +170,20 @@ impl<A: Allocator + Copy> LineBuffer<A> {
             }
             None => false,
         }
+    }
+
+    /// What `put_line` does in the plain form, where each text has at most 64 bytes, no character of a literal is escaped, no word stands in front of a node's
+    /// name, and memory for the longest line of such is filled. Else it appends nothing. It takes no memory.
+    #[inline(always)]
+    pub fn put_short(&mut self, quad: &QuadRef<'_>, form: WrittenForm<'_>) -> bool
+        ensures written { result ≡ true → self.new ≡ self.old ++ encode_utf8_all (line_in (form_of form.entry) (quad_of quad.now)) }
+        ensures unchanged { result ≡ false → self.new ≡ self.old }
+    {
+        let Some(end) = put_short(quad, &form, self.len, self.bytes.as_mut_slice()) else {
+            return false;
+        };
+        self.len = end;
+        true
     }
 
     /// Passes the line that the text begins with, as `pass_escaped` does, and answers how many bytes it has, or none. Where memory is refused, it is not passed.

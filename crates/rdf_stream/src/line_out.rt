@@ -249,7 +249,38 @@ impl<'a, D: Drain, A: Allocator + Copy> LineOut<'a, D, A> {
         }
     }
 
-    // The same of three IRIs in the default graph. What most lines take is here without a call.
+    // Puts the line of a quad as it is. Most lines are short.
+    #[inline(always)]
+    fn put_as_it_is(&mut self, quad: &QuadRef<'_>) -> Result<(), PutFault>
+        requires live { D.has_failed self.old.drain.now ≡ false }
+        ensures taken { OnOk result (TakesBytes D.contents D.has_failed self.old (line_of self.old.form.lines quad.now) self.new) }
+        ensures left { OnErr result (LeavesBytes D.contents D.has_failed self.old (line_of self.old.form.lines quad.now) self.new) }
+        ensures device { (D.has_failed self.new.drain.now ≡ true) ↔ (result ≡ Err PutFault.Device) }
+    {
+        if !self.buffer.put_short(quad, self.form.lines) {
+            return self.put_long(quad);
+        }
+        if self.buffer.len() < WAITING_LEN {
+            return Ok(());
+        }
+        match self.hand_over() {
+            Ok(()) => Ok(()),
+            Err(Failed) => Err(PutFault::Device),
+        }
+    }
+
+    // Puts a line of any length.
+    #[inline(never)]
+    fn put_long(&mut self, quad: &QuadRef<'_>) -> Result<(), PutFault>
+        requires live { D.has_failed self.old.drain.now ≡ false }
+        ensures taken { OnOk result (TakesBytes D.contents D.has_failed self.old (line_of self.old.form.lines quad.now) self.new) }
+        ensures left { OnErr result (LeavesBytes D.contents D.has_failed self.old (line_of self.old.form.lines quad.now) self.new) }
+        ensures device { (D.has_failed self.new.drain.now ≡ true) ↔ (result ≡ Err PutFault.Device) }
+    {
+        self.put_line::<AsItIs>(quad)
+    }
+
+    // Puts the line of three IRIs in the default graph as it is. What most lines take is here without a call.
     #[inline(always)]
     fn put_line_of_iris(
         &mut self,
@@ -373,7 +404,7 @@ impl<'a, D: Drain, A: Allocator + Copy> QuadSink for LineOut<'a, D, A> {
     fn put(&mut self, quad: &QuadRef<'_>) -> Result<(), PutFault> {
         see_quad(quad);
         if self.form.graph.is_none() {
-            return self.put_line::<AsItIs>(quad);
+            return self.put_as_it_is(quad);
         }
         self.put_in_graph(quad)
     }

@@ -5,9 +5,9 @@ ghost use Rattle.rdf_terms.specs.Views.{iri_chars};
 ghost use Rattle.rdf_lines.specs.declared.form.Escapes.TheVariants.{Plain};
 ghost use Rattle.rdf_lines.specs.Forms.{form_of};
 ghost use Rattle.rdf_terms.specs.Placing.{Placed};
-ghost use Rattle.rdf_lines.specs.Placing.{WrittenAt, graph_room, iris_room, label_bytes, line_room, node_room, number_bytes, subject_room, tail_room, term_room};
+ghost use Rattle.rdf_lines.specs.Placing.{WrittenAt, graph_room, iris_room, label_bytes, line_room, literal_room, node_room, number_bytes, subject_room, tail_room, term_room};
 ghost use Rattle.rdf_lines.specs.Writing.{space, type_text};
-ghost use Rattle.rdf_lines.specs.WrittenBytes.{BeginsWith, graph_bytes, iri_bytes, iris_bytes, line_bytes, node_bytes, string_bytes_of, subject_bytes, tail_bytes, term_bytes};
+ghost use Rattle.rdf_lines.specs.WrittenBytes.{BeginsWith, graph_bytes, iri_bytes, iris_bytes, line_bytes, literal_bytes, node_bytes, subject_bytes, tail_bytes, term_bytes};
 
 use crate::form::{Style, WrittenForm};
 use crate::writer::characters::place_characters;
@@ -169,8 +169,9 @@ fn place_name(slot: &mut [u8], at: usize, name: &SubjectRef<'_>, form: &WrittenF
     }
 }
 
+/// Places an IRI in its brackets, and a space.
 #[inline(always)]
-fn place_spaced(slot: &mut [u8], at: usize, iri: IriView<'_>) -> usize
+pub fn place_spaced(slot: &mut [u8], at: usize, iri: IriView<'_>) -> usize
     requires { at + (length iri.text.now + 3) ≤ length slot.old }
     ensures placed { Placed slot.old slot.new at (iri_bytes Plain iri.entry ++ space) result }
     ensures within { result ≤ at + (length iri.entry.text.now + 3) }
@@ -179,8 +180,9 @@ fn place_spaced(slot: &mut [u8], at: usize, iri: IriView<'_>) -> usize
     place_byte(slot, end, b' ')
 }
 
+/// Places an IRI in its brackets.
 #[inline(always)]
-fn place_iri(slot: &mut [u8], at: usize, iri: IriView<'_>) -> usize
+pub fn place_iri(slot: &mut [u8], at: usize, iri: IriView<'_>) -> usize
     requires { at + (length iri.text.now + 2) ≤ length slot.old }
     ensures placed { Placed slot.old slot.new at (iri_bytes Plain iri.entry) result }
     ensures within { result ≡ at + (length iri.entry.text.now + 2) }
@@ -289,9 +291,9 @@ fn place_term<C>(slot: &mut [u8], at: usize, term: &TermRef<'_>, form: &WrittenF
 // It is too large for LLVM to take a mark for it, and stands in its caller where it is called once: hence an instance
 // for each, as `put_plain` has.
 fn place_literal<C>(slot: &mut [u8], at: usize, literal: &LiteralRef<'_>) -> usize
-    requires room { at + (2 * (length literal.now.lexical.now + tail_room literal.now.tail) + 6) ≤ length slot.old }
-    ensures placed { Placed slot.old slot.new at (string_bytes_of Plain literal.now.lexical.now ++ tail_bytes Plain literal.now.tail) result }
-    ensures within { result ≤ at + (2 * (length literal.now.lexical.now + tail_room literal.now.tail) + 6) }
+    requires room { at + (2 * literal_room literal.now + 6) ≤ length slot.old }
+    ensures placed { Placed slot.old slot.new at (literal_bytes literal.now) result }
+    ensures within { result ≤ at + (2 * literal_room literal.now + 6) }
 {
     let inside = place_byte(slot, at, b'"');
     let close = place_characters(slot, inside, literal.lexical);
@@ -299,8 +301,9 @@ fn place_literal<C>(slot: &mut [u8], at: usize, literal: &LiteralRef<'_>) -> usi
     place_tail(slot, end, literal.tail)
 }
 
+/// Places what comes after the string of a literal: its tag, its datatype, or nothing.
 #[inline(always)]
-fn place_tail(slot: &mut [u8], at: usize, tail: TailRef<'_>) -> usize
+pub fn place_tail(slot: &mut [u8], at: usize, tail: TailRef<'_>) -> usize
     requires { at + (tail_room tail + 4) ≤ length slot.old }
     ensures placed { Placed slot.old slot.new at (tail_bytes Plain tail.entry) result }
     ensures within { result ≤ at + (tail_room tail.entry + 4) }

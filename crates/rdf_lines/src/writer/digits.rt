@@ -14,14 +14,35 @@ pub fn place_digits(slot: &mut [u8], at: usize, n: u64) -> usize
     requires { at + length (decimal n) ≤ length slot.old }
     ensures { Placed slot.old slot.new at (decimal n) result }
 {
+    if n < 100_000_000 {
+        return place_eight(slot, at, n);
+    }
+    let front = place_digits(slot, at, n / 10_000);
+    place_four(slot, front, n % 10_000)
+}
+
+/// Places a number of at most twelve digits, without a call.
+#[inline(always)]
+pub fn place_twelve(slot: &mut [u8], at: usize, n: u64) -> usize
+    requires { (n < 1000000000000) × (at + length (decimal n) ≤ length slot.old) }
+    ensures { Placed slot.old slot.new at (decimal n) result }
+{
     if n < 10_000 {
         return place_short(slot, at, n);
     }
-    if n < 100_000_000 {
-        let next = place_short(slot, at, n / 10_000);
-        return place_four(slot, next, n % 10_000);
+    let front = place_eight(slot, at, n / 10_000);
+    place_four(slot, front, n % 10_000)
+}
+
+#[inline(always)]
+fn place_eight(slot: &mut [u8], at: usize, n: u64) -> usize
+    requires { (n < 100000000) × (at + length (decimal n) ≤ length slot.old) }
+    ensures { Placed slot.old slot.new at (decimal n) result }
+{
+    if n < 10_000 {
+        return place_short(slot, at, n);
     }
-    let front = place_digits(slot, at, n / 10_000);
+    let front = place_short(slot, at, n / 10_000);
     place_four(slot, front, n % 10_000)
 }
 

@@ -1,7 +1,7 @@
 // How much room a line takes at most, where its texts are short.
 
 ghost use Rattle.std.specs.Prelude.{◌≡◌, ◌+◌, ◌^◌, ◌<◌, ◌≤◌, length, true, IfSome};
-ghost use Rattle.rdf_lines.specs.Placing.{graph_room, iris_room, line_room, node_room, subject_room, tail_room, term_room};
+ghost use Rattle.rdf_lines.specs.Placing.{graph_room, iris_room, line_room, literal_room, node_room, subject_room, tail_room, term_room};
 
 use rdf_terms::{IriView, LiteralRef, NodeRef, QuadRef, SubjectRef, TailRef, TermRef};
 
@@ -96,13 +96,14 @@ fn term_room(term: &TermRef<'_>) -> usize
 
 #[inline(always)]
 fn literal_room(literal: LiteralRef<'_>) -> usize
-    ensures { result ≡ length literal.entry.lexical.now + tail_room literal.entry.tail }
+    ensures { result ≡ literal_room literal.entry }
 {
     literal.lexical.len() + tail_room(literal.tail)
 }
 
+/// The bytes of a tag or a datatype.
 #[inline(always)]
-fn tail_room(tail: TailRef<'_>) -> usize
+pub fn tail_room(tail: TailRef<'_>) -> usize
     ensures { result ≡ tail_room tail.entry }
 {
     match tail {

@@ -3,24 +3,13 @@ use Rattle.itoa.proofs.Decimal.{decimal_four, length_four}
 use Rattle.rdf_terms.proofs.Places.{Placed-as, Placed-then}
 use Rattle.rdf_lines.proofs.writer.digits.+place_digits.Goals as goal
 
-pub place_short-next-requires : goal.place_short-next-requires
-place_short-next-requires t c = (omega arith, omega (arith, c.requires, length_four c.args.n c.if-n-lt10000.false c.ranges.n.fits))
+pub place_digits-front-requires : goal.place_digits-front-requires
+place_digits-front-requires t c = (omega (arith, c.decreases), omega (arith, c.requires, length_four c.args.n (omega (arith, c.if-n-lt100000000.false)) c.ranges.n.fits))
 
 pub place_four-requires : goal.place_four-requires
 place_four-requires t c =
-    let front = c.place_short-next.ensures in
-    (omega arith, omega (arith, c.requires, front.moved, front.len, length_four c.args.n c.if-n-lt10000.false c.ranges.n.fits))
-
-pub returns-then-n-lt100000000 : goal.returns-then-n-lt100000000
-returns-then-n-lt100000000 t c = Placed-as (sym (decimal_four c.args.n c.if-n-lt10000.false c.ranges.n.fits)) (Placed-then c.place_short-next.ensures c.place_four.ensures)
-
-pub place_digits-front-requires : goal.place_digits-front-requires
-place_digits-front-requires t c = (omega (arith, c.decreases), omega (arith, c.requires, length_four c.args.n c.if-n-lt10000.false c.ranges.n.fits))
-
-pub place_four-requires-2 : goal.place_four-requires-2
-place_four-requires-2 t c =
     let front = c.place_digits-front.ensures in
-    (omega arith, omega (arith, c.requires, front.moved, front.len, length_four c.args.n c.if-n-lt10000.false c.ranges.n.fits))
+    (omega arith, omega (arith, c.requires, front.moved, front.len, length_four c.args.n (omega (arith, c.if-n-lt100000000.false)) c.ranges.n.fits))
 
 pub returns : goal.returns
-returns t c = Placed-as (sym (decimal_four c.args.n c.if-n-lt10000.false c.ranges.n.fits)) (Placed-then c.place_digits-front.ensures c.place_four-2.ensures)
+returns t c = Placed-as (sym (decimal_four c.args.n (omega (arith, c.if-n-lt100000000.false)) c.ranges.n.fits)) (Placed-then c.place_digits-front.ensures c.place_four.ensures)
