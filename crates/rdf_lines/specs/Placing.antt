@@ -11,8 +11,6 @@ use Rattle.rdf_terms.specs.declared.views.SubjectRef.TheVariants as subject_ref
 use Rattle.rdf_terms.specs.declared.views.TermRef.{TermRef}
 use Rattle.rdf_terms.specs.declared.views.TermRef.TheVariants as term_ref
 use Rattle.rdf_terms.specs.declared.views.QuadRef.{QuadRef}
-use Rattle.rdf_terms.specs.Runs.{is_short_byte}
-use Rattle.rdf_terms.specs.Terms.{all_have}
 use Rattle.rdf_lines.specs.declared.form.Escapes.TheVariants.{Plain}
 use Rattle.rdf_lines.specs.declared.form.WrittenForm.{WrittenForm}
 use Rattle.rdf_lines.specs.declared.form.Style.{Style}
@@ -92,11 +90,11 @@ abbrev pub IsShortSubject : WrittenForm → SubjectRef → Type 0
 IsShortSubject f (subject_ref.Iri i) = length i.text.now ≤ 64
 IsShortSubject f (subject_ref.Node n) = (f.style ≡ Tagged) × (f.prefix.word.now ≡ []) × IsShortNode n
 
--- the same of an object; no byte of a literal's lexical form is escaped
+-- the same of an object
 abbrev pub IsShortTerm : WrittenForm → TermRef → Type 0
 IsShortTerm f (term_ref.Iri i) = length i.text.now ≤ 64
 IsShortTerm f (term_ref.Node n) = (f.style ≡ Tagged) × (f.prefix.word.now ≡ []) × IsShortNode n
-IsShortTerm f (term_ref.Literal l) = (literal_room l ≤ 128) × (all_have (is_short_byte 34) l.lexical.now ≡ true)
+IsShortTerm f (term_ref.Literal l) = literal_room l ≤ 128
 
 -- no graph, or an IRI
 abbrev pub IsShortGraph : Option SubjectRef → Type 0

@@ -172,8 +172,8 @@ impl<A: Allocator + Copy> LineBuffer<A> {
         }
     }
 
-    /// What `put_line` does in the plain form, where each text has at most 64 bytes, no character of a literal is escaped, no word stands in front of a node's
-    /// name, and memory for the longest line of such is filled. Else it appends nothing. It takes no memory.
+    /// What `put_line` does in the plain form, where each text has at most 64 bytes, no word stands in front of a node's name, and memory for the longest
+    /// line of such is filled. Else it appends nothing. It takes no memory.
     #[inline(always)]
     pub fn put_short(&mut self, quad: &QuadRef<'_>, form: WrittenForm<'_>) -> bool
         ensures written { result ≡ true → self.new ≡ self.old ++ encode_utf8_all (line_in (form_of form.entry) (quad_of quad.now)) }

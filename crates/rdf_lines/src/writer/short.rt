@@ -2,33 +2,30 @@
 
 ghost use Rattle.std.specs.Prelude.{◌≡◌, ◌++◌, ◌+◌, ◌<◌, ◌≤◌, decimal, length, [], ◌∷◌, None, true, IfSome};
 ghost use Rattle.rdf_terms.specs.Placing.{Placed};
-ghost use Rattle.rdf_terms.specs.Runs.{is_short_byte};
-ghost use Rattle.rdf_terms.specs.Terms.{all_have};
 ghost use Rattle.rdf_lines.specs.declared.form.Style.TheVariants.{Tagged};
 ghost use Rattle.rdf_lines.specs.Forms.{form_of};
 ghost use Rattle.rdf_lines.specs.Placing.{IsShort, IsShortGraph, IsShortNode, IsShortSubject, IsShortTerm, WrittenAt, literal_room};
 ghost use Rattle.rdf_lines.specs.Writing.{space};
-ghost use Rattle.rdf_lines.specs.WrittenBytes.{graph_bytes, line_bytes, literal_bytes, node_bytes, subject_bytes, usual};
+ghost use Rattle.rdf_lines.specs.WrittenBytes.{graph_bytes, line_bytes, node_bytes, subject_bytes, usual};
 
 use crate::form::{Escapes, Style, WrittenForm};
 use crate::writer::at_once::{place_iri, place_spaced, place_tail};
+use crate::writer::characters::place_characters;
 use crate::writer::digits::place_twelve;
 use crate::writer::room::tail_room;
 use rdf_terms::place::{place_byte, place_text, place_two};
-use rdf_terms::runs::{Run, is_run};
 use rdf_terms::{LabelView, LiteralRef, NodeRef, QuadRef, SubjectRef, TermRef};
 
 /// The most bytes of a text that is placed without a loop.
 const SHORT: usize = 64;
 
-/// The most bytes of a line of five such texts: those of a literal with its datatype, in a graph.
-const SHORT_LINE: usize = 5 * SHORT + 22;
+/// The most bytes of a line of five such texts: those of a literal with its datatype, in a graph. An escape may stand for each byte of the literal's.
+const SHORT_LINE: usize = 7 * SHORT + 22;
 
 /// Offsets that are placed without a call are below this one.
 const MOST: u64 = 1_000_000_000_000;
 
-/// Puts the line of a quad in the plain form, where its texts are short, no character of a literal is escaped, nodes have no word in front of their names,
-/// and there is room for any such line; else it puts nothing.
+/// Puts the line of a quad in the plain form, where its texts are short, nodes have no word in front of their names, and there is room for any such line; else it puts nothing.
 #[inline(always)]
 pub fn put_short(
     quad: &QuadRef<'_>,
@@ -108,11 +105,9 @@ fn is_short_object(object: &TermRef<'_>, form: &WrittenForm<'_>) -> bool
 
 #[inline(always)]
 fn is_short_literal(literal: LiteralRef<'_>) -> bool
-    ensures short { result ≡ true → literal_room literal.entry ≤ 128 }
-    ensures plain { result ≡ true → all_have (is_short_byte 34) literal.entry.lexical.now ≡ true }
+    ensures { result ≡ true → literal_room literal.entry ≤ 128 }
 {
-    let lexical = literal.lexical.as_bytes();
-    is_short_text(lexical) && tail_room(literal.tail) <= SHORT && is_run(Run::QuoteText, lexical)
+    is_short_text(literal.lexical.as_bytes()) && tail_room(literal.tail) <= SHORT
 }
 
 // A graph that is a node is rare, and would be one more copy of the code for digits.
@@ -128,12 +123,12 @@ fn is_short_graph(graph: &Option<SubjectRef<'_>>) -> bool
 }
 
 // Each part and a space, then the dot and LF: where the line ends. The parts are those of the form without a word and without escapes,
-// which this one is wherever a part depends on it. A call, and the object's kinds told here: a function as large as this gets no mark, so what it calls itself is
-// inlined in it, and each of that is small enough for its own.
+// which this one is wherever a part depends on it. A call, in which the object's kinds are told: a function as large as this one keeps no mark, and what it calls
+// is small enough to keep its own, so that all of it stands here.
 #[inline(never)]
 fn place_line(slot: &mut [u8], at: usize, quad: &QuadRef<'_>, form: &WrittenForm<'_>) -> usize
     requires short { IsShort form.now quad.now }
-    requires room { at + 342 ≤ length slot.old }
+    requires room { at + 470 ≤ length slot.old }
     ensures { Placed slot.old slot.new at (line_bytes (form_of form.now) quad.now) result }
 {
     let second = place_subject(slot, at, &quad.subject, form);
@@ -141,7 +136,12 @@ fn place_line(slot: &mut [u8], at: usize, quad: &QuadRef<'_>, form: &WrittenForm
     let object = match &quad.object {
         TermRef::Iri(iri) => place_iri(slot, third, *iri),
         TermRef::Node(node) => place_node(slot, third, node),
-        TermRef::Literal(literal) => place_literal(slot, third, *literal),
+        TermRef::Literal(literal) => {
+            let inside = place_byte(slot, third, b'"');
+            let close = place_characters(slot, inside, literal.lexical);
+            let tail = place_byte(slot, close, b'"');
+            place_tail(slot, tail, literal.tail)
+        }
     };
     let fourth = place_byte(slot, object, b' ');
     let last = place_graph(slot, fourth, &quad.graph);
@@ -206,19 +206,6 @@ fn place_number(slot: &mut [u8], at: usize, letter: u8, offset: u64) -> usize
     let name = place_two(slot, at, b'_', b':');
     let begin = place_byte(slot, name, letter);
     place_twelve(slot, begin, offset)
-}
-
-#[inline(always)]
-fn place_literal(slot: &mut [u8], at: usize, literal: LiteralRef<'_>) -> usize
-    requires room { at + (literal_room literal + 6) ≤ length slot.old }
-    requires plain { all_have (is_short_byte 34) literal.lexical.now ≡ true }
-    ensures placed { Placed slot.old slot.new at (literal_bytes literal.entry) result }
-    ensures within { result ≤ at + (literal_room literal.entry + 6) }
-{
-    let inside = place_byte(slot, at, b'"');
-    let close = place_text(slot, inside, literal.lexical.as_bytes());
-    let end = place_byte(slot, close, b'"');
-    place_tail(slot, end, literal.tail)
 }
 
 #[inline(always)]

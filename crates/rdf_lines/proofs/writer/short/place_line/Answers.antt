@@ -4,6 +4,7 @@ use Rattle.rdf_terms.proofs.Places.{Placed-as, Placed-then}
 use Rattle.rdf_lines.specs.declared.form.Escapes.TheVariants.{Plain}
 use Rattle.rdf_lines.specs.WrittenBytes.{term_bytes, usual}
 use Rattle.rdf_lines.proofs.EncodedLine.{literal_bytes}
+use Rattle.rdf_lines.proofs.PlacedCharacters.{quoted_bytes}
 use Rattle.rdf_lines.proofs.PlacedLines.{placed_at, short_line}
 use Rattle.rdf_lines.proofs.writer.short.place_line.Goals as goal
 use Rattle.rdf_lines.proofs.writer.short.place_line.Goals.{in-Iri, in-Node, in-Literal}
@@ -16,8 +17,9 @@ returns c =
       | in-Node w ↦ placed_at w.slot-is w.object-is (Placed-as (sym (ap (term_bytes usual) w.in-Node.is)) w.place_node-object.ensures.placed)
       | in-Literal w ↦
           let literal = w.in-Literal.literal in
-          placed_at w.slot-is w.object-is
-          (Placed-as (sym (literal_bytes Plain literal.lexical.now literal.tail) ∙ sym (ap (term_bytes usual) w.in-Literal.is)) w.place_literal-object.ensures.placed)
+          let text = Placed-then w.place_byte-inside.ensures (Placed-then w.place_characters-close.ensures.placed w.place_byte-tail.ensures) in
+          let whole = Placed-then (Placed-as (sym (quoted_bytes literal.lexical.now)) text) w.place_tail-object.ensures.placed in
+          placed_at w.slot-is w.object-is (Placed-as (sym (literal_bytes Plain literal.lexical.now literal.tail) ∙ sym (ap (term_bytes usual) w.in-Literal.is)) whole)
     ] in
     let terms = Placed-then (Placed-then c.place_subject-second.ensures.placed third.ensures.placed) (Placed-then object c.place_byte-fourth.ensures) in
     Placed-as (short_line c.args.form.now c.args.quad.now c.requires.short) (Placed-then (Placed-then terms c.place_graph-last.ensures.placed) c.place_two.ensures)
