@@ -14,7 +14,6 @@ use Rattle.rdf_terms.specs.Placing.{Placed}
 use Rattle.rdf_terms.specs.declared.views.IriView.{IriView}
 use Rattle.rdf_terms.specs.declared.views.LabelView.{LabelView}
 use Rattle.rdf_terms.specs.declared.views.NodeRef.TheVariants as node_ref
-use Rattle.rdf_terms.specs.declared.views.LiteralRef.{LiteralRef}
 use Rattle.rdf_terms.specs.declared.views.TermRef.{TermRef}
 use Rattle.rdf_terms.specs.declared.views.TermRef.TheVariants as term
 use Rattle.rdf_terms.specs.Views.{iri_chars, iris_quad, tail_by}
@@ -26,7 +25,7 @@ use Rattle.rdf_lines.specs.NodePrefixes.{Form, unprefixed}
 use Rattle.rdf_lines.specs.Placing.{IsShort, IsShortGraph, IsShortSubject, IsShortTerm, label_bytes, number_bytes}
 use Rattle.rdf_lines.specs.Writing.{graph_text, space, string_text, tail_text, written}
 use Rattle.rdf_lines.specs.WrittenBytes.{graph_bytes, iri_bytes, iris_bytes, line_bytes, node_bytes, subject_bytes, term_bytes, usual}
-use Rattle.rdf_lines.proofs.EncodedLine.{between, encoded_line, encoded_node, literal_bytes as encoded_literal}
+use Rattle.rdf_lines.proofs.EncodedLine.{between, encoded_line, encoded_node}
 use Rattle.rdf_lines.proofs.EscapedRuns.{plain_iri}
 
 -- an IRI in its brackets, in the plain form
@@ -70,7 +69,7 @@ unfolding chars
 same_form f e s p =
     ap (λ x. unprefixed x Plain) (sym s) ∙ ap (unprefixed f.style) (sym e) ∙ ap (λ w. record { style = f.style; escapes = f.escapes; prefix = chars w }) (sym p)
 
--- what a short part is written as does not hang on the form
+-- each part of a short line is written in the usual form as it is in its own
 usual_subject : (f : WrittenForm) (s : SubjectRef) → f.escapes ≡ Plain → IsShortSubject f s → subject_bytes usual s ≡ subject_bytes (form_of f) s
 usual_subject f (subject.Iri i) e h = ap (λ x. iri_bytes x i) (sym e)
 usual_subject f (subject.Node n) e h = ap (λ g. subject_bytes g (subject.Node n)) (same_form f e h.0 h.1)

@@ -1,5 +1,5 @@
 -- Bytes that are placed in a buffer that has room for them, and how much room a line takes at most.
-use Rattle.std.specs.Prelude.{◌≡◌, ℕ, ◌+◌, ◌*◌, ◌/◌, ◌%◌, ◌<◌, ◌≤◌, List, [], ◌∷◌, ◌++◌, Option, Some, None, true, ⊤, decimal, length, take}
+use Rattle.std.specs.Prelude.{◌≡◌, ℕ, ◌+◌, ◌*◌, ◌/◌, ◌%◌, ◌<◌, ◌≤◌, List, [], ◌∷◌, ◌++◌, Option, Some, None, ⊤, decimal, length, take}
 use Rattle.rdf_terms.specs.declared.views.IriView.{IriView}
 use Rattle.rdf_terms.specs.declared.views.LiteralRef.{LiteralRef}
 use Rattle.rdf_terms.specs.declared.views.NodeRef.{NodeRef}
@@ -79,18 +79,18 @@ number_bytes Tagged word letter n = 95 ∷ 58 ∷ (word ++ letter ∷ decimal n)
 abbrev pub two_digits : ℕ → List ℕ
 two_digits n = (48 + n / 10) ∷ (48 + n % 10) ∷ []
 
--- texts of at most 64 bytes, and offsets of at most twelve digits
+-- a label of at most 64 bytes, or an offset of at most twelve digits
 abbrev pub IsShortNode : NodeRef → Type 0
 IsShortNode (node_ref.Label l) = length l.text.now ≤ 64
 IsShortNode (node_ref.Anon n) = n < 1000000000000
 IsShortNode (node_ref.Cell n) = n < 1000000000000
 
--- where it is a node, it is named by its letter and no word
+-- an IRI of at most 64 bytes, or such a node, named by its letter without a word
 abbrev pub IsShortSubject : WrittenForm → SubjectRef → Type 0
 IsShortSubject f (subject_ref.Iri i) = length i.text.now ≤ 64
 IsShortSubject f (subject_ref.Node n) = (f.style ≡ Tagged) × (f.prefix.word.now ≡ []) × IsShortNode n
 
--- the same of an object
+-- the same of an object; the two texts of a literal have at most 128 bytes together
 abbrev pub IsShortTerm : WrittenForm → TermRef → Type 0
 IsShortTerm f (term_ref.Iri i) = length i.text.now ≤ 64
 IsShortTerm f (term_ref.Node n) = (f.style ≡ Tagged) × (f.prefix.word.now ≡ []) × IsShortNode n
