@@ -102,7 +102,7 @@ IsShortGraph None = ⊤
 IsShortGraph (Some (subject_ref.Iri i)) = length i.text.now ≤ 64
 IsShortGraph (Some (subject_ref.Node n)) = ⊥
 
--- the line is placed without a call: its texts are short, and in the plain form
+-- what a short line is: its texts and offsets are short, and it is in the plain form
 pub record IsShort (f : WrittenForm) (q : QuadRef) : Type 0 where
   pub plain : f.escapes ≡ Plain
   pub subject : IsShortSubject f q.subject

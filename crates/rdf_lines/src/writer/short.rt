@@ -1,4 +1,4 @@
-// Lines of short texts, in the plain form: they are placed without a call.
+// Lines of short texts, in the plain form: each is placed by one call.
 
 ghost use Rattle.std.specs.Prelude.{◌≡◌, ◌++◌, ◌+◌, ◌<◌, ◌≤◌, decimal, length, [], ◌∷◌, None, true, IfSome};
 ghost use Rattle.rdf_terms.specs.Placing.{Placed};
@@ -22,7 +22,7 @@ const SHORT: usize = 64;
 /// The most bytes of a line of five such texts: those of a literal with its datatype, in a graph. An escape may stand for each byte of the literal's.
 const SHORT_LINE: usize = 7 * SHORT + 22;
 
-/// Offsets that are placed without a call are below this one.
+/// Offsets of a short line are below this one.
 const MOST: u64 = 1_000_000_000_000;
 
 /// Puts the line of a quad in the plain form, where its texts are short, nodes have no word in front of their names, and there is room for any such line; else it puts nothing.
