@@ -45,8 +45,8 @@ class File:
             if text.startswith(('use ', 'pub use ')):
                 self.bring(text)
                 continue
-            if text.startswith('module '):
-                depth = indent + 2
+            if text.startswith(('module ', 'mutual', 'abbrev mutual')):
+                name, depth = None, indent + 2
                 continue
             if indent < depth:
                 depth = 0

@@ -3,7 +3,7 @@ from collections import namedtuple
 
 Mutant = namedtuple('Mutant', 'says place old new comparison')
 CLASSES, TERMINALS, VALUES = ('rdf_terms', 'Classes'), ('rdf_terms', 'Terminals'), ('rdf_terms', 'Values')
-TREES, LINES, TOKENS, GOOD = ('rdf_trig', 'Trees'), ('rdf_lines', 'Lines'), ('rdf_tokens', 'Tokens'), ('rdf_tokens', 'Good')
+TREES, LINES, TOKENS, GOOD = ('rdf_trig', 'TreeTokens'), ('rdf_lines', 'Lines'), ('rdf_tokens', 'Tokens'), ('rdf_tokens', 'Good')
 DOTS, PARTS, RESOLVE, RESOLUTION = (('rdf_iri', it) for it in ('Dots', 'Parts', 'Resolve', 'Resolution'))
 WRITING, PREFIXES = ('rdf_lines', 'Writing'), ('rdf_lines', 'NodePrefixes')
 NAMES, QUADS, EVENTS, OWED, TREE_QUADS = (('rdf_trig', it) for it in ('Names', 'Quads', 'Events', 'Owed', 'TreeQuads'))
@@ -45,11 +45,10 @@ MUTANTS = [
     Mutant('graph labels in N-Triples', LINES, 'graph_fits NTriples g = g ≡ None', 'graph_fits NTriples g = Unit', 'lines'),
     # UTF-8, references, values
     Mutant('a character that is cut by the end is no error', GOOD, 'cond (is_end || is_some', 'cond (is_some', 'utf8'),
-    Mutant('rule A for "../" alone', DOTS, '|| begins (codes "./") w', '', 'dots'),
-    Mutant('rule C keeps the last segment', DOTS, 'by_C s = walk (47 ∷ drop 4 s.input) (parent s.output)',
-           'by_C s = walk (47 ∷ drop 4 s.input) s.output', 'dots'),
-    Mutant('a query is cut before the fragment', PARTS, 'fragment_parts scheme w = query_parts scheme (after 35 w) (before 35 w)',
-           'fragment_parts scheme w = query_parts scheme None w', 'parts of references'),
+    Mutant('rule A for "../" alone', DOTS, ' || begins (codes "./") s.input) (walk (cond', ') (walk (cond', 'dots'),
+    Mutant('rule C keeps the last segment', DOTS, '(walk (47 ∷ drop 4 s.input) (parent s.output))\n', '(walk (47 ∷ drop 4 s.input) s.output)\n', 'dots'),
+    Mutant('a query is cut before the fragment', PARTS, 'hierarchy_parts scheme (after 63 (before 35 w)) (after 35 w) (before 63 (before 35 w))',
+           'hierarchy_parts scheme (after 63 w) (after 35 w) (before 63 (before 35 w))', 'parts of references'),
     Mutant('an empty reference drops the query', RESOLVE, 'query = or_else r.query b.query', 'query = r.query', 'examples'),
     Mutant('merge forgets the slash after an authority', RESOLUTION, 'merge_onto (Some a) [] path = code "/" ∷ path',
            'merge_onto (Some a) [] path = path', 'resolved'),
@@ -85,6 +84,8 @@ MUTANTS = [
     Mutant('the quad of a list comes after it', EVENTS, 'take OpenBracket l (give early (give q (predicates_events c ps (node (anon_at l)) '
            '(take CloseBracket r rest))))', 'take OpenBracket l (give early (predicates_events c ps (node (anon_at l)) '
            '(take CloseBracket r (give q rest))))', 'documents'),
+    Mutant('a comma is no token of the events', EVENTS, 'commas_events c (comma l o os) s p rest = take Comma l (object_events c o s p None (commas_events c os s p rest))',
+           'commas_events c (comma l o os) s p rest = object_events c o s p None (commas_events c os s p rest)', 'documents'),
     Mutant('a mark one token early', TREE_QUADS, 'record { item = q; mark = n } ∷ []', 'record { item = q; mark = n - 1 } ∷ []', 'documents'),
     Mutant('the base stays', NAMES, 'scope_after s (sparql_base w i) = with_base s (reference_in s i)', 'scope_after s (sparql_base w i) = s',
            'documents'),

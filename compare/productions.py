@@ -7,7 +7,7 @@ from kit import Con, NONE as NO_VALUE, Record, some
 from shapes import TERMINALS, TEXTS
 
 
-# A definition of rdf_trig's Trees, and the production whose tokens it gives. Any other production is read as its right side.
+# A definition of rdf_trig's TreeTokens, and the production whose tokens it gives. Any other production is read as its right side.
 TREES = {
     'prefixed_tokens': 'PrefixedName', 'iri_tokens': 'iri', 'blank_tokens': 'BlankNode', 'verb_tokens': 'verb', 'string_tokens': 'String',
     'tag_tokens': 'LANGTAG', 'rdf_tokens': 'RDFLiteral', 'numeric_tokens': 'NumericLiteral', 'boolean_tokens': 'BooleanLiteral',
@@ -161,11 +161,11 @@ def compare_languages(one, other, helpers, what):
 
 
 def compare_trees(specs):
-    """Each definition of rdf_trig's Trees with its production, in Turtle and in TriG."""
-    maybe = specs.definition('rdf_trig', 'Trees', 'maybe_tokens').texts
+    """Each definition of rdf_trig's TreeTokens with its production, in Turtle and in TriG."""
+    maybe = specs.definition('rdf_trig', 'TreeTokens', 'maybe_tokens').texts
     yield None if maybe == [('tokens None', '[]'), ('tokens (Some x)', 'tokens x')] else 'maybe_tokens is not as it is read here: %s' % maybe
     for grammar in FORMS:
-        trees = TreeGrammar(specs, 'rdf_trig', 'Trees', grammar)
+        trees = TreeGrammar(specs, 'rdf_trig', 'TreeTokens', grammar)
         helpers = {it: trees.expression(it, lambda name: False) for it in TAIL_HELPERS}
         helpers['document_tokens'] = trees.expression('document_tokens', lambda name: name == 'body_tokens')
         names = {production: name for name, production in TREES.items()}

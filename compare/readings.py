@@ -47,11 +47,11 @@ class Definitions:
             for name in some_names:
                 setattr(self, name, specs.function(*module.split('.'), name))
         self.line_tokens, self.line_quads = (specs.function('rdf_lines', 'Lines', it) for it in ('document_tokens', 'document_quads'))
-        self.tree_tokens = specs.function('rdf_trig', 'Trees', 'document_tokens')
+        self.tree_tokens = specs.function('rdf_trig', 'TreeTokens', 'document_tokens')
         self.tree_quads = specs.function('rdf_trig', 'TreeQuads', 'document_quads')
         self.event_tokens = specs.function('rdf_trig', 'Events', 'tokens')
         self.grammars = {it.grammar: LineGrammar(specs, 'rdf_lines', 'Lines', it.grammar) if it.dialect == 'Lines' else
-                         TreeGrammar(specs, 'rdf_trig', 'Trees', it.grammar) for it in FORMATS.values()}
+                         TreeGrammar(specs, 'rdf_trig', 'TreeTokens', it.grammar) for it in FORMATS.values()}
 
     def read(self, document, name, base=None, limits=LIMITS):
         """The outcome of a document of a format."""

@@ -124,7 +124,7 @@ def compare_written_characters(specs, step):
 
 def compare_names(specs):
     """Names are different for different nodes: all labels of a few characters, and offsets; with one word in front, and with words of one length."""
-    name_node = specs.function('rdf_lines', 'NodePrefixes', 'name_node')
+    name_node = specs.function('rdf_lines', 'NodeNames', 'name_node')
     labels = [''.join(it) for length in (1, 2, 3) for it in itertools.product('nac01_', repeat=length)]
     numbers = [*range(120), 10**6, 2**63 - 2]
     nodes = [Con('Label', (text_of(it),)) for it in labels] + [Con(it, (n,)) for it in ('Anon', 'Cell') for n in numbers]

@@ -15,7 +15,8 @@ use Rattle.rdf_stream.specs.declared.form.Form.{Form}
 use Rattle.rdf_command.specs.declared.task.Action.{Action}
 use Rattle.rdf_command.specs.declared.task.Action.TheVariants.{Check, Show, Convert}
 use Rattle.rdf_options.specs.Options.{action_app, ascii_rule, file_rule, files_rule, graph_rule, node_prefix_rule, output_rule, prefixes_rule, rdfconv, skip_rule}
-use Rattle.rdf_command.specs.Words.{Entered, HasLimits, IsEntered, IsFormatWord, action_name, by_name, form_name, format_names, forms}
+use Rattle.rdf_command.specs.Words.{Entered, action_name, by_name, form_name, format_names, forms}
+use Rattle.rdf_command.specs.WordSteps.{HasLimits, IsEntered, IsFormatWord}
 use Rattle.rdf_command.proofs.RowLemmas.{Each, IsRead, same_text, value-of}
 use Rattle.rdf_command.proofs.GivenLemmas.{pair_is, same_some}
 use Rattle.rdf_command.proofs.LevelLemmas.{IsHelp, LevelHolds, enters}

@@ -14,7 +14,8 @@ use Rattle.rdf_stream.specs.declared.form.Form.{Form}
 use Rattle.rdf_command.specs.declared.task.Document.{Document}
 use Rattle.rdf_command.specs.declared.task.WordsFault.{WordsFault}
 use Rattle.rdf_command.specs.declared.task.WordsFault.TheVariants.{Usage, BadBase, BadNodePrefix, BadGraph, BadSkip, NoFormat, Memory}
-use Rattle.rdf_command.specs.Words.{AreDocuments, CanSkip, Entered, GivesNone, IsFormBy, IsFormless, NoBaseOf, NoFormOf, NoFormsOf, NoGraphOf, NoSkipOf, NoTaskBy, NoWordOf, base_by, fault_by, further_by, further_of, name_by, number_of}
+use Rattle.rdf_command.specs.Words.{AreDocuments, CanSkip, Entered, GivesNone, IsFormBy, IsFormless, base_by, further_by, further_of, name_by, number_of}
+use Rattle.rdf_command.specs.WordSteps.{NoBaseOf, NoFormOf, NoFormsOf, NoGraphOf, NoSkipOf, NoTaskBy, NoWordOf, fault_by}
 
 -- what is there is not none
 some≢none : {X : Type 0} (x : X) → None ≡ Some x → ⊥

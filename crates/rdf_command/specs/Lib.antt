@@ -9,3 +9,5 @@ pub mod Several
 pub mod Outputs
 pub mod Asides
 pub mod Programs
+-- what need not be: what the code's side speaks of
+pub mod WordSteps

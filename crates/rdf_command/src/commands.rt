@@ -12,9 +12,12 @@ ghost use Rattle.rdf_options.specs.Options.{rdfconv};
 ghost use Rattle.rdf_stream.specs.Skips.{HasLines};
 ghost use Rattle.rdf_command.specs.BadIris.{IsOfIri, lines_by, lines_for, lines_of};
 ghost use Rattle.rdf_command.specs.Programs.{IsTaskOf, IsNoTaskOf, IsToldBy};
-ghost use Rattle.rdf_command.specs.Words.{GivesNone, GivesTask, HasLimits, HasNumber, HasSizes, IsBase, IsEntered, IsTaskBy, IsUsageOf, IsWord, number_of};
-ghost use Rattle.rdf_command.specs.Words.{NoBaseOf, NoFormOf, NoFormsOf, NoGraphOf, NoSkipOf, NoTaskBy, NoWordOf, SkipFits, base_by, escapes_by, file_by, is_addressed, is_given};
-ghost use Rattle.rdf_command.specs.Words.{AreDocuments, CanSkip, IsFormBy, IsFormatWord, format_names, further_by, further_of, name_by};
+ghost use Rattle.rdf_command.specs.Words.{GivesNone, GivesTask, HasSizes, IsBase, IsTaskBy, IsUsageOf, IsWord, number_of};
+ghost use Rattle.rdf_command.specs.WordSteps.{HasLimits, HasNumber, IsEntered};
+ghost use Rattle.rdf_command.specs.Words.{SkipFits, base_by, escapes_by, file_by, is_addressed, is_given};
+ghost use Rattle.rdf_command.specs.WordSteps.{NoBaseOf, NoFormOf, NoFormsOf, NoGraphOf, NoSkipOf, NoTaskBy, NoWordOf};
+ghost use Rattle.rdf_command.specs.Words.{AreDocuments, CanSkip, IsFormBy, format_names, further_by, further_of, name_by};
+ghost use Rattle.rdf_command.specs.WordSteps.{IsFormatWord};
 
 use crate::bad_iris::bad_iri_lines;
 use crate::names::{FORMATS, action_of, form_by};

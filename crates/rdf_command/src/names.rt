@@ -3,7 +3,8 @@
 ghost use Rattle.std.specs.Prelude.{◌≡◌, IfSome, None, codes};
 ghost use Rattle.rdf_stream.specs.declared.form.Form.{Form};
 ghost use Rattle.rdf_command.specs.declared.task.Action.{Action};
-ghost use Rattle.rdf_command.specs.Words.{EndsIn, IsFormBy, IsFormatWord, IsFormless, action_name, form_name};
+ghost use Rattle.rdf_command.specs.Words.{EndsIn, IsFormBy, IsFormless, action_name, form_name};
+ghost use Rattle.rdf_command.specs.WordSteps.{IsFormatWord};
 
 use crate::task::Action;
 use rdf_stream::Form;

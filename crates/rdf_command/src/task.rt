@@ -2,7 +2,7 @@
 
 ghost use Rattle.std.specs.Prelude.{◌≡◌};
 ghost use Rattle.clap.specs.Words.{kind_of};
-ghost use Rattle.rdf_command.specs.Words.{fault_by};
+ghost use Rattle.rdf_command.specs.WordSteps.{fault_by};
 ghost use Rattle.rdf_command.specs.declared.task.WordsFault.TheVariants.{Memory};
 
 use clap::Error;

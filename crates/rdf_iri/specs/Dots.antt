@@ -19,6 +19,29 @@ after_segment (c ∷ w) = from 47 w
 abbrev pub walk : List ℕ → List ℕ → Walk
 walk input output = record { input = input; output = output }
 
+-- A step by the first of the five rules that fits. A: a front "../" or "./" is dropped. B: "/./", or a last "/.", has become "/". C: "/../", or a last
+-- "/..", has become "/", and the output has lost its last segment. D: of "." or ".." nothing is left. E: the first segment has moved to the output.
+unfoldable pub step : Walk → Walk
+step s =
+    cond (begins (codes "../") s.input || begins (codes "./") s.input) (walk (cond (begins (codes "../") s.input) (drop 3 s.input) (drop 2 s.input)) s.output)
+    (cond (begins (codes "/./") s.input || equal s.input (codes "/.")) (walk (47 ∷ drop 3 s.input) s.output)
+    (cond (begins (codes "/../") s.input || equal s.input (codes "/..")) (walk (47 ∷ drop 4 s.input) (parent s.output))
+    (cond (equal s.input (codes ".") || equal s.input (codes "..")) (walk [] s.output) (walk (after_segment s.input) (s.output ++ first_segment s.input)))))
+
+-- the state after so many steps
+abbrev pub steps : ℕ → Walk → Walk
+steps zero s = s
+steps (suc n) s = steps n (step s)
+
+-- the output at the end; each step shortens the input
+unfoldable pub finish : Walk → List ℕ
+finish s = (steps (length s.input) s).output
+
+-- the path without its dot segments (RFC 3986, 5.2.4)
+unfoldable pub remove_dots : List ℕ → List ℕ
+remove_dots path = finish (walk path [])
+
+-- The rules one by one.
 -- whether a rule fits, and what it gives
 abbrev pub fits_A : List ℕ → Bool
 fits_A w = begins (codes "../") w || begins (codes "./") w
@@ -54,23 +77,6 @@ by_D s = walk [] s.output
 -- the state after rule E, which always fits: the first segment has moved to the output
 abbrev pub by_E : Walk → Walk
 by_E s = walk (after_segment s.input) (s.output ++ first_segment s.input)
-
--- the first of the rules that fits
-unfoldable pub step : Walk → Walk
-step s = cond (fits_A s.input) (by_A s) (cond (fits_B s.input) (by_B s) (cond (fits_C s.input) (by_C s) (cond (fits_D s.input) (by_D s) (by_E s))))
-
--- the state after so many steps
-abbrev pub steps : ℕ → Walk → Walk
-steps zero s = s
-steps (suc n) s = steps n (step s)
-
--- the output at the end; each step shortens the input
-unfoldable pub finish : Walk → List ℕ
-finish s = (steps (length s.input) s).output
-
--- the path without its dot segments (RFC 3986, 5.2.4)
-unfoldable pub remove_dots : List ℕ → List ℕ
-remove_dots path = finish (walk path [])
 
 -- Rules by the bytes that they take.
 abbrev pub skip : ℕ → Walk → Walk

@@ -29,9 +29,9 @@ hierarchy_parts scheme query fragment w = record {
 abbrev pub query_parts : Option (List ℕ) → Option (List ℕ) → List ℕ → Parts
 query_parts scheme fragment w = hierarchy_parts scheme (after 63 w) fragment (before 63 w)
 
--- the parts of what is left without a scheme: the fragment stands after the first '#'
+-- the parts of what is left without a scheme: the fragment stands after the first '#', and the query after the first '?' before it
 abbrev pub fragment_parts : Option (List ℕ) → List ℕ → Parts
-fragment_parts scheme w = query_parts scheme (after 35 w) (before 35 w)
+fragment_parts scheme w = hierarchy_parts scheme (after 63 (before 35 w)) (after 35 w) (before 63 (before 35 w))
 
 -- the five parts of a reference, the scheme before the first ':' if the text begins with one
 unfoldable pub parts_of : List ℕ → Parts

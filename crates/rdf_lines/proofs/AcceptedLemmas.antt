@@ -14,13 +14,15 @@ use Rattle.rdf_lines.specs.declared.form.LineForm.{LineForm}
 use Rattle.rdf_lines.specs.declared.form.LineForm.TheVariants.{NQuads}
 use Rattle.rdf_lines.specs.declared.form.Style.{Style}
 use Rattle.rdf_tokens.specs.Leaves.{iri_of}
-use Rattle.rdf_lines.specs.Lines.{Name, Ref, Lab, Object, Named, Plain, WithType, WithTag, Statement, Line, Document as Tree, last, next, subject_of, term_of, quad_of, name_bound, object_bound, graph_bound, GoodStatement, GoodDocument}
+use Rattle.rdf_lines.specs.Lines.{Name, Ref, Lab, Object, Named, Plain, WithType, WithTag, Statement, Line, Document as Tree, last, next, subject_of, term_of, quad_of}
+use Rattle.rdf_lines.specs.GoodTrees.{name_bound, object_bound, graph_bound, GoodStatement, GoodDocument}
 use Rattle.rdf_lines.proofs.PlainQuads.{plain_quads}
 use Rattle.rdf_lines.specs.Lines as L
 use Rattle.rdf_lines.specs.Machine.{Begin, Finished, is_taken}
 use Rattle.rdf_lines.specs.Documents.{in_lines}
 use Rattle.rdf_lines.specs.Accepting.{line_words}
-use Rattle.rdf_lines.specs.Writing.{rename_subject, rename_term, rename, text}
+use Rattle.rdf_lines.specs.Writing.{rename, text}
+use Rattle.rdf_lines.specs.NodeNames.{rename_subject, rename_term}
 use Rattle.rdf_lines.specs.Laws.{ReadQuadsAreDue, DocumentsAreRead, RefusedIsNoDocument, WrittenTextIsRead, SubjectWithin, TermWithin, GraphWithin, IrisWithin}
 use Rattle.rdf_lines.proofs.Runs.{run_document}
 use Rattle.rdf_lines.proofs.Refusals.{ran_none}

@@ -14,7 +14,8 @@ use Rattle.rdf_terms.proofs.UsedCharacters.{uses, all_used}
 use Rattle.rdf_lines.specs.declared.form.Escapes.TheVariants.{Ascii}
 use Rattle.rdf_lines.specs.declared.form.Style.{Style}
 use Rattle.rdf_lines.specs.declared.form.Style.TheVariants.{Kept, Tagged}
-use Rattle.rdf_lines.specs.Writing.{uchar, written, escaped, iri_text, node_text, subject_text, string_text, type_text, tail_text, term_text, space, graph_text, line, text, rename_node, rename_subject, rename_term, Writable, HasAsciiLabel, SubjectHasAsciiLabel, TermHasAsciiLabel, GraphHasAsciiLabel, HasAsciiLabels}
+use Rattle.rdf_lines.specs.Writing.{uchar, written, escaped, iri_text, node_text, subject_text, string_text, type_text, tail_text, term_text, space, graph_text, line, text, rename_node, Writable, HasAsciiLabel, HasAsciiLabels}
+use Rattle.rdf_lines.specs.NodeNames.{rename_subject, rename_term, SubjectHasAsciiLabel, TermHasAsciiLabel, GraphHasAsciiLabel}
 use Rattle.rdf_lines.specs.Laws.{AsciiIsWritten}
 use Rattle.rdf_lines.proofs.UcharLemmas.{uchar_low}
 

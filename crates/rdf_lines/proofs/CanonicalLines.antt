@@ -17,11 +17,13 @@ use Rattle.rdf_lines.specs.declared.form.Escapes.TheVariants.{Plain}
 use Rattle.rdf_lines.specs.declared.form.Style.TheVariants.{Kept}
 use Rattle.rdf_lines.specs.declared.rules.Rules.{Rules}
 use Rattle.rdf_tokens.specs.Leaves.{token}
-use Rattle.rdf_lines.specs.Lines.{statement_tokens, name_tokens, object_tokens, graph_tokens, graph_fits, quad_of, GoodStatement}
+use Rattle.rdf_lines.specs.Lines.{statement_tokens, name_tokens, object_tokens, graph_tokens, graph_fits, quad_of}
+use Rattle.rdf_lines.specs.GoodTrees.{GoodStatement}
 use Rattle.rdf_lines.specs.Laws.{IrisWithin}
 use Rattle.rdf_lines.specs.Machine.{Begin, AfterDot, ran, with_quad, run, is_taken}
 use Rattle.rdf_lines.specs.Canonical.{end_text, end_count, statement_text, ended_line, ended_lines, type_count, term_count, graph_count, quad_count, count, LabelFits, IsTaken, CanonicalLinesAreRead}
-use Rattle.rdf_lines.specs.Writing.{rename_subject, rename_term, rename, quad_text, text}
+use Rattle.rdf_lines.specs.Writing.{rename, quad_text, text}
+use Rattle.rdf_lines.specs.NodeNames.{rename_subject, rename_term}
 use Rattle.rdf_lines.proofs.AcceptedLemmas.{statement_taken}
 use Rattle.rdf_lines.proofs.Complete.{run_statement}
 use Rattle.rdf_lines.proofs.Runs.{with_quads, then, run_append}

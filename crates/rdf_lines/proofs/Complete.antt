@@ -8,7 +8,8 @@ use Rattle.rdf_terms.specs.Terms.{Typed, Subject, Term, Literal, xsd_string}
 use Rattle.rdf_lines.specs.declared.form.LineForm.{LineForm}
 use Rattle.rdf_lines.specs.declared.form.LineForm.TheVariants.{NTriples, NQuads}
 use Rattle.rdf_tokens.specs.Leaves.{Leaf, token, iri_of}
-use Rattle.rdf_lines.specs.Lines.{Name, Ref, Lab, Object, Named, Plain, WithType, WithTag, Statement, Line, Document, last, next, name_tokens, object_tokens, graph_tokens, statement_tokens, line_tokens, document_tokens, string_of, subject_of, term_of, quad_of, name_bound, object_bound, graph_bound, graph_fits, GoodStatement, GoodLine, GoodDocument}
+use Rattle.rdf_lines.specs.Lines.{Name, Ref, Lab, Object, Named, Plain, WithType, WithTag, Statement, Line, Document, last, next, name_tokens, object_tokens, graph_tokens, statement_tokens, line_tokens, document_tokens, string_of, subject_of, term_of, quad_of, graph_fits}
+use Rattle.rdf_lines.specs.GoodTrees.{name_bound, object_bound, graph_bound, GoodStatement, GoodDocument}
 use Rattle.rdf_lines.proofs.PlainQuads.{plain_quads}
 use Rattle.rdf_lines.specs.Lines as L
 use Rattle.rdf_lines.specs.Machine.{Mode, Begin, AfterSubject, AfterPredicate, AfterString, AfterObject, AfterDot, Finished, goes, refuses, iri_refused, absolute, quad, Run, ran, with_quad, go_on, run}

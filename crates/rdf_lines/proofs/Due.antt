@@ -12,6 +12,7 @@ use Rattle.rdf_terms.specs.Terms.{Quad, has_scheme}
 use Rattle.rdf_lines.specs.declared.form.LineForm.{LineForm}
 use Rattle.rdf_tokens.specs.Leaves.{token}
 use Rattle.rdf_lines.specs.Lines.{Name, Ref, Lab, Object, Named, Plain, WithType, WithTag, Statement, Line, Document, last, next, name_tokens, object_tokens, graph_tokens, head_tokens, statement_tokens, line_tokens, document_tokens, quad_of, line_quads, document_quads, documents}
+use Rattle.rdf_lines.proofs.LinesLemmas.{document_good}
 use Rattle.rdf_lines.proofs.PlainQuads.{plain_quads}
 use Rattle.rdf_lines.specs.Lines as L
 use Rattle.rdf_lines.specs.Laws.{MarksNeverFall}
@@ -124,7 +125,7 @@ before-dots (next (L.one s) e d) n k =
 pub due_in : (f : LineForm) (ts more : List Token) (m : Mode) (qs : List Quad) (all : List Marked) → run has_scheme f Begin ts ≡ ran m qs → documents f (ts ++ more) all → items_below (length ts) all ≡ qs
 due_in f ts more m qs all e d =
     let t : take (length ts) (document_tokens d.0) ≡ ts = ap (take (length ts)) (sym d.1) ∙ take-append_seam ts more in
-    let g = given_begin has_scheme f ts more m qs (plain_quads d.0) e (d.0, d.1, d.2, refl) in
+    let g = given_begin has_scheme f ts more m qs (plain_quads d.0) e (d.0, d.1, document_good has_scheme f (ts ++ more) all d, refl) in
     let z : dots (take (length ts) (document_tokens d.0)) ≡ length qs = ap dots t ∙ sym (given_dots has_scheme f ts Begin m qs e) in
     ap (items_below (length ts)) (sym d.3)
     ∙ (ap (λ x. items_below x (document_quads 0 d.0)) (sym (zero-add (length ts)))

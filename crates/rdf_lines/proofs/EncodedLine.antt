@@ -22,8 +22,9 @@ use Rattle.rdf_lines.specs.declared.form.Style.{Style}
 use Rattle.rdf_lines.specs.declared.form.Style.TheVariants.{Kept, Tagged}
 use Rattle.rdf_lines.specs.declared.prefix.NodePrefixView.{NodePrefixView}
 use Rattle.rdf_lines.specs.Forms.{prefix_chars}
-use Rattle.rdf_lines.specs.NodePrefixes.{Form, prefix_node, name_subject, name_term, name_graph}
+use Rattle.rdf_lines.specs.NodePrefixes.{Form, prefix_node}
 use Rattle.rdf_lines.specs.Writing.{CanWriteNode, rename_node, iri_text, node_text, subject_text, string_text, tail_text, term_text, space, graph_text}
+use Rattle.rdf_lines.specs.NodeNames.{name_subject, name_term, name_graph}
 use Rattle.rdf_lines.specs.WrittenBytes.{IsNamed, iri_bytes, node_bytes, subject_bytes, term_bytes, graph_bytes, line_bytes, string_bytes_of, tail_bytes}
 
 -- an ASCII character is its own byte

@@ -31,9 +31,11 @@ use Rattle.rdf_lines.specs.Escaped.{is_clear, IriSpelled, StringSpelled, NamedIr
 use Rattle.rdf_lines.specs.Fronts.{Stands}
 use Rattle.rdf_lines.specs.Laws.{IrisWithin, SubjectWithin, TailWithin, TermWithin, GraphWithin}
 use Rattle.rdf_lines.specs.Lines as L
-use Rattle.rdf_lines.specs.Lines.{Name, Ref, Lab, Object, Named, Plain as PlainString, WithType, WithTag, Statement, name_tokens, object_tokens, graph_tokens, statement_tokens, string_of, subject_of, term_of, quad_of, name_bound, object_bound, graph_bound, graph_fits, GoodStatement}
+use Rattle.rdf_lines.specs.Lines.{Name, Ref, Lab, Object, Named, Plain as PlainString, WithType, WithTag, Statement, name_tokens, object_tokens, graph_tokens, statement_tokens, string_of, subject_of, term_of, quad_of, graph_fits}
+use Rattle.rdf_lines.specs.GoodTrees.{name_bound, object_bound, graph_bound, GoodStatement}
 use Rattle.rdf_lines.specs.Machine.{Begin, ran, with_quad, run, is_taken}
-use Rattle.rdf_lines.specs.Writing.{CanWrite, CanWriteSubject, CanWriteTerm, CanWriteGraph}
+use Rattle.rdf_lines.specs.Writing.{CanWrite}
+use Rattle.rdf_lines.specs.NodeNames.{CanWriteSubject, CanWriteTerm, CanWriteGraph}
 use Rattle.rdf_lines.proofs.AcceptedLemmas.{statement_taken}
 use Rattle.rdf_lines.proofs.CanonicalLines.{end_tokens, end_counted, end_ran, end_short, spells_end}
 use Rattle.rdf_lines.proofs.Complete.{run_statement}
@@ -360,7 +362,7 @@ module _ (iri : ℕ) where
   reads_graph form n None a b h =
       record { w = []; good = refl; stands = h.1; tree = λ p. None; spells = spells_nothing; means = λ p. (refl, tt, none form); counted = λ p. sym h.0 }
     where
-      none : (f : LineForm) → graph_fits f None
+      none : (f : LineForm) → graph_fits {T = Name} f None
       none NTriples = refl
       none NQuads = tt
   reads_graph form n (Some g) a b h =

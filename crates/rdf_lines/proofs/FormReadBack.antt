@@ -11,8 +11,9 @@ use Rattle.rdf_lines.specs.declared.form.Escapes.{Escapes}
 use Rattle.rdf_lines.specs.declared.form.Escapes.TheVariants.{Ascii}
 use Rattle.rdf_lines.specs.declared.form.Style.TheVariants.{Kept}
 use Rattle.rdf_lines.specs.Documents.{in_lines}
-use Rattle.rdf_lines.specs.Writing.{Writable, rename, subject_text, quad_text, line, text, SubjectHasAsciiLabel, TermHasAsciiLabel, GraphHasAsciiLabel, HasAsciiLabels}
-use Rattle.rdf_lines.specs.NodePrefixes.{IsNodePrefix, prefix_subject, prefix_term, prefix_graph, put_prefix, Form, name_subject, name_term, name_graph, named, text_in}
+use Rattle.rdf_lines.specs.Writing.{Writable, rename, subject_text, quad_text, line, text, HasAsciiLabels}
+use Rattle.rdf_lines.specs.NodePrefixes.{IsNodePrefix, put_prefix, Form, named, text_in}
+use Rattle.rdf_lines.specs.NodeNames.{SubjectHasAsciiLabel, TermHasAsciiLabel, GraphHasAsciiLabel, prefix_subject, prefix_term, prefix_graph, name_subject, name_term, name_graph}
 use Rattle.rdf_lines.specs.Laws.{SubjectWithin, TermWithin, GraphWithin, IrisWithin, TailShort, TermShort, GraphShort, TokensWithin, PrefixedTextReadsBack, PrefixedTextIsRead, PrefixedAsciiIsWritten, JoinedTextsReadBack}
 use Rattle.rdf_lines.proofs.Renamed.{renamed}
 use Rattle.rdf_lines.proofs.NodePrefixLemmas.{prefixed, named_low}

@@ -32,7 +32,8 @@ use Rattle.rdf_lines.proofs.DocumentLines.{run_accepted}
 use Rattle.rdf_lines.proofs.SplitLemmas.{documents_lines, good_read}
 use Rattle.rdf_lines.specs.Accepting.{LineAt, line_words}
 use Rattle.rdf_lines.specs.Writing.{Writable, rename, rename_node, text}
-use Rattle.rdf_lines.specs.NodePrefixes.{Form, unprefixed, name_node, named, text_in}
+use Rattle.rdf_lines.specs.NodePrefixes.{Form, unprefixed, named, text_in}
+use Rattle.rdf_lines.specs.NodeNames.{name_node}
 use Rattle.rdf_lines.specs.Laws.{ReadsBack, ReadsBackIn, IrisWithin, TokensWithin}
 use Rattle.rdf_lines.proofs.AcceptedLemmas.{quads_due, documents_read, refused_none, text_read}
 use Rattle.rdf_lines.proofs.Due.{due_ran}
@@ -286,7 +287,7 @@ pub line_quad_settled : (qs : List Marked) → trees NTriples (document_tokens l
 unfolding has
 line_quad_settled qs d =
     quads_settled NTriples (document_tokens line_tree) qs (record { item = line_quad; mark = 3 } ∷ []) d
-    (line_tree, refl, (record { subject = refl; predicate = refl; object = refl; graph = tt; labels = refl }, tt), refl)
+    (line_tree, refl, (((λ e. refl), ((λ e. refl), ((λ e. refl), ((λ e. refl), ((λ e. refl), ((λ e. refl), tt)))))), (refl, tt)), refl)
 
 -- the lines of a text, between CR and LF an empty one
 pub text_is_split : split_lines (codes "a\r\n\nb") ≡ codes "a\r" ∷ codes "\n" ∷ codes "\n" ∷ codes "b" ∷ []

@@ -11,6 +11,7 @@ pub mod ReadBack
 mod Complete
 mod Sound
 pub mod PlainQuads
+mod GoodTreesLemmas
 mod LinesLemmas
 mod Runs
 mod Viable

@@ -1,10 +1,13 @@
 -- The quads of a tree with their marks and without: those that are due without their marks are those that the machine gives out.
 use Rattle.std.proofs.Common.{◌≡◌, ℕ, ◌+◌, Bool, List, ◌∷◌, refl, sym, ap, ◌∙◌, subst, length}
+use Rattle.std.specs.List.{AllByRecursion}
 use Rattle.rdf_tokens.specs.Tokens.{Token}
 use Rattle.rdf_tokens.specs.Grammars.{Marked, unmarked}
 use Rattle.rdf_terms.specs.Terms.{Quad, has_scheme}
 use Rattle.rdf_lines.specs.declared.form.LineForm.{LineForm}
-use Rattle.rdf_lines.specs.Lines.{Line, Document, last, next, line_tokens, line_quads, document_quads, quad_of, IsDocument, documents}
+use Rattle.rdf_lines.specs.Lines.{Line, Document, last, next, line_tokens, line_quads, document_tokens, document_quads, quad_of, iri_passes, graph_fits, IsDocument, documents}
+use Rattle.rdf_lines.specs.GoodTrees.{GoodDocument}
+use Rattle.rdf_lines.proofs.GoodTreesLemmas.{tree_good, tree_passes, tree_labels}
 use Rattle.rdf_lines.proofs.PlainQuads.{plain_line, plain_quads, IsPlain}
 use Rattle.rdf_lines.specs.Lines as L
 
@@ -19,16 +22,22 @@ unmarked_quads n (last l e) = unmarked_line n l
 unmarked_quads n (next L.empty e d) = unmarked_quads (n + length (line_tokens L.empty) + 1) d
 unmarked_quads n (next (L.one s) e d) = ap (λ x. quad_of s ∷ x) (unmarked_quads (n + length (line_tokens (L.one s)) + 1) d)
 
+-- a tree of the form with its tokens and its quads is a document
+pub good_document : (test : List ℕ → Bool) (f : LineForm) (ts : List Token) (d : Document) → ts ≡ document_tokens d → GoodDocument test f d → IsDocument test f ts (document_quads 0 d)
+good_document test f ts d e h = (d, e, (subst (AllByRecursion (iri_passes test)) (sym e) (tree_passes test f d h), tree_labels test f d 0 h), refl)
+
+-- and a document has such a tree
+pub document_good : (test : List ℕ → Bool) (f : LineForm) (ts : List Token) (qs : List Marked) (d : IsDocument test f ts qs) → GoodDocument test f d.0
+document_good test f ts qs d =
+    tree_good test f d.0 0 (subst (AllByRecursion (iri_passes test)) d.1 d.2.0) (subst (AllByRecursion (λ (q : Marked). graph_fits f q.item.graph)) (sym d.3) d.2.1)
+
 -- a document with marks is one without them
 pub marked_document : (test : List ℕ → Bool) (f : LineForm) (ts : List Token) (qs : List Marked) → IsDocument test f ts qs → IsPlain test f ts (unmarked qs)
-marked_document test f ts qs d = (d.0, d.1, d.2, sym_ap d.3)
-  where
-    sym_ap : document_quads 0 d.0 ≡ qs → plain_quads d.0 ≡ unmarked qs
-    sym_ap e = sym (unmarked_quads 0 d.0) ∙ ap unmarked e
+marked_document test f ts qs d = (d.0, d.1, document_good test f ts qs d, sym (unmarked_quads 0 d.0) ∙ ap unmarked d.3)
 
 -- a document without marks has marks
 pub document_marked : (test : List ℕ → Bool) (f : LineForm) (ts : List Token) (qs : List Quad) → IsPlain test f ts qs → (ms : List Marked) × IsDocument test f ts ms × (unmarked ms ≡ qs)
-document_marked test f ts qs d = (document_quads 0 d.0, (d.0, d.1, d.2, refl), unmarked_quads 0 d.0 ∙ d.3)
+document_marked test f ts qs d = (document_quads 0 d.0, good_document test f ts d.0 d.1 d.2, unmarked_quads 0 d.0 ∙ d.3)
 
 -- What is a document with some marks has these quads.
 pub without_marks : (f : LineForm) (ts : List Token) (qs : List Quad) → (all : List Marked) × documents f ts all × (unmarked all ≡ qs) → IsPlain has_scheme f ts qs

@@ -17,8 +17,9 @@ use Rattle.rdf_terms.specs.Terms.{Node, Label, Anon, Cell, Subject, Iri, Blank, 
 use Rattle.rdf_lines.specs.declared.form.Escapes.{Escapes}
 use Rattle.rdf_lines.specs.declared.form.Style.{Style}
 use Rattle.rdf_lines.specs.declared.form.Style.TheVariants.{Kept, Tagged}
-use Rattle.rdf_lines.specs.Writing.{rename_node, rename, quad_text, line, CanWriteNode, CanWriteSubject, CanWriteTerm, CanWriteGraph, CanWrite, HasAsciiLabel}
-use Rattle.rdf_lines.specs.NodePrefixes.{is_word_char, IsNodePrefix, prefix_node, prefix_subject, prefix_term, prefix_graph, put_prefix, Form, unprefixed, name_node, line_in, text_in}
+use Rattle.rdf_lines.specs.Writing.{rename_node, rename, quad_text, line, CanWriteNode, CanWrite, HasAsciiLabel}
+use Rattle.rdf_lines.specs.NodePrefixes.{is_word_char, IsNodePrefix, prefix_node, put_prefix, Form, unprefixed, line_in, text_in}
+use Rattle.rdf_lines.specs.NodeNames.{CanWriteSubject, CanWriteTerm, CanWriteGraph, prefix_subject, prefix_term, prefix_graph, name_node}
 use Rattle.rdf_lines.specs.Laws.{PrefixedNamesStayApart, PrefixesKeepApart, NoPrefixIsNoChange}
 use Rattle.rdf_lines.proofs.AsciiLemmas.{joined, number_low}
 use Rattle.rdf_lines.proofs.Renamed.{label_front, rename_injective}

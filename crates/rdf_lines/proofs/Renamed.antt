@@ -15,7 +15,8 @@ use Rattle.rdf_terms.specs.Shapes.{dot, optional}
 use Rattle.rdf_terms.specs.Terms.{Node, Label, Anon, Cell, Subject, Iri, Blank, Term, Resource, Literal, Quad, IsLabel, IsNode, IsSubject, IsTerm, IsGraph, IsQuad}
 use Rattle.rdf_lines.specs.declared.form.Style.{Style}
 use Rattle.rdf_lines.specs.declared.form.Style.TheVariants.{Kept, Tagged}
-use Rattle.rdf_lines.specs.Writing.{rename_node, rename_subject, rename_term, rename, CanWriteNode, CanWriteSubject, CanWriteTerm, CanWriteGraph, CanWrite}
+use Rattle.rdf_lines.specs.Writing.{rename_node, rename, CanWriteNode, CanWrite}
+use Rattle.rdf_lines.specs.NodeNames.{rename_subject, rename_term, CanWriteSubject, CanWriteTerm, CanWriteGraph}
 
 -- what may stand inside a label
 abbrev middle : Regex

@@ -9,7 +9,8 @@ use Rattle.rdf_terms.specs.Terms.{Quad}
 use Rattle.rdf_lines.specs.declared.form.LineForm.{LineForm}
 use Rattle.rdf_lines.specs.declared.form.LineForm.TheVariants.{NTriples, NQuads}
 use Rattle.rdf_tokens.specs.Leaves.{Leaf, leaf_of, token, iri_of}
-use Rattle.rdf_lines.specs.Lines.{Name, Ref, Lab, Object, Named, Plain, WithType, WithTag, Statement, Line, Document, last, next, name_tokens, object_tokens, graph_tokens, statement_tokens, line_tokens, document_tokens, string_of, subject_of, term_of, quad_of, name_bound, object_bound, graph_bound, graph_fits, GoodStatement, GoodLine, GoodDocument}
+use Rattle.rdf_lines.specs.Lines.{Name, Ref, Lab, Object, Named, Plain, WithType, WithTag, Statement, Line, Document, last, next, name_tokens, object_tokens, graph_tokens, statement_tokens, line_tokens, document_tokens, string_of, subject_of, term_of, quad_of, graph_fits}
+use Rattle.rdf_lines.specs.GoodTrees.{name_bound, object_bound, GoodStatement, GoodLine}
 use Rattle.rdf_lines.proofs.PlainQuads.{plain_line, IsPlain}
 use Rattle.rdf_lines.specs.Lines as L
 use Rattle.rdf_terms.specs.declared.reason.Reason.TheVariants.{Unexpected}
@@ -111,7 +112,7 @@ abbrev graph_end : Name → Leaf → Object → Name → Leaf → Statement
 graph_end n p o g l = record { subject = n; predicate = p; object = o; graph = Some g; dot = l }
 
 -- a statement without a graph label is one of both forms
-no_label : (f : LineForm) → graph_fits f None
+no_label : (f : LineForm) → graph_fits {T = Name} f None
 no_label NTriples = refl
 no_label NQuads = tt
 

@@ -14,6 +14,7 @@ use Rattle.rdf_lines.specs.declared.form.LineForm.{LineForm}
 use Rattle.rdf_tokens.specs.Leaves.{Leaf, leaf_of, token}
 use Rattle.rdf_lines.specs.Lines.{IsDocument, document_quads, any_iri}
 use Rattle.rdf_lines.specs.Laws.{IsClosing, BeginningsAreCompleted}
+use Rattle.rdf_lines.proofs.LinesLemmas.{good_document, document_good}
 use Rattle.rdf_lines.proofs.PlainQuads.{plain_quads}
 use Rattle.rdf_lines.specs.Machine.{Mode, Begin, AfterSubject, AfterPredicate, AfterString, AfterCarets, AfterObject, AfterGraph, AfterDot, Finished, refuses, quad, accept, ran, refused, go_on, run}
 use Rattle.rdf_lines.proofs.Sound.{sound}
@@ -68,7 +69,7 @@ completed_ran test f h ts m qs e =
     let all : run test f Begin (ts ++ completion m) ≡ ran Finished (qs ++ c.0) =
     run_append test f ts (completion m) Begin ∙ (ap (λ r. then r (λ n. run test f n (completion m))) e ∙ ap (with_quads qs) c.1) in
     let d = sound test f (ts ++ completion m) (qs ++ c.0) all in
-    (document_quads 0 d.0, (d.0, d.1, d.2, refl))
+    (document_quads 0 d.0, good_document test f (ts ++ completion m) d.0 d.1 d.2)
 
 -- so they begin one
 pub viable_ran : (test : List ℕ → Bool) (f : LineForm) → test word ≡ true → (ts : List Token) (m : Mode) (qs : List Quad) → run test f Begin ts ≡ ran m qs → Viable (IsDocument test f) ts
@@ -79,7 +80,7 @@ pub ran_viable : (test : List ℕ → Bool) (f : LineForm) (ts : List Token) →
 ran_viable test f ts v =
     let d = v.2 in
     then_ran (run test f Begin ts) (λ n. run test f n v.0) Finished (plain_quads d.0)
-    (sym (run_append test f ts v.0 Begin) ∙ run_document test f (ts ++ v.0) (plain_quads d.0) (d.0, d.1, d.2, refl))
+    (sym (run_append test f ts v.0 Begin) ∙ run_document test f (ts ++ v.0) (plain_quads d.0) (d.0, d.1, document_good test f (ts ++ v.0) v.1 d, refl))
 
 -- A token that the machine refuses begins no document with those before it.
 pub not_viable : (test : List ℕ → Bool) (f : LineForm) (ts : List Token) (t : Token) (m : Mode) (qs : List Quad) (r : Reason) → run test f Begin ts ≡ ran m qs →

@@ -23,10 +23,13 @@ use Rattle.rdf_tokens.proofs.LawLemmas.{have_shapes}
 use Rattle.rdf_lines.specs.declared.form.LineForm.{LineForm}
 use Rattle.rdf_lines.specs.declared.form.Style.TheVariants.{Kept}
 use Rattle.rdf_tokens.specs.Leaves.{Leaf, token}
-use Rattle.rdf_lines.specs.Lines.{Name, Ref, Lab, Object, Named, Plain, WithType, WithTag, Statement, Document as Tree, last, next, name_tokens, object_tokens, graph_tokens, statement_tokens, document_tokens, string_of, subject_of, term_of, quad_of, name_bound, object_bound, graph_bound, GoodStatement, GoodDocument}
+use Rattle.rdf_lines.specs.Lines.{Name, Ref, Lab, Object, Named, Plain, WithType, WithTag, Statement, Document as Tree, last, next, name_tokens, object_tokens, graph_tokens, statement_tokens, document_tokens, string_of, subject_of, term_of, quad_of}
+use Rattle.rdf_lines.specs.GoodTrees.{name_bound, object_bound, graph_bound, GoodStatement, GoodDocument}
+use Rattle.rdf_lines.proofs.GoodTreesLemmas.{split}
 use Rattle.rdf_lines.proofs.PlainQuads.{plain_quads}
 use Rattle.rdf_lines.specs.Lines as L
-use Rattle.rdf_lines.specs.Writing.{CanWriteSubject, CanWriteTerm, CanWriteGraph, CanWrite, Writable}
+use Rattle.rdf_lines.specs.Writing.{CanWrite, Writable}
+use Rattle.rdf_lines.specs.NodeNames.{CanWriteSubject, CanWriteTerm, CanWriteGraph}
 use Rattle.rdf_lines.specs.Laws.{DocumentIsWritable}
 use Rattle.rdf_lines.proofs.LinesLemmas.{without_marks}
 use Rattle.rdf_terms.proofs.SpelledLemmas.{label_in, tag_in}
@@ -37,11 +40,6 @@ use Rattle.rdf_lines.proofs.WrittenText.{uses_scalar}
 pub each : (P : Token → Type 0) (ts : List Token) → All P ts → AllByRecursion P ts
 each P [] h = tt
 each P (t ∷ ts) h = (All-head P t ts h, each P ts (All-tail P t ts h))
-
--- the elements of two lists, one after the other
-pub split : (P : Token → Type 0) (ts us : List Token) → AllByRecursion P (ts ++ us) → AllByRecursion P ts × AllByRecursion P us
-split P [] us h = (tt, h)
-split P (t ∷ ts) us h = let r = split P ts us h.1 in ((h.0, r.0), r.1)
 
 -- The characters of a text with a shape, and of parts of it.
 all_from : (test : ℕ → Bool) (w : List ℕ) → AllByRecursion (λ c. test c ≡ true) w → all_have test w ≡ true

@@ -18,7 +18,8 @@ use Rattle.rdf_lines.specs.declared.form.LineEnding.TheVariants.{Lf, CrLf}
 use Rattle.rdf_lines.specs.declared.form.Escapes.TheVariants.{Plain}
 use Rattle.rdf_lines.specs.declared.form.Style.TheVariants.{Kept}
 use Rattle.rdf_lines.specs.Canonical.{statement_text, ended_line, ended_lines, without_crs, CanonicalLinesAreWritten}
-use Rattle.rdf_lines.specs.Writing.{CanWrite, CanWriteSubject, CanWriteTerm, CanWriteGraph, written, escaped, iri_text, subject_text, string_text, type_text, term_text, space, graph_text, quad_text}
+use Rattle.rdf_lines.specs.Writing.{CanWrite, written, escaped, iri_text, subject_text, string_text, type_text, term_text, space, graph_text, quad_text}
+use Rattle.rdf_lines.specs.NodeNames.{CanWriteSubject, CanWriteTerm, CanWriteGraph}
 use Rattle.rdf_lines.proofs.CanonicalLines.{written_quads, text_kept}
 use Rattle.rdf_lines.proofs.EncodedLine.{high_bytes, low}
 use Rattle.rdf_lines.proofs.EscapedRuns.{each}

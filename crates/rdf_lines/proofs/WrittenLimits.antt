@@ -29,13 +29,15 @@ use Rattle.rdf_lines.proofs.PlainQuads.{plain_quads}
 use Rattle.rdf_lines.specs.Lines as L
 use Rattle.rdf_lines.specs.Documents.{Passes, in_lines}
 use Rattle.rdf_lines.specs.NodePrefixes.{Form}
-use Rattle.rdf_lines.specs.Writing.{uchar, written, escaped, iri_text, subject_text, string_text, rename_subject, rename_term, rename, Writable}
+use Rattle.rdf_lines.specs.Writing.{uchar, written, escaped, iri_text, subject_text, string_text, rename, Writable}
+use Rattle.rdf_lines.specs.NodeNames.{rename_subject, rename_term}
 use Rattle.rdf_lines.specs.Laws.{string_width, iri_width, WrittenDocumentIsRead, PrefixedDocumentIsRead, SubjectWithin, TermWithin, GraphWithin, IrisWithin, TermShort, GraphShort, TokensWithin}
 use Rattle.rdf_lines.proofs.LinesLemmas.{without_marks}
 use Rattle.rdf_lines.proofs.UcharLemmas.{written_cases, uchar_cases}
 use Rattle.rdf_lines.proofs.AcceptedLemmas.{text_read}
 use Rattle.rdf_lines.proofs.FormReadBack.{form_text_read}
-use Rattle.rdf_lines.proofs.WellFormed.{split, document_writable}
+use Rattle.rdf_lines.proofs.GoodTreesLemmas.{split}
+use Rattle.rdf_lines.proofs.WellFormed.{document_writable}
 
 -- an escape has ten characters at most
 length-uchar : (c : ℕ) → length (uchar c) ≤ 10

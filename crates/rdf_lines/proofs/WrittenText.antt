@@ -23,7 +23,8 @@ use Rattle.rdf_tokens.specs.Tokens.Tail.{ended}
 use Rattle.rdf_terms.specs.Terms.{Label, Anon, Cell, Lang, Typed, Subject, Iri, Blank, Term, Resource, Literal, Quad, xsd_string, all_have, IsIri, IsSubject, IsTerm, IsGraph, IsQuad}
 use Rattle.rdf_lines.specs.declared.form.Escapes.{Escapes}
 use Rattle.rdf_lines.specs.declared.form.Style.TheVariants.{Kept}
-use Rattle.rdf_lines.specs.Writing.{uchar, written, escaped, CanWrite, CanWriteSubject, CanWriteTerm, CanWriteGraph, iri_text, subject_text, string_text, type_text, term_text, space, graph_text, quad_text}
+use Rattle.rdf_lines.specs.Writing.{uchar, written, escaped, CanWrite, iri_text, subject_text, string_text, type_text, term_text, space, graph_text, quad_text}
+use Rattle.rdf_lines.specs.NodeNames.{CanWriteSubject, CanWriteTerm, CanWriteGraph}
 use Rattle.rdf_terms.proofs.UsedCharacters.{uses, all_used}
 use Rattle.rdf_lines.proofs.AsciiLemmas.{low_scalars}
 use Rattle.rdf_lines.proofs.UcharLemmas.{written_cases, uchar_low}

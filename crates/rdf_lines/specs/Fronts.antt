@@ -10,7 +10,8 @@ use Rattle.rdf_lines.specs.declared.form.Escapes.TheVariants.{Plain}
 use Rattle.rdf_lines.specs.declared.form.Style.TheVariants.{Kept}
 use Rattle.rdf_lines.specs.Canonical.{tail_count, term_count, graph_count, ended_line, ended_lines, quad_count, count, LabelFits, IsTaken, IsCanonical}
 use Rattle.rdf_lines.specs.Laws.{SubjectWithin, TailWithin, TermWithin, GraphWithin}
-use Rattle.rdf_lines.specs.Writing.{CanWriteSubject, CanWriteTerm, CanWriteGraph, written, escaped, iri_text, subject_text, tail_text, term_text, space, graph_text}
+use Rattle.rdf_lines.specs.Writing.{written, escaped, iri_text, subject_text, tail_text, term_text, space, graph_text}
+use Rattle.rdf_lines.specs.NodeNames.{CanWriteSubject, CanWriteTerm, CanWriteGraph}
 
 -- The text stands there, before the rest.
 abbrev pub Stands : List ℕ → List ℕ → List ℕ → Type 0

@@ -19,8 +19,9 @@ use Rattle.rdf_lines.specs.declared.form.Escapes.{Escapes}
 use Rattle.rdf_lines.specs.declared.form.Escapes.TheVariants.{Plain, Ascii}
 use Rattle.rdf_lines.specs.declared.form.Style.{Style}
 use Rattle.rdf_lines.specs.declared.form.Style.TheVariants.{Kept}
-use Rattle.rdf_lines.specs.NodePrefixes.{IsNodePrefix, Form, unprefixed, name_node, named, text_in}
+use Rattle.rdf_lines.specs.NodePrefixes.{IsNodePrefix, Form, unprefixed, named, text_in}
 use Rattle.rdf_lines.specs.Writing.{CanWriteNode, rename, iri_text, subject_text, string_text, text, Writable, HasAsciiLabels}
+use Rattle.rdf_lines.specs.NodeNames.{name_node}
 
 -- The written bytes are a document of N-Quads whose quads are the renamed ones, whatever the limit on IRIs.
 abbrev pub ReadsBack : Style → Escapes → List Quad → ℕ → Type 0

@@ -7,6 +7,8 @@ pub mod Documents
 pub mod SplitLines
 -- what need not be: functions that compute, machines and states, what the code's side speaks of, and the laws
 pub mod Machine
+pub mod GoodTrees
+pub mod NodeNames
 pub mod Laws
 pub mod WrittenBytes
 pub mod Placing

@@ -1,9 +1,10 @@
 -- The line formats (N-Triples 7, N-Quads 4): a type for each production. A leaf is a token of the kind that the production names.
 use Rattle.std.specs.Prelude.{◌≡◌, ℕ, ◌+◌, Bool, true, List, [], ◌∷◌, ◌++◌, length, drop, Option, Some, None, option_map, unwrap_or}
+use Rattle.std.specs.List.{AllByRecursion}
 use Rattle.rdf_terms.specs.declared.kind.Kind.TheVariants.{IriRef, LabelNode, ShortString, LangTag, Carets, Dot, LineEnd, End}
 use Rattle.rdf_terms.specs.Values.{string_value, inside}
 use Rattle.rdf_tokens.specs.Tokens.{Token}
-use Rattle.rdf_tokens.specs.Leaves.{Leaf, token, iri_of}
+use Rattle.rdf_tokens.specs.Leaves.{Leaf, leaf_of, token, iri_of}
 use Rattle.rdf_tokens.specs.Grammars.{Marked}
 use Rattle.rdf_terms.specs.Terms.{Label, Lang, Typed, Subject, Iri, Blank, Term, Resource, Literal, Quad, xsd_string, has_scheme}
 use Rattle.rdf_lines.specs.declared.form.LineForm.{LineForm}
@@ -104,49 +105,22 @@ abbrev pub document_quads : ℕ → Document → List Marked
 document_quads n (last l e) = line_quads n l
 document_quads n (next l e d) = line_quads n l ++ document_quads (n + length (line_tokens l) + 1) d
 
--- each IRI passes a test: that it has a scheme, in documents; or any, in what is shaped so
-abbrev pub name_bound : (List ℕ → Bool) → Name → Type 0
-name_bound test (Ref l) = test (iri_of l) ≡ true
-name_bound test (Lab l) = Unit
-
--- the same of an object
-abbrev pub object_bound : (List ℕ → Bool) → Object → Type 0
-object_bound test (Named n) = name_bound test n
-object_bound test (Plain s) = Unit
-object_bound test (WithType s c i) = test (iri_of i) ≡ true
-object_bound test (WithTag s t) = Unit
-
--- the same of a graph label
-abbrev pub graph_bound : (List ℕ → Bool) → Option Name → Type 0
-graph_bound test None = Unit
-graph_bound test (Some n) = name_bound test n
+-- an IRIREF spells an IRI that passes a test: that it has a scheme, in documents; or any, in trees
+abbrev pub iri_passes : (List ℕ → Bool) → Token → Type 0
+iri_passes test t = t.kind ≡ IriRef → test (iri_of (leaf_of t)) ≡ true
 
 -- a graph label stands in N-Quads only
-abbrev pub graph_fits : LineForm → Option Name → Type 0
+abbrev pub graph_fits : {T : Type 0} → LineForm → Option T → Type 0
 graph_fits NTriples g = g ≡ None
 graph_fits NQuads g = Unit
 
--- a statement of the form whose IRIs pass the test
-pub record GoodStatement (test : List ℕ → Bool) (form : LineForm) (s : Statement) : Type 0 where
-  pub subject : name_bound test s.subject
-  pub predicate : test (iri_of s.predicate) ≡ true
-  pub object : object_bound test s.object
-  pub graph : graph_bound test s.graph
-  pub labels : graph_fits form s.graph
-
--- a line of such a statement, or of none
-abbrev pub GoodLine : (List ℕ → Bool) → LineForm → Line → Type 0
-GoodLine test form empty = Unit
-GoodLine test form (one s) = GoodStatement test form s
-
--- a document of such lines
-abbrev pub GoodDocument : (List ℕ → Bool) → LineForm → Document → Type 0
-GoodDocument test form (last l e) = GoodLine test form l
-GoodDocument test form (next l e d) = GoodLine test form l × GoodDocument test form d
+-- each IRI of the tokens passes the test, and each graph of the quads fits the form
+abbrev pub IsOfForm : (List ℕ → Bool) → LineForm → List Token → List Marked → Type 0
+IsOfForm test form ts qs = AllByRecursion (iri_passes test) ts × AllByRecursion (λ (q : Marked). graph_fits form q.item.graph) qs
 
 -- the tokens are a document of the form, and these are its quads with their marks
 abbrev pub IsDocument : (List ℕ → Bool) → LineForm → List Token → List Marked → Type 0
-IsDocument test form ts qs = (d : Document) × (ts ≡ document_tokens d) × GoodDocument test form d × (document_quads 0 d ≡ qs)
+IsDocument test form ts qs = (d : Document) × (ts ≡ document_tokens d) × IsOfForm test form ts qs × (document_quads 0 d ≡ qs)
 
 -- every IRI passes
 abbrev pub any_iri : List ℕ → Bool

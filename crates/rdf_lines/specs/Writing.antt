@@ -14,20 +14,44 @@ rename_node Tagged (Label x) = Label (110 ∷ x)
 rename_node Tagged (Anon n) = Label (97 ∷ decimal n)
 rename_node Tagged (Cell n) = Label (99 ∷ decimal n)
 
--- a node that is no IRI gets its name in the style
-abbrev pub rename_subject : Style → Subject → Subject
-rename_subject s (Iri i) = Iri i
-rename_subject s (Blank n) = Blank (rename_node s n)
+-- a quad with its nodes changed: a subject or a graph label,
+abbrev pub map_subject : (Node → Node) → Subject → Subject
+map_subject f (Iri i) = Iri i
+map_subject f (Blank n) = Blank (f n)
 
--- the same of an object
-abbrev pub rename_term : Style → Term → Term
-rename_term s (Resource t) = Resource (rename_subject s t)
-rename_term s (Literal w t) = Literal w t
+-- an object,
+abbrev pub map_term : (Node → Node) → Term → Term
+map_term f (Resource s) = Resource (map_subject f s)
+map_term f (Literal w t) = Literal w t
 
--- the same of a quad
+-- and all of it
+abbrev pub map_nodes : (Node → Node) → Quad → Quad
+map_nodes f q = record { subject = map_subject f q.subject; predicate = q.predicate; object = map_term f q.object; graph = option_map (map_subject f) q.graph }
+
+-- what holds of each node of a quad: of its subject,
+abbrev pub OfSubject : (Node → Type 0) → Subject → Type 0
+OfSubject P (Iri i) = Unit
+OfSubject P (Blank n) = P n
+
+-- its object,
+abbrev pub OfTerm : (Node → Type 0) → Term → Type 0
+OfTerm P (Resource s) = OfSubject P s
+OfTerm P (Literal w t) = Unit
+
+-- its graph label,
+abbrev pub OfGraph : (Node → Type 0) → Option Subject → Type 0
+OfGraph P None = Unit
+OfGraph P (Some g) = OfSubject P g
+
+-- and all of it
+pub record AllNodes (P : Node → Type 0) (q : Quad) : Type 0 where
+  pub subject : OfSubject P q.subject
+  pub object : OfTerm P q.object
+  pub graph : OfGraph P q.graph
+
+-- each node gets its name in the style
 abbrev pub rename : Style → Quad → Quad
-rename s q =
-    record { subject = rename_subject s q.subject; predicate = q.predicate; object = rename_term s q.object; graph = option_map (rename_subject s) q.graph }
+rename s q = map_nodes (rename_node s) q
 
 -- style Kept cannot write a node without a label
 abbrev pub CanWriteNode : Style → Node → Type 0
@@ -36,26 +60,9 @@ CanWriteNode Kept (Label x) = Unit
 CanWriteNode Kept (Anon n) = ⊥
 CanWriteNode Kept (Cell n) = ⊥
 
--- the style can write an IRI or a node
-abbrev pub CanWriteSubject : Style → Subject → Type 0
-CanWriteSubject s (Iri i) = Unit
-CanWriteSubject s (Blank n) = CanWriteNode s n
-
--- the same of an object
-abbrev pub CanWriteTerm : Style → Term → Type 0
-CanWriteTerm s (Resource t) = CanWriteSubject s t
-CanWriteTerm s (Literal w t) = Unit
-
--- the same of a graph label
-abbrev pub CanWriteGraph : Style → Option Subject → Type 0
-CanWriteGraph s None = Unit
-CanWriteGraph s (Some g) = CanWriteSubject s g
-
 -- the style can write each node of the quad
-pub record CanWrite (s : Style) (q : Quad) : Type 0 where
-  pub subject : CanWriteSubject s q.subject
-  pub object : CanWriteTerm s q.object
-  pub graph : CanWriteGraph s q.graph
+abbrev pub CanWrite : Style → Quad → Type 0
+CanWrite s q = AllNodes (CanWriteNode s) q
 
 -- a hex digit in upper case
 abbrev pub hex_character : ℕ → ℕ
@@ -86,8 +93,7 @@ iri_text e i = 60 ∷ flat_map (written e) i ++ 62 ∷ []
 -- a node without a label has no text of its own: it is written renamed; a label has no escapes
 abbrev pub node_text : Node → List ℕ
 node_text (Label x) = 95 ∷ 58 ∷ x
-node_text (Anon n) = []
-node_text (Cell n) = []
+node_text n = []
 
 -- an IRI or a node as it is written
 abbrev pub subject_text : Escapes → Subject → List ℕ
@@ -143,26 +149,8 @@ Writable s qs = AllByRecursion (λ q. IsQuad q × CanWrite s q) qs
 -- the label of a node, if it has one, has characters below 128 alone
 abbrev pub HasAsciiLabel : Node → Type 0
 HasAsciiLabel (Label x) = AllByRecursion (λ c. c < 128) x
-HasAsciiLabel (Anon n) = Unit
-HasAsciiLabel (Cell n) = Unit
-
--- the same of an IRI or a node
-abbrev pub SubjectHasAsciiLabel : Subject → Type 0
-SubjectHasAsciiLabel (Iri i) = Unit
-SubjectHasAsciiLabel (Blank n) = HasAsciiLabel n
-
--- the same of an object
-abbrev pub TermHasAsciiLabel : Term → Type 0
-TermHasAsciiLabel (Resource s) = SubjectHasAsciiLabel s
-TermHasAsciiLabel (Literal w t) = Unit
-
--- the same of a graph label
-abbrev pub GraphHasAsciiLabel : Option Subject → Type 0
-GraphHasAsciiLabel None = Unit
-GraphHasAsciiLabel (Some g) = SubjectHasAsciiLabel g
+HasAsciiLabel n = Unit
 
 -- each label of the quad has characters below 128 alone
-pub record HasAsciiLabels (q : Quad) : Type 0 where
-  pub subject : SubjectHasAsciiLabel q.subject
-  pub object : TermHasAsciiLabel q.object
-  pub graph : GraphHasAsciiLabel q.graph
+abbrev pub HasAsciiLabels : Quad → Type 0
+HasAsciiLabels q = AllNodes HasAsciiLabel q

@@ -16,8 +16,9 @@ use Rattle.rdf_lines.specs.declared.form.Escapes.{Escapes}
 use Rattle.rdf_lines.specs.declared.form.Escapes.TheVariants.{Plain, Ascii}
 use Rattle.rdf_lines.specs.declared.form.Style.{Style}
 use Rattle.rdf_lines.specs.declared.form.Style.TheVariants.{Tagged}
-use Rattle.rdf_lines.specs.NodePrefixes.{Form, unprefixed, name_node, name_subject, name_term, name_graph, line_in}
+use Rattle.rdf_lines.specs.NodePrefixes.{Form, unprefixed, line_in}
 use Rattle.rdf_lines.specs.Writing.{escaped, space, rename_node, node_text, iri_text, subject_text, string_text, tail_text, term_text, graph_text}
+use Rattle.rdf_lines.specs.NodeNames.{name_node, name_subject, name_term, name_graph}
 
 -- what stands in a string as it is
 abbrev pub run_of : Escapes → Run

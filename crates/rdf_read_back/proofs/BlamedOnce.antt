@@ -1,10 +1,9 @@
 -- A token is refused for one reason.
-use Rattle.std.proofs.Common.{◌≡◌, ℕ, ◌⊎◌, inl, inr, false, List, [], ◌∷◌, ◌++◌, Option, Some, None, refl, sym, ap, ◌∙◌, subst, ⊎_elim, append_assoc, arith}
+use Rattle.std.proofs.Common.{◌≡◌, ◌⊎◌, inl, inr, false, List, [], ◌∷◌, ◌++◌, Some, None, refl, sym, ap, ◌∙◌, subst, ⊎_elim, append_assoc, arith}
 use Rattle.rdf_terms.specs.declared.kind.Kind.{Kind}
 use Rattle.rdf_terms.specs.declared.kind.Kind.TheVariants.{IriRef, PnameNs, PnameLn, OpenBracket, OpenParen}
 use Rattle.rdf_terms.specs.declared.reason.Reason.{Reason}
 use Rattle.rdf_terms.specs.declared.reason.Reason.TheVariants as reason
-use Rattle.rdf_terms.specs.Terms.{Quad}
 use Rattle.rdf_tokens.specs.Tokens.{Token}
 use Rattle.rdf_tokens.specs.Grammars.{Shaped, Viable}
 use Rattle.rdf_tokens.specs.Leaves.{Leaf, leaf_of}
@@ -12,15 +11,14 @@ use Rattle.rdf_iri.specs.Scope.{InForce}
 use Rattle.rdf_trig.specs.declared.form.DocForm.{DocForm}
 use Rattle.rdf_trig.specs.Documents.{InTree, IsDeep, IsLong, IsOneMore, StandsFor, documents, opens, trees}
 use Rattle.rdf_trig.specs.Events.{Use, document_events, event_quads, itself, tokens}
-use Rattle.rdf_trig.specs.Language.{Blamed}
-use Rattle.rdf_trig.specs.Machine.{Mode, Reply, No, Go, Start, depth, step}
-use Rattle.rdf_trig.specs.Quads.{Setting, in_default}
-use Rattle.rdf_trig.specs.Refusals.{Refusal, RefusedFor, unexpected, too_deep, unbound, no_base, iri_too_long, too_many_bindings}
+use Rattle.rdf_trig.specs.Refusals.{Blamed}
+use Rattle.rdf_trig.specs.Machine.{Reply, No, Go, Start, depth, step}
+use Rattle.rdf_trig.specs.Quads.{in_default}
+use Rattle.rdf_trig.specs.Refused.{Refusal, reported, RefusedFor, unexpected, too_deep, unbound, no_base, iri_too_long, too_many_bindings}
 use Rattle.rdf_trig.proofs.machine.DepthAndSense.{Facts, IsUse, step_facts}
 use Rattle.rdf_trig.proofs.machine.ViableTokens.{Stand, any_passing, begins_reached, on_reply, reach, reach-snoc, stand, step_on, and_on}
 use Rattle.rdf_trig.proofs.trees.BoundNames.{settled}
 use Rattle.rdf_trig.proofs.trees.Senses.{same_sense, tokens_after}
-use Rattle.rdf_trig.proofs.trees.TokensOfEvents.{document_told}
 
 -- an opening bracket stands for itself
 opened_use : (s : InForce) (k : Kind) (l : Leaf) (u : Use) → opens k ≡ 1 → IsUse s k l u → u ≡ itself
@@ -54,7 +52,7 @@ module _ (form : DocForm) (start : InForce) (ahead : List Token) (t : Token) whe
   stands_viable u x = let p = x.place in (
     tokens p.rest,
     event_quads 0 (document_events start p.tree),
-    record { tree = p.tree; tokens = append_assoc ahead (t ∷ []) (tokens p.rest) ∙ (sym (told u p) ∙ document_told p.tree start); bound = x.bound; quads = refl },
+    record { tree = p.tree; tokens = append_assoc ahead (t ∷ []) (tokens p.rest) ∙ sym (told u p); bound = x.bound; quads = refl },
   )
 
   -- and a tree
@@ -62,7 +60,7 @@ module _ (form : DocForm) (start : InForce) (ahead : List Token) (t : Token) whe
   stands_shaped u x = let p = x.place in (
     tokens p.rest,
     event_quads 0 (document_events start p.tree),
-    record { tree = p.tree; tokens = append_assoc ahead (t ∷ []) (tokens p.rest) ∙ (sym (told u p) ∙ document_told p.tree start); quads = refl },
+    record { tree = p.tree; tokens = append_assoc ahead (t ∷ []) (tokens p.rest) ∙ sym (told u p); quads = refl },
   )
 
   -- a bracket has no long IRI, and binds nothing
@@ -115,15 +113,6 @@ module _ (form : DocForm) (start : InForce) (ahead : List Token) (t : Token) whe
   one too_many_bindings too_deep h k = absurd (deep_apart h.0 h.1 k.2 (inr h.2))
   one too_many_bindings iri_too_long h k = absurd (long_apart k.0 h.0 k.1 h.1 k.2 h.3)
   one too_many_bindings too_many_bindings h k = refl
-
-  -- the reason that a reader reports
-  abbrev reported : Refusal → Reason
-  reported unexpected = reason.Unexpected
-  reported too_deep = reason.TooDeep
-  reported unbound = reason.Unbound
-  reported no_base = reason.NoBase
-  reported iri_too_long = reason.IriTooLong
-  reported too_many_bindings = reason.TooManyBindings
 
   refusal_of : (r : Reason) → Blamed form start r ahead t → (x : Refusal) × (r ≡ reported x) × RefusedFor form start ahead t x
   refusal_of reason.Unexpected h = (unexpected, refl, h)

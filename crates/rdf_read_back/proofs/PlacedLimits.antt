@@ -6,7 +6,8 @@ use Rattle.rdf_terms.specs.Terms.{Subject, Quad}
 use Rattle.rdf_iri.specs.Texts.{byte_len}
 use Rattle.rdf_lines.specs.declared.form.Escapes.{Escapes}
 use Rattle.rdf_lines.specs.declared.form.Style.{Style}
-use Rattle.rdf_lines.specs.Writing.{iri_text, rename, rename_subject}
+use Rattle.rdf_lines.specs.Writing.{iri_text, rename}
+use Rattle.rdf_lines.specs.NodeNames.{rename_subject}
 use Rattle.rdf_lines.specs.Laws.{GraphShort, GraphWithin, IrisWithin, TokensWithin}
 use Rattle.rdf_stream.specs.Graphs.{all_in_graph, in_graph, or_graph}
 

@@ -17,18 +17,18 @@ use Rattle.rdf_iri.specs.Scope.{InForce}
 use Rattle.rdf_lines.specs.declared.form.Escapes.{Escapes}
 use Rattle.rdf_lines.specs.declared.form.Escapes.TheVariants.{Plain}
 use Rattle.rdf_lines.specs.declared.form.Style.TheVariants.{Tagged}
-use Rattle.rdf_lines.specs.Writing.{CanWriteSubject, CanWriteTerm, CanWriteGraph, Writable, subject_text, rename_subject, rename_term, rename}
+use Rattle.rdf_lines.specs.Writing.{Writable, subject_text, rename}
+use Rattle.rdf_lines.specs.NodeNames.{CanWriteSubject, CanWriteTerm, CanWriteGraph, rename_subject, rename_term}
 use Rattle.rdf_lines.specs.Laws.{string_width, iri_width, SubjectWithin, TailWithin, TermWithin, GraphWithin, IrisWithin, TailShort, TermShort, GraphShort, TokensWithin}
 use Rattle.rdf_lines.proofs.AcceptedLemmas.{text_read}
 use Rattle.rdf_lines.proofs.FormReadBack.{form_text_read}
 use Rattle.rdf_lines.proofs.WellFormed.{each}
 use Rattle.rdf_trig.specs.declared.form.DocForm.{DocForm}
-use Rattle.rdf_trig.specs.Trees.{Document, document_tokens}
+use Rattle.rdf_trig.specs.Trees.{Document}
 use Rattle.rdf_trig.specs.Events.{Use, itself, stands, binds, Event, Took, Gave, tokens, Bound, document_events}
 use Rattle.rdf_trig.specs.Documents.{IsLong, Passes, InTree}
 use Rattle.rdf_trig.specs.Language.{language}
 use Rattle.rdf_read_back.specs.Laws.{HasIris, DocumentIsWritable, WrittenDocumentIsRead, PrefixedDocumentIsRead}
-use Rattle.rdf_trig.proofs.trees.TokensOfEvents.{document_told}
 use Rattle.rdf_trig.proofs.trees.Senses.{tokens_after}
 use Rattle.rdf_read_back.proofs.WrittenParts.{Room, FitSubject, FitTail, FitTerm, GoodToken, Within}
 use Rattle.rdf_read_back.proofs.WrittenSteps.{AllWithin, AllFit, tree_fits}
@@ -166,7 +166,7 @@ document_writable form start bytes qs h l d =
 
 -- In a document of which no token passes a limit, each IRI that one stands for is within it.
 module _ (r : Room) (form : DocForm) (start : InForce) (same : r.iri ≡ start.limits.iri) (d : Document form) (bound : Bound (document_events start d))
-    (kept : PassesNone (Passes form start) (document_tokens d)) where
+    (kept : PassesNone (Passes form start) (tokens (document_events start d))) where
   use_within : (u : Use) → (IsLong start.limits u → ⊥) → Within r u
   use_within itself n = tt
   use_within (stands None) n = tt
@@ -178,7 +178,7 @@ module _ (r : Room) (form : DocForm) (start : InForce) (same : r.iri ≡ start.l
   kept_within front (Gave q ∷ es) e = kept_within (front ++ Gave q ∷ []) es (e ∙ sym (append_assoc front (Gave q ∷ []) es))
   kept_within front (Took t u ∷ es) e =
       let place : InTree form start (tokens front) t u = record { tree = d; front = front; rest = es; events = e; read = refl } in
-      let told : document_tokens d ≡ tokens front ++ t ∷ tokens es = sym (document_told d start) ∙ ap tokens e ∙ tokens_after front t u es in (
+      let told : tokens (document_events start d) ≡ tokens front ++ t ∷ tokens es = ap tokens e ∙ tokens_after front t u es in (
         use_within u (λ x. kept (tokens front) (tokens es) t told (u, record { place = place; bound = bound }, inr (inl x))),
         kept_within (front ++ Took t u ∷ []) es (e ∙ sym (append_assoc front (Took t u ∷ []) es)),
       )

@@ -1,5 +1,5 @@
 -- Each step of the machine gives quads that can be written within the limits, and keeps parts of quads that can.
-use Rattle.std.proofs.Common.{◌≡◌, ◌≢◌, ℕ, ◌+◌, ◌^◌, ◌<◌, true, List, [], ◌∷◌, Option, Some, None, sym, subst}
+use Rattle.std.proofs.Common.{◌≡◌, ◌≢◌, ℕ, ◌+◌, ◌^◌, ◌<◌, true, List, [], ◌∷◌, Option, Some, None, sym, subst, refl}
 use Rattle.std.specs.Prelude.{codes, IfSome}
 use Rattle.std.specs.List.{AllByRecursion}
 use Rattle.rdf_terms.specs.declared.kind.Kind.{Kind}
@@ -16,16 +16,15 @@ use Rattle.rdf_tokens.specs.Leaves.{Leaf, leaf_of}
 use Rattle.rdf_trig.specs.declared.form.DocForm.{DocForm}
 use Rattle.rdf_trig.specs.declared.form.DocForm.TheVariants.{Turtle, TriG}
 use Rattle.rdf_trig.specs.Names.{prefix_of, reference_in, name_in}
-use Rattle.rdf_trig.specs.Trees.{Document, document_tokens}
+use Rattle.rdf_trig.specs.Trees.{Document}
 use Rattle.rdf_trig.specs.Quads.{Setting, in_default, in_graph, named, node, resource, anon_at, labelled, tag_of, plain_literal, tagged_literal, typed_literal, cell_at, rest_quad}
-use Rattle.rdf_trig.specs.Events.{itself, Event, Took, Gave, give, event_quads, document_events}
+use Rattle.rdf_trig.specs.Events.{itself, Event, Took, Gave, give, event_quads, document_events, tokens}
 use Rattle.rdf_trig.specs.Machine.{Topic, sized, unsized, Level, Top, InBlock, Place, Listed, InCollection, Around, Statement, InPropertyList, Up, Subject, At, Spelling, Dotted, Sparql, Mode, Start, Over, WantPrefix, WantPrefixIri, WantBaseIri, WantDot, AfterLabel, GraphWord, GraphBracket, WantBrace, Inside, Want, After, AfterText, WantType, PropertyListStart, CollectionStart, WantVerb, AfterSemicolon, AfterPropertyList, Reply, No, Go, subject_at, verb_at, quad_at, quad_up, nil, iri_object_at, literal_at, object_start, type_at, want_type, verb_is, verb_start, after_subject, node_closed, property_list_closed, collection_closed, predicate_list_end, after_semicolon, after, tag_at, after_text, property_list_start, collection_start, after_property_list, subject_is, subject_start, start, inside, want_brace, after_label, graph_is, graph_word, graph_bracket, directive_end, want_prefix, want_prefix_iri, want_base_iri, want_dot, step, waiting}
 use Rattle.rdf_trig.specs.Machine.{stop, fronted, go_on, run}
 use Rattle.rdf_trig.specs.Spelled.{SpellsTag}
 use Rattle.rdf_read_back.specs.Laws.{HasIris}
 use Rattle.rdf_trig.proofs.machine.Soundness.{unput}
 use Rattle.rdf_trig.proofs.machine.ViableTokens.{run_tree}
-use Rattle.rdf_trig.proofs.trees.TokensOfEvents.{document_told}
 use Rattle.rdf_read_back.proofs.WrittenParts.{Room, FitIri, FitSubject, FitWord, FitTerm, FitQuad, Good, GoodToken, Within, known_fits, named_fits, subject_named, resource_fits, typed_fits, stated_fits, anon_fits, cell_fits, label_fits, short_fits, long_fits, integer_fits, decimal_fits, double_fits, true_fits, false_fits, tag_fits, reference_iri, name_iri, base_iris, binding_iris}
 
 module _ (r : Room) where
@@ -399,8 +398,8 @@ module _ (r : Room) where
   marks_fit n (Gave q ∷ es) f = (f.0, marks_fit n es f.1)
 
   -- those of a tree whose scope at the start has IRIs
-  pub tree_fits : (form : DocForm) (scope : InForce) (d : Document form) → HasIris scope → AllByRecursion (GoodToken r) (document_tokens d) →
+  pub tree_fits : (form : DocForm) (scope : InForce) (d : Document form) → HasIris scope → AllByRecursion (GoodToken r) (tokens (document_events scope d)) →
       AllWithin (document_events scope d) → AllFit (unmarked (event_quads 0 (document_events scope d)))
   tree_fits form scope d h g w =
-      let ran = run_tree true form d scope (document_tokens d) (document_told d scope) in
-      marks_fit 0 (document_events scope d) (run_fits form (document_tokens d) (in_default scope) Start (document_events scope d) ran g w (h, tt) tt)
+      let ran = run_tree true form d scope (tokens (document_events scope d)) refl in
+      marks_fit 0 (document_events scope d) (run_fits form (tokens (document_events scope d)) (in_default scope) Start (document_events scope d) ran g w (h, tt) tt)

@@ -1,6 +1,6 @@
 -- In a token with a bad escape the walk stops at the first.
-use Rattle.std.proofs.Common.{◌≡◌, ◌≢◌, ℕ, zero, suc, ◌+◌, ◌-◌, ◌*◌, ◌<◌, ◌≤◌, Bool, true, false, cond, List, [], ◌∷◌, ◌++◌, ◌==◌, ◌||◌, ◌⊎◌, inl, inr, Option, Some, None, is_some, option_map, refl, sym, ap, ◌∙◌, subst, ⊎_elim, append_assoc, arith, length, take, drop, get_or, length-append, encode_utf8, encode_utf8_all, codes}
-use Rattle.std.proofs.lemmas.Bool.{and_parts, and_from, or_cases, cases_Bool, cond-true, cond-false, false≢true, eqb-true, ne_eqb}
+use Rattle.std.proofs.Common.{◌≡◌, ℕ, zero, suc, ◌+◌, ◌-◌, ◌*◌, ◌<◌, Bool, true, false, cond, List, [], ◌∷◌, ◌++◌, ◌==◌, ◌⊎◌, inl, inr, Option, Some, None, is_some, option_map, refl, sym, ap, ◌∙◌, subst, ⊎_elim, append_assoc, arith, length, take, drop, get_or, length-append, encode_utf8, encode_utf8_all, codes}
+use Rattle.std.proofs.lemmas.Bool.{and_parts, and_from, or_cases, cond-true, cond-false, false≢true, eqb-true, ne_eqb}
 use Rattle.std.proofs.lemmas.List.{append-nil, take_at, drop_at, get_or-drop, take-append-drop}
 use Rattle.std.proofs.lemmas.Str.{length-encode, encodes-append}
 use Rattle.std.specs.Char.{len_utf8}
@@ -14,16 +14,16 @@ use Rattle.rdf_terms.specs.declared.kind.Dialect.TheVariants.{Lines, Turtle}
 use Rattle.rdf_terms.specs.declared.kind.Kind.{Kind}
 use Rattle.rdf_terms.specs.declared.kind.Kind.TheVariants.{IriRef, ShortString, LongString}
 use Rattle.rdf_terms.specs.Classes.{Class, has, scalar, one_of}
-use Rattle.rdf_terms.specs.Classes.Class.{the, hex_digit, iri_char, escape_letter, plain_double, plain_single, long_double, long_single}
+use Rattle.rdf_terms.specs.Classes.Class.{the, hex_digit, iri_char, plain_double, plain_single, long_double, long_single}
 use Rattle.rdf_terms.specs.Terms.{all_have}
 use Rattle.rdf_terms.specs.Regex.{Regex, Matches}
 use Rattle.rdf_terms.specs.Regex.Regex.{empty, one, ◌·◌, ◌∣◌, many}
-use Rattle.rdf_terms.specs.Shapes.{Shape, shape, hex, uchar, echar, optional, double_quote, single_quote}
-use Rattle.rdf_terms.specs.Pieces.{Inside, of_string, of_iri, inside, backslash, IsPiece, IsRow, letters, Means}
-use Rattle.rdf_terms.specs.Values.{EscapeState, outside, slash, digits, Move, leads, means, fails, allowed, letter_move, digit_move, hex_value, move, go, value, is_fit}
+use Rattle.rdf_terms.specs.Shapes.{Shape, shape, hex, uchar, echar, optional}
+use Rattle.rdf_terms.specs.Pieces.{Inside, of_string, of_iri, inside, IsPiece, Means}
+use Rattle.rdf_terms.specs.Values.{EscapeState, outside, slash, digits, Move, leads, means, fails, allowed, digit_move, hex_value, move, go, value, is_fit}
 use Rattle.rdf_terms.proofs.CharsLemmas.{next_char, no_chars}
 use Rattle.rdf_terms.proofs.PiecesLemmas.{string_means, iri_means}
-use Rattle.rdf_stream.specs.EscapeWalks.{begun_at, inside_of, stop_by, stop_from}
+use Rattle.rdf_stream.specs.EscapeWalks.{inside_of, stop_by, stop_from}
 use Rattle.rdf_stream.specs.BadEscapes.{ends_of, inside_by, HasBadEscape, IsBadEscape}
 use Rattle.rdf_tokens.specs.Laws.{IsLongest, IsUnfit}
 

@@ -16,10 +16,12 @@ use Rattle.rdf_driver.proofs.PromiseLemmas.{read_goes_on}
 use Rattle.rdf_stream.specs.declared.checks.NoQuads.{NoQuads}
 use Rattle.rdf_stream.specs.declared.fault.StreamFault.{StreamFault}
 use Rattle.rdf_stream.specs.declared.fault.StreamFault.TheVariants as stream
-use Rattle.rdf_stream.specs.Checks.{BeginsToRead, CheckEnds, CheckHalts, CheckStops, ChecksNoMore, HasChecked, IsChecking, IsRefusedFor, IsAccepted}
+use Rattle.rdf_stream.specs.Checks.{CheckStops, IsRefusedFor, IsAccepted}
+use Rattle.rdf_stream.specs.CheckRuns.{BeginsToRead, CheckEnds, CheckHalts, ChecksNoMore, HasChecked, IsChecking}
 use Rattle.rdf_stream.specs.Devices.{HasGiven, Reading}
-use Rattle.rdf_stream.specs.Expected.{Stands}
-use Rattle.rdf_stream.specs.Faults.{IsOfDocument, IsRefusal, fault_by}
+use Rattle.rdf_stream.specs.ExpectedRuns.{Stands}
+use Rattle.rdf_stream.specs.Faults.{IsOfDocument, IsRefusal}
+use Rattle.rdf_stream.specs.RunFaults.{fault_by}
 use Rattle.rdf_stream.specs.Pieces.{ReadStops, ReadsAll, SourceFails}
 use Rattle.rdf_stream.proofs.PiecesLemmas.{all_given, same_front, too_long_more}
 

@@ -23,16 +23,16 @@ use Rattle.rdf_driver.specs.Readers.{Driven, FeedFails, Feeds, FinishFails, Fini
 use Rattle.rdf_driver.specs.Words.{Words, in_words}
 use Rattle.rdf_lines.specs.declared.form.Escapes.{Escapes}
 use Rattle.rdf_lines.specs.declared.form.Escapes.TheVariants.{Plain, Ascii}
-use Rattle.rdf_lines.specs.declared.form.LineEnding.{LineEnding}
 use Rattle.rdf_lines.specs.declared.form.Style.{Style}
-use Rattle.rdf_lines.specs.Canonical.{written_as}
-use Rattle.rdf_lines.specs.Writing.{CanWrite, CanWriteGraph, Writable}
+use Rattle.rdf_lines.specs.Writing.{CanWrite, Writable}
 use Rattle.rdf_lines.specs.Forms.{form_of}
 use Rattle.rdf_lines.specs.NodePrefixes.{Form, IsNodePrefix, text_in, unprefixed}
+use Rattle.rdf_lines.specs.NodeNames.{CanWriteGraph}
 use Rattle.rdf_lines.proofs.NodePrefixLemmas.{IsNodePrefix-had}
 use Rattle.rdf_lines.proofs.FormReadBack.{form_ascii, form_reads_back}
 use Rattle.rdf_lines.proofs.FormsAgree.{forms_agree}
-use Rattle.rdf_stream.specs.Languages.{Conversion, Output, conversion, put_quads}
+use Rattle.rdf_stream.specs.Languages.{Conversion, put_quads}
+use Rattle.rdf_stream.specs.Outputs.{Output, conversion}
 use Rattle.rdf_stream.specs.declared.fault.StreamFault.{StreamFault}
 use Rattle.rdf_stream.specs.declared.fault.StreamFault.TheVariants as stream
 use Rattle.rdf_stream.specs.declared.line_out.LineOut.{LineOut}
@@ -43,7 +43,7 @@ use Rattle.rdf_stream.specs.Outputs.{lines_by, output_of}
 use Rattle.rdf_stream.specs.Converting.{HandedOver, HaltsFor, HasPut, IsConverting, IsPutting, RunEnds, RunHalts, IsConvertible, Reports, ReportsFault, ReportsWrite}
 use Rattle.rdf_stream.specs.Converts.{Accepts, IsAscii, RefusesDocument, WritesDue, WritesSome, lines_of}
 use Rattle.rdf_stream.specs.Devices.{AppendsFront}
-use Rattle.rdf_stream.specs.Faults.{fault_by}
+use Rattle.rdf_stream.specs.RunFaults.{fault_by}
 use Rattle.rdf_stream.specs.LineOut.{Leaves, Moves, PutHalts, SameOut, Takes, Writes}
 use Rattle.rdf_stream.specs.Parts.{IsAsciiText}
 use Rattle.rdf_stream.specs.Passes.{PassesText}

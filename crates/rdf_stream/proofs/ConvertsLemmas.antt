@@ -20,7 +20,7 @@ use Rattle.rdf_stream.specs.declared.line_out.LineOut.{LineOut}
 use Rattle.rdf_stream.specs.Converting.{Begins, HaltsFor, IsConverting, RunEnds, RunHalts, Starts}
 use Rattle.rdf_stream.specs.Converts.{Accepts, IsPrompt, RefusesDocument, StopsFor, WritesDue, WritesSome}
 use Rattle.rdf_stream.specs.Devices.{HasGiven, Reading}
-use Rattle.rdf_stream.specs.Expected.{Stands}
+use Rattle.rdf_stream.specs.ExpectedRuns.{Stands}
 use Rattle.rdf_stream.specs.Faults.{IsOfDocument, IsRefusal, IsSentOn}
 use Rattle.rdf_lines.specs.declared.form.LineForm.{LineForm}
 use Rattle.rdf_lines.specs.declared.form.Style.{Style}
@@ -34,7 +34,8 @@ use Rattle.rdf_stream.specs.declared.form.Kind.TheVariants.{Line, Tree}
 use Rattle.rdf_stream.specs.Jobs.{JobRead}
 use Rattle.rdf_stream.specs.Outputs.{output_of}
 use Rattle.rdf_stream.specs.Kinds.{kind_of}
-use Rattle.rdf_stream.specs.Languages.{Conversion, Output, conversion, conversion_by, conversion_of, output, tree_job}
+use Rattle.rdf_stream.specs.Languages.{Conversion, conversion_by, conversion_of, tree_job}
+use Rattle.rdf_stream.specs.Outputs.{Output, conversion, output}
 use Rattle.rdf_stream.specs.LineOut.{OnlyGrows}
 use Rattle.rdf_stream.specs.Pieces.{ReadStops, ReadsAll, SourceFails, TakenBefore}
 use Rattle.rdf_lines.proofs.NodePrefixLemmas.{IsNodePrefix-had}

@@ -1,5 +1,5 @@
 -- A walk over the characters of a text, step by step.
-use Rattle.std.proofs.Common.{◌≡◌, ℕ, zero, suc, ◌+◌, ◌-◌, ◌*◌, ◌^◌, ◌<◌, ◌≤◌, true, List, ◌∷◌, Option, Some, refl, sym, ap, ◌∙◌, subst, arith}
+use Rattle.std.proofs.Common.{◌≡◌, ℕ, zero, suc, ◌+◌, ◌-◌, ◌*◌, ◌<◌, ◌≤◌, true, List, ◌∷◌, Option, Some, refl, sym, ap, ◌∙◌, subst, arith}
 use Rattle.std.proofs.lemmas.Bool.{cond-true}
 use Rattle.std.specs.Char.{len_utf8}
 use Rattle.std.specs.Prelude.{SomeIff, IfSome}
@@ -7,7 +7,6 @@ use Rattle.rdf_terms.specs.Classes.{has}
 use Rattle.rdf_terms.specs.Classes.Class.{hex_digit}
 use Rattle.rdf_terms.specs.Values.{Inside, EscapeState, outside, slash, digits, Move, leads, means, fails, digit_move, hex_value, move}
 use Rattle.rdf_stream.specs.declared.bad_escape.Stand.{Stand}
-use Rattle.rdf_stream.specs.declared.bad_escape.Step.{Step}
 use Rattle.rdf_stream.specs.declared.bad_escape.Step.TheVariants.{Leads, Means, Fails}
 use Rattle.rdf_stream.specs.EscapeWalks.{begun_at, stop_by, stop_from, stand_of, stand_for, step_for, room}
 

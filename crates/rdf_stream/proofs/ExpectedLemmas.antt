@@ -28,8 +28,9 @@ use Rattle.rdf_stream.specs.declared.form.Kind.TheVariants.{Line, Tree}
 use Rattle.rdf_stream.specs.declared.line_out.LineOut.{LineOut}
 use Rattle.rdf_stream.specs.Converting.{Reports}
 use Rattle.rdf_stream.specs.Devices.{HasGiven, Reading}
-use Rattle.rdf_stream.specs.Expected.{Asks, AsksAt, AsksFor, CouldStand, Expects, ExpectsAt, ExpectsFor, NoDetails, RunExpects, Stands, StandsBefore, StandsFor, Trees, trees_by, trees_of}
-use Rattle.rdf_stream.specs.Faults.{fault_by}
+use Rattle.rdf_stream.specs.Expected.{CouldStand, ExpectsAt, ExpectsFor, NoDetails, Trees, trees_by, trees_of}
+use Rattle.rdf_stream.specs.ExpectedRuns.{Asks, AsksAt, AsksFor, Expects, RunExpects, Stands, StandsBefore, StandsFor}
+use Rattle.rdf_stream.specs.RunFaults.{fault_by}
 use Rattle.rdf_stream.specs.Jobs.{JobRead}
 use Rattle.rdf_stream.specs.Kinds.{kind_of}
 use Rattle.rdf_stream.specs.Languages.{conversion_by, language_of, tree_job}

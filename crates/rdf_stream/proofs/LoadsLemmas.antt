@@ -13,7 +13,8 @@ use Rattle.rdf_iri.specs.declared.fault.BindingFault.{BindingFault}
 use Rattle.rdf_stream.specs.declared.fault.LoadFault.{LoadFault}
 use Rattle.rdf_stream.specs.declared.fault.LoadFault.TheVariants.{Bad, Memory, Read}
 use Rattle.rdf_stream.specs.Devices.{HasGiven, Reading}
-use Rattle.rdf_stream.specs.Loads.{BindsNot, HasGivenAll, LoadStops, ReadsNot, load_fault}
+use Rattle.rdf_stream.specs.Loads.{BindsNot, HasGivenAll, LoadStops, ReadsNot}
+use Rattle.rdf_stream.specs.LoadFaults.{load_fault}
 
 -- Since a source was asked first it gave these bytes, and it may be asked for more.
 pub record IsGiving (known : Option (List ℕ)) (left : Reading) (bytes : List ℕ) (room : ℕ) : Type 0 where

@@ -24,7 +24,8 @@ use Rattle.rdf_stream.specs.declared.fault.StreamFault.{StreamFault}
 use Rattle.rdf_stream.specs.declared.fault.StreamFault.TheVariants as stream
 use Rattle.rdf_stream.specs.declared.line_out.LineOut.{LineOut}
 use Rattle.rdf_stream.specs.Devices.{AppendsFront, HasGiven, Reading as Reader}
-use Rattle.rdf_stream.specs.Faults.{IsOfDocument, IsRefusal, IsSentOn, fault_by}
+use Rattle.rdf_stream.specs.Faults.{IsOfDocument, IsRefusal, IsSentOn}
+use Rattle.rdf_stream.specs.RunFaults.{fault_by}
 use Rattle.rdf_stream.specs.LineOut.{Moves, SameOut, Writes}
 use Rattle.rdf_stream.specs.Converting.{Reports, ReportsFault, ReportsWrite}
 use Rattle.rdf_stream.specs.Pieces.{ReadStops, ReadsAll, SourceFails}

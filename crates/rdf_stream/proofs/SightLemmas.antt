@@ -25,7 +25,8 @@ use Rattle.rdf_tokens.proofs.TokensLemmas.{at_stop}
 use Rattle.rdf_tokens.proofs.GoodLemmas.{at_least, good_front}
 use Rattle.rdf_stream.specs.declared.sight.Seen.{Seen}
 use Rattle.rdf_stream.specs.declared.sight.Seen.TheVariants.{Open, First, Nothing, Unfit, Other}
-use Rattle.rdf_stream.specs.Sights.{reading_from, HasNone, IsOpen, IsLongestOpen, IsOther, IsSeen, IsSeenOf, seen_for, Sees, SeesEnd, SeesPart, HasTaken}
+use Rattle.rdf_stream.specs.Sights.{reading_from, HasNone, IsOpen, IsLongestOpen}
+use Rattle.rdf_stream.specs.SightRuns.{IsOther, IsSeen, IsSeenOf, seen_for, Sees, SeesEnd, SeesPart, HasTaken}
 
 -- Bytes that leave a token open do so too where fewer have come.
 pub shorter : (d : Dialect) (limit : ℕ) (front more : List ℕ) → HasNone (reading_from d limit (front ++ more) false) undecided → HasNone (reading_from d limit front false) undecided

@@ -36,7 +36,8 @@ use Rattle.rdf_stream.specs.Devices.{AppendsFront, HasGiven, Reading}
 use Rattle.rdf_stream.specs.Jobs.{JobRead}
 use Rattle.rdf_stream.specs.Kinds.{kind_of}
 use Rattle.rdf_stream.specs.declared.form.Kind.TheVariants.{Line}
-use Rattle.rdf_stream.specs.Languages.{Conversion, conversion_of, output, put_quads}
+use Rattle.rdf_stream.specs.Languages.{Conversion, conversion_of, put_quads}
+use Rattle.rdf_stream.specs.Outputs.{output}
 use Rattle.rdf_stream.specs.Pieces.{ReadStops, ReadsAll, SourceFails}
 use Rattle.rdf_stream.specs.Outputs.{output_of}
 use Rattle.rdf_stream.specs.Sieves.{Begins, HasRoom, HasSifted, Holds, IsEndedFront, IsSkipping, RefusesPiece, SiftFails, SiftFrontFails, SiftsFront, SkipEnds, SkipHalts, job_of, place_past, start_of}

@@ -12,7 +12,8 @@ use Rattle.rdf_driver.specs.Readers.{Driven, HasRead}
 use Rattle.rdf_driver.specs.Words.{Lawful, Words}
 use Rattle.rdf_lines.specs.declared.form.Style.{Style}
 use Rattle.rdf_lines.specs.Writing.{CanWrite, Writable}
-use Rattle.rdf_stream.specs.Languages.{Conversion, Output, conversion}
+use Rattle.rdf_stream.specs.Languages.{Conversion}
+use Rattle.rdf_stream.specs.Outputs.{Output, conversion}
 use Rattle.rdf_stream.specs.declared.fault.StreamFault.{StreamFault}
 use Rattle.rdf_stream.specs.declared.fault.StreamFault.TheVariants as fault
 use Rattle.rdf_stream.specs.declared.line_out.LineOut.{LineOut}
@@ -22,7 +23,7 @@ use Rattle.rdf_stream.specs.Pieces.{at_end}
 use Rattle.rdf_stream.specs.Devices.{AppendsFront}
 use Rattle.rdf_stream.specs.Converts.{Accepts, AcceptsAll, IsPrompt, RefusesDocument, StopsFor, WritesSome}
 use Rattle.rdf_stream.specs.Told.{told}
-use Rattle.rdf_stream.specs.Faults.{fault_by}
+use Rattle.rdf_stream.specs.RunFaults.{fault_by}
 use Rattle.rdf_stream.specs.LineOut.{Moves, SameOut}
 use Rattle.rdf_stream.specs.Outputs.{lines_by, output_of}
 

@@ -1,7 +1,6 @@
 -- The lines that explain a refusal, the first in the form that editors read.
 use Prim.Native.Char.{code}
-use Rattle.std.specs.Prelude.{◌||◌, ◌&&◌, ◌==◌, not, map, option_map, ℕ, Bool, List, [], ◌∷◌, ◌++◌, codes, cond, decimal, drop, length, nat_le, nat_lt, take, Option, Some, None}
-use Rattle.std.specs.Borrow.{Bor}
+use Rattle.std.specs.Prelude.{◌||◌, ◌&&◌, ◌==◌, not, ℕ, Bool, List, [], ◌∷◌, ◌++◌, codes, cond, decimal, drop, length, nat_le, nat_lt, take, Option, Some, None}
 use Rattle.std.specs.List.{list_all}
 use Rattle.rdf_iri.specs.Limits.{Sizes}
 use Rattle.rdf_terms.specs.declared.reason.Reason.{Reason}
@@ -92,10 +91,6 @@ words_for kinds =
     ∷ said (has kinds CloseBrace) (word_of CloseBrace)
     ∷ said (has kinds End) (word_of End)
     ∷ []
-
--- the texts of words of the code
-abbrev pub texts_of : List (Option (Bor (List ℕ))) → List (Option (List ℕ))
-texts_of words = map (option_map (λ s. s.now)) words
 
 -- the words that are said
 abbrev pub only_said : List (Option (List ℕ)) → List (List ℕ)

@@ -2,15 +2,8 @@
 use Rattle.std.specs.Prelude.{◌≡◌, Bool, true}
 use Rattle.rdf_terms.specs.declared.reason.Reason.{Reason}
 use Rattle.rdf_terms.specs.declared.reason.Reason.TheVariants.{Memory as OutOfMemory, Ended, Sink}
-use Rattle.rdf_tokens.specs.declared.token.Fault.{Fault}
 use Rattle.rdf_stream.specs.declared.fault.StreamFault.{StreamFault}
-use Rattle.rdf_stream.specs.declared.fault.StreamFault.TheVariants.{Refused, Write, Memory}
-
--- want of memory and a failing sink are faults of the run; for any other reason the document is refused
-abbrev pub fault_by : Reason → Fault → StreamFault
-fault_by OutOfMemory f = Memory
-fault_by Sink f = Write
-fault_by reason f = Refused f
+use Rattle.rdf_stream.specs.declared.fault.StreamFault.TheVariants.{Refused}
 
 -- the document is at fault, and neither memory nor the sink nor a reader that has ended
 abbrev pub IsOfDocument : Reason → Type 0

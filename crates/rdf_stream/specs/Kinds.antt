@@ -1,5 +1,4 @@
 -- A format's kind says what it is to a run.
-use Rattle.std.specs.Prelude.{◌≡◌}
 use Rattle.rdf_stream.specs.declared.form.Form.{Form}
 use Rattle.rdf_stream.specs.declared.form.Kind.{Kind}
 use Rattle.rdf_stream.specs.declared.form.Kind.TheVariants.{Line, Tree}
@@ -13,7 +12,3 @@ kind_of NTriples = Line line.NTriples
 kind_of NQuads = Line line.NQuads
 kind_of Turtle = Tree doc.Turtle
 kind_of TriG = Tree doc.TriG
-
--- the code's answer about a format is its kind
-abbrev pub IsKind : Form → Kind → Type 0
-IsKind f k = k ≡ kind_of f

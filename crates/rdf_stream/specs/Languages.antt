@@ -2,7 +2,6 @@
 use Rattle.std.specs.Prelude.{ℕ, List, Option}
 use Rattle.rdf_terms.specs.Terms.{Quad}
 use Rattle.rdf_tokens.specs.Grammars.{Language}
-use Rattle.rdf_driver.specs.Words.{Words, in_words}
 use Rattle.rdf_lines.specs.declared.form.Style.{Style}
 use Rattle.rdf_lines.specs.declared.form.Style.TheVariants.{Kept, Tagged}
 use Rattle.rdf_lines.specs.Documents.{in_lines}
@@ -15,11 +14,6 @@ use Rattle.rdf_stream.specs.Kinds.{kind_of}
 use Rattle.rdf_stream.specs.Jobs.{JobRead}
 use Rattle.rdf_stream.specs.Graphs.{all_in_graph}
 
--- how quads are written: the form of their lines, and the graph that those of the default graph get, or none
-pub record Output : Type 0 where
-  pub form : Form
-  pub graph : Option (List ℕ)
-
 -- what is read, and how its quads are written
 pub record Conversion : Type 1 where
   pub language : Language
@@ -30,17 +24,9 @@ pub record Conversion : Type 1 where
 abbrev pub put_quads : Conversion → List Quad → List Quad
 put_quads job qs = all_in_graph job.graph qs
 
--- the conversion of what a grammar reads from this start on, with this limit on its tokens
-abbrev pub conversion : {G X : Type 0} → Words G X Quad → X → ℕ → Output → Conversion
-conversion w x limit output = record { language = in_words w x limit; form = output.form; graph = output.graph }
-
 -- what a job asks of the lines, with blank nodes named in a style
 abbrev pub written_form : Style → JobRead → Form
 written_form style job = record { style = style; escapes = job.escapes; prefix = job.node_prefix }
-
--- so its form, and the job's graph
-abbrev pub output : Style → JobRead → Output
-output style job = record { form = written_form style job; graph = job.graph }
 
 -- the base and the bindings of the job are in force before the first token
 abbrev pub tree_job : DocForm → JobRead → Chosen

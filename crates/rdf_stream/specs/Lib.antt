@@ -6,7 +6,6 @@ pub mod Jobs
 pub mod Kinds
 pub mod Graphs
 pub mod Languages
-pub mod WrittenForms
 pub mod Converts
 pub mod Skips
 pub mod Faults
@@ -23,7 +22,14 @@ pub mod Brackets
 pub mod Shows
 pub mod Loads
 -- what need not be: functions that compute, machines and states, what the code's side speaks of, and the laws
+pub mod ExplainTexts
+pub mod RunFaults
+pub mod LoadFaults
+pub mod ExpectedRuns
+pub mod SightRuns
+pub mod CheckRuns
 pub mod GraphTexts
+pub mod WrittenForms
 pub mod Outputs
 pub mod LineOut
 pub mod Kept

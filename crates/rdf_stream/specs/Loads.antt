@@ -3,9 +3,6 @@ use Rattle.std.specs.Prelude.{◌≡◌, ℕ, true, false, List, Option}
 use Rattle.std.specs.Io.KnownBytes.{Consumes, IsAtEnd}
 use Rattle.rdf_iri.specs.Limits.{Sizes}
 use Rattle.rdf_iri.specs.Bindings.{BindingMap, FailsAt, IsReadFrom}
-use Rattle.rdf_iri.specs.declared.fault.BindingReason.{BindingReason}
-use Rattle.rdf_iri.specs.declared.fault.BindingReason.TheVariants.{Memory as OutOfMemory}
-use Rattle.rdf_iri.specs.declared.fault.BindingFault.{BindingFault}
 use Rattle.rdf_stream.specs.declared.fault.LoadFault.{LoadFault}
 use Rattle.rdf_stream.specs.declared.fault.LoadFault.TheVariants.{Read, Memory, Bad}
 use Rattle.rdf_stream.specs.Devices.{HasBroken, HasGiven, Reading}
@@ -37,8 +34,3 @@ BindsNot Memory sizes bytes = Unit
 abbrev pub LoadStops : LoadFault → Sizes → Option (List ℕ) → Reading → Type 0
 LoadStops (Bad f) sizes known left = (bytes : List ℕ) × HasGivenAll known left bytes × FailsAt f.reason sizes bytes f.line
 LoadStops fault sizes known left = ReadsNot fault known left
-
--- the fault of a load, by the fault of the file
-abbrev pub load_fault : BindingReason → BindingFault → LoadFault
-load_fault OutOfMemory f = Memory
-load_fault reason f = Bad f

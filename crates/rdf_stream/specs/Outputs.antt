@@ -5,12 +5,28 @@ use Rattle.rdf_terms.specs.Views.{quad_of}
 use Rattle.rdf_terms.specs.declared.views.QuadRef.{QuadRef}
 use Rattle.rdf_lines.specs.declared.form.WrittenForm.{WrittenForm}
 use Rattle.rdf_lines.specs.Forms.{form_of}
-use Rattle.rdf_lines.specs.NodePrefixes.{line_in, text_in}
+use Rattle.rdf_lines.specs.NodePrefixes.{line_in, text_in, Form}
 use Rattle.rdf_stream.specs.declared.output.GraphView.{GraphView}
 use Rattle.rdf_stream.specs.declared.output.OutputView.{OutputView}
 use Rattle.rdf_stream.specs.GraphTexts.{graph_in}
 use Rattle.rdf_stream.specs.Graphs.{all_in_graph, in_graph}
-use Rattle.rdf_stream.specs.Languages.{Output}
+use Rattle.rdf_stream.specs.Languages.{Conversion, written_form}
+use Rattle.rdf_driver.specs.Words.{Words, in_words}
+use Rattle.rdf_lines.specs.declared.form.Style.{Style}
+use Rattle.rdf_stream.specs.Jobs.{JobRead}
+
+-- how quads are written: the form of their lines, and the graph that those of the default graph get, or none
+pub record Output : Type 0 where
+  pub form : Form
+  pub graph : Option (List ℕ)
+
+-- the conversion of what a grammar reads from this start on, with this limit on its tokens
+abbrev pub conversion : {G X : Type 0} → Words G X Quad → X → ℕ → Output → Conversion
+conversion w x limit output = record { language = in_words w x limit; form = output.form; graph = output.graph }
+
+-- so its form, and the job's graph
+abbrev pub output : Style → JobRead → Output
+output style job = record { form = written_form style job; graph = job.graph }
 
 -- the graph that the code's value means
 abbrev pub graph_of : GraphView → Option (List ℕ)

@@ -1,6 +1,6 @@
 -- The place of a refusal in its line, and the bytes of that line near it.
 use Prim.Native.Char.{code}
-use Rattle.std.specs.Prelude.{◌≡◌, ◌≤◌, ℕ, ◌+◌, ◌-◌, ◌/◌, ◌==◌, Bool, true, false, cond, List, [], ◌∷◌, ◌++◌, length, take, drop, Option, IfSome, Result, Err}
+use Rattle.std.specs.Prelude.{◌≡◌, ◌≤◌, ℕ, ◌+◌, ◌-◌, ◌/◌, ◌==◌, Bool, cond, List, [], ◌∷◌, ◌++◌, length, take, drop, Option, IfSome, Result, Err}
 use Rattle.rdf_terms.specs.declared.kind.Dialect.{Dialect}
 use Rattle.rdf_tokens.specs.Good.{tokens_of}
 use Rattle.rdf_driver.specs.declared.summary.Summary.{Summary}
@@ -85,11 +85,6 @@ pub record IsNear (dialect : Dialect) (limit : ℕ) (bytes : List ℕ) (is_end :
 abbrev pub TellsNear : Dialect → ℕ → Result Summary StreamFault → Option (List ℕ) → Reading → NearRead → Type 0
 TellsNear dialect limit (Err (Refused f)) known left near = (given : HasGiven known left) × IsNear dialect limit given.bytes left.has_ended f.offset near
 TellsNear dialect limit result known left near = ⊥
-
--- the place is asked for
-abbrev pub is_asked : {N : Type 0} → Nearby N → Bool
-is_asked Unasked = false
-is_asked near = true
 
 -- Where the place is asked for, what is told of it now holds; where it is not, nothing is told.
 abbrev pub HandsOut : {N : Type 0} → Nearby N → (N → Type 0) → Nearby N → Type 0

@@ -1,5 +1,5 @@
 -- What a run keeps of the bytes that it has read, and what it tells of the place of a refusal.
-use Rattle.std.specs.Prelude.{◌≡◌, ℕ, Bool, List, Option, None, Some, IfSome}
+use Rattle.std.specs.Prelude.{◌≡◌, ℕ, Bool, List, Option, None, Some, IfSome, true, false}
 use Rattle.std.specs.Io.KnownBytes.{Consumes}
 use Rattle.rdf_stream.specs.declared.fault.StreamFault.{StreamFault}
 use Rattle.rdf_stream.specs.declared.fault.StreamFault.TheVariants.{Refused}
@@ -11,6 +11,13 @@ use Rattle.rdf_stream.specs.Places.{IsNear, IsTold, NearRead}
 use Rattle.rdf_stream.specs.Opening.{HasOpen}
 use Rattle.rdf_stream.specs.declared.brackets.Opened.{Opened}
 use Rattle.rdf_stream.specs.declared.brackets.TokenPlace.{TokenPlace}
+use Rattle.rdf_stream.specs.declared.watch.Nearby.{Nearby}
+use Rattle.rdf_stream.specs.declared.watch.Nearby.TheVariants.{Unasked}
+
+-- the place is asked for
+abbrev pub is_asked : {N : Type 0} → Nearby N → Bool
+is_asked Unasked = false
+is_asked near = true
 
 -- so it is where something is kept, and so it is of the brackets where they are kept
 abbrev pub WatchesAll : {A : Type 0} → Watching A → List ℕ → Type 0

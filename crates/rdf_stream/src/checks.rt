@@ -1,8 +1,10 @@
 // Reading a document to its end.
 
 ghost use Rattle.std.specs.Prelude.{◌≡◌, true, false, OnOk, IfOk, IfErr};
-ghost use Rattle.rdf_stream.specs.Checks.{BeginsToRead, CheckAccepts, CheckEnds, CheckHalts, CheckStops, HasChecked, IsAllAccepted, IsChecking, ReadingStops};
-ghost use Rattle.rdf_stream.specs.Expected.{ExpectsFor, NoDetails, RunExpects, Stands, trees_of};
+ghost use Rattle.rdf_stream.specs.Checks.{CheckStops, IsAllAccepted};
+ghost use Rattle.rdf_stream.specs.CheckRuns.{BeginsToRead, CheckAccepts, CheckEnds, CheckHalts, HasChecked, IsChecking, ReadingStops};
+ghost use Rattle.rdf_stream.specs.Expected.{ExpectsFor, NoDetails, trees_of};
+ghost use Rattle.rdf_stream.specs.ExpectedRuns.{RunExpects, Stands};
 ghost use Rattle.rdf_stream.specs.Faults.{IsRefusal};
 ghost use Rattle.rdf_stream.specs.Languages.{language_of};
 ghost use Rattle.rdf_stream.specs.Places.{HandsOut, TellsNear};

@@ -3,7 +3,8 @@
 ghost use Rattle.std.specs.Prelude.{◌≡◌, ◌++◌, true, false, OnOk, IfOk, IfErr, IfSome};
 ghost use Rattle.rdf_stream.specs.Converting.{Begins, ConversionStops, Converts, ConvertsWhole, IsConverting, IsPutting, KeepsPrompt, RunEnds, RunHalts, Starts, WholeStops};
 ghost use Rattle.rdf_stream.specs.Converts.{AcceptsAll, IsPrompt, StopsFor};
-ghost use Rattle.rdf_stream.specs.Expected.{ExpectsFor, NoDetails, RunExpects, Stands, trees_of};
+ghost use Rattle.rdf_stream.specs.Expected.{ExpectsFor, NoDetails, trees_of};
+ghost use Rattle.rdf_stream.specs.ExpectedRuns.{RunExpects, Stands};
 ghost use Rattle.rdf_stream.specs.Faults.{IsRefusal, IsSentOn};
 ghost use Rattle.rdf_stream.specs.Languages.{conversion_of, language_of};
 ghost use Rattle.rdf_stream.specs.LineOut.{OnlyGrows};

@@ -1,6 +1,7 @@
 // What is known of a token that was unexpected.
 
-ghost use Rattle.rdf_stream.specs.Expected.{Asks, NoDetails};
+ghost use Rattle.rdf_stream.specs.Expected.{NoDetails};
+ghost use Rattle.rdf_stream.specs.ExpectedRuns.{Asks};
 
 use crate::fault::StreamFault;
 use crate::passes::Passes;

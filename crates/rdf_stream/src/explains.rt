@@ -4,7 +4,8 @@ ghost use Rattle.std.specs.Prelude.{◌≡◌, ◌||◌, ◌&&◌, ◌++◌, IfO
 ghost use Rattle.rdf_driver.specs.Kinds.{has};
 ghost use Rattle.std.specs.List.{list_all};
 ghost use Rattle.rdf_stream.specs.Explains.{between, column_text, escape_len, escape_text, expected_text, explain_text, found_text, front_text, is_graphic, limit_of, limit_text, listed, name_of, note_text};
-ghost use Rattle.rdf_stream.specs.Explains.{only_said, open_text, opened_text, quoted_text, said, shown_text, sight_text, stop_text, stopped_text, texts_of, told_text, word_of, words_for};
+ghost use Rattle.rdf_stream.specs.Explains.{only_said, open_text, opened_text, quoted_text, said, shown_text, sight_text, stop_text, stopped_text, told_text, word_of, words_for};
+ghost use Rattle.rdf_stream.specs.ExplainTexts.{texts_of};
 
 use crate::brackets::Opened;
 use crate::causes::{Cause, advice, cause_of};

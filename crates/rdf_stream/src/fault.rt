@@ -1,8 +1,8 @@
 // Why a run stopped.
 
 ghost use Rattle.std.specs.Prelude.{◌≡◌};
-ghost use Rattle.rdf_stream.specs.Faults.{fault_by};
-ghost use Rattle.rdf_stream.specs.Loads.{load_fault};
+ghost use Rattle.rdf_stream.specs.RunFaults.{fault_by};
+ghost use Rattle.rdf_stream.specs.LoadFaults.{load_fault};
 ghost use Rattle.rdf_stream.specs.declared.fault.StreamFault.TheVariants.{Memory};
 
 use rdf_iri::{BindingFault, BindingReason};

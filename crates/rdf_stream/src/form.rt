@@ -1,6 +1,7 @@
 // The formats that are read.
 
-ghost use Rattle.rdf_stream.specs.Kinds.{IsKind};
+ghost use Rattle.std.specs.Prelude.{◌≡◌};
+ghost use Rattle.rdf_stream.specs.Kinds.{kind_of};
 
 use rdf_lines::LineForm;
 use rdf_trig::DocForm;
@@ -28,7 +29,7 @@ pub(crate) enum Kind {
 impl Form {
     /// Which kind of format it is.
     pub(crate) fn kind(self) -> Kind
-        ensures { IsKind self result }
+        ensures { result ≡ kind_of self }
     {
         match self {
             Form::NTriples => Kind::Line(LineForm::NTriples),

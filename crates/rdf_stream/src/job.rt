@@ -5,7 +5,8 @@ ghost use Rattle.rdf_iri.specs.Scope.{BaseFits};
 ghost use Rattle.rdf_iri.specs.Texts.{byte_len};
 ghost use Rattle.rdf_lines.specs.Forms.{form_of};
 ghost use Rattle.rdf_stream.specs.Jobs.{JobRead};
-ghost use Rattle.rdf_stream.specs.Languages.{output, tree_job, written_form};
+ghost use Rattle.rdf_stream.specs.Languages.{tree_job, written_form};
+ghost use Rattle.rdf_stream.specs.Outputs.{output};
 ghost use Rattle.rdf_stream.specs.Outputs.{output_of};
 
 use crate::form::Form;

@@ -5,7 +5,7 @@ ghost use Rattle.std.specs.Str.{chars};
 ghost use Rattle.std.specs.Str.Lossy.{utf8_valid_len};
 ghost use Rattle.rdf_tokens.specs.Scans.{IsWaiting, SameScan, token_of};
 ghost use Rattle.rdf_stream.specs.Sights.{IsLongestOpen, IsSight, LeavesOpen, reading_from};
-ghost use Rattle.rdf_stream.specs.Sights.{HasTaken, StandsFrom, IsSeen, IsSeenOf, Sees, SeesEnd, SeesPart, seen_for};
+ghost use Rattle.rdf_stream.specs.SightRuns.{HasTaken, StandsFrom, IsSeen, IsSeenOf, Sees, SeesEnd, SeesPart, seen_for};
 
 use crate::bad_escape::bad_escape_in;
 use crate::parts::utf8_front;

@@ -6,7 +6,8 @@ ghost use Rattle.rdf_tokens.specs.Good.{tokens_of};
 ghost use Rattle.rdf_tokens.specs.Scans.{IsWaiting};
 ghost use Rattle.rdf_stream.specs.Brackets.{IsOpenBefore};
 ghost use Rattle.rdf_stream.specs.Opening.{HasOpen};
-ghost use Rattle.rdf_stream.specs.Places.{HandsOut, IsNear, is_asked, column_after, last_of, line_after, line_rest, next_column, reach};
+ghost use Rattle.rdf_stream.specs.Places.{HandsOut, IsNear, column_after, last_of, line_after, line_rest, next_column, reach};
+ghost use Rattle.rdf_stream.specs.Watches.{is_asked};
 ghost use Rattle.rdf_stream.specs.Kept.{Watches};
 ghost use Rattle.rdf_stream.specs.Watches.{IsNearFault, IsToldOf, WatchesAll};
 

@@ -17,7 +17,8 @@ use Rattle.rdf_trig.specs.Documents.{documents, Passes}
 use Rattle.rdf_trig.specs.Machine.{State, mode_size}
 use Rattle.rdf_trig.specs.Alike.{RunsTo}
 use Rattle.rdf_trig.specs.Owed.{Owed, OwedInAll, most_kept}
-use Rattle.rdf_trig.specs.Language.{Chosen, Blamed}
+use Rattle.rdf_trig.specs.Language.{Chosen}
+use Rattle.rdf_trig.specs.Refusals.{Blamed}
 
 -- what accepts the tokens of Turtle or TriG: the form, the most characters of a token, and what has been read
 pub record TreeAt : Type 0 where

@@ -1,5 +1,5 @@
 -- Documents of Turtle and TriG as a relation between tokens and marked quads, what passes a limit, and what a reader has to hold.
-use Rattle.std.specs.Prelude.{◌≡◌, ℕ, ◌+◌, ◌-◌, ◌<◌, ◌⊎◌, true, List, [], ◌∷◌, ◌++◌, Some, None}
+use Rattle.std.specs.Prelude.{◌≡◌, ℕ, ◌+◌, ◌-◌, ◌<◌, ◌⊎◌, true, List, [], ◌∷◌, ◌++◌, IsSomeAnd}
 use Rattle.rdf_terms.specs.declared.kind.Kind.{Kind}
 use Rattle.rdf_terms.specs.declared.kind.Kind.TheVariants.{OpenBracket, CloseBracket, OpenParen, CloseParen}
 use Rattle.rdf_tokens.specs.Tokens.{Token}
@@ -8,14 +8,14 @@ use Rattle.rdf_iri.specs.Limits.{Sizes}
 use Rattle.rdf_iri.specs.Texts.{byte_len}
 use Rattle.rdf_iri.specs.Scope.{InForce}
 use Rattle.rdf_trig.specs.declared.form.DocForm.{DocForm}
-use Rattle.rdf_trig.specs.Trees.{Document, document_tokens}
+use Rattle.rdf_trig.specs.Trees.{Document}
 use Rattle.rdf_trig.specs.Events.{Use, itself, stands, binds, Event, Took, tokens, event_quads, Bound, document_events}
 
--- A tree of the form derives the tokens, each of its names and references stands for an IRI in the scope at its place, and these are its quads.
+-- The tokens are those of a tree of the form from left to right, each of its names and references stands for an IRI in the scope at its place, and these are its quads.
 -- The scope at the start has the base, or none, the bindings that were handed in, and the limits.
 pub record IsDocument (form : DocForm) (start : InForce) (ts : List Token) (qs : List Marked) : Type 0 where
   pub tree : Document form
-  pub tokens : ts ≡ document_tokens tree
+  pub tokens : ts ≡ tokens (document_events start tree)
   pub bound : Bound (document_events start tree)
   pub quads : event_quads 0 (document_events start tree) ≡ qs
 
@@ -26,7 +26,7 @@ documents form start ts qs = IsDocument form start ts qs
 -- the same whether names and references stand for something or not
 pub record IsTree (form : DocForm) (start : InForce) (ts : List Token) (qs : List Marked) : Type 0 where
   pub tree : Document form
-  pub tokens : ts ≡ document_tokens tree
+  pub tokens : ts ≡ tokens (document_events start tree)
   pub quads : event_quads 0 (document_events start tree) ≡ qs
 
 -- the relation of tokens to quads by the productions alone, by which unbound prefixes and missing bases are told from syntax errors
@@ -62,10 +62,8 @@ open_in ts = opened ts - closed ts
 -- the IRI that a token stands for has too many bytes
 abbrev pub IsLong : Sizes → Use → Type 0
 IsLong sizes itself = ⊥
-IsLong sizes (stands None) = ⊥
-IsLong sizes (stands (Some i)) = sizes.iri < byte_len i
-IsLong sizes (binds full None) = ⊥
-IsLong sizes (binds full (Some i)) = sizes.iri < byte_len i
+IsLong sizes (stands i) = IsSomeAnd i (λ i. sizes.iri < byte_len i)
+IsLong sizes (binds full i) = IsSomeAnd i (λ i. sizes.iri < byte_len i)
 
 -- the token would bind one prefix too many
 abbrev pub IsOneMore : Use → Type 0

@@ -11,13 +11,14 @@ use Rattle.rdf_driver.specs.Readers.{HasRead}
 use Rattle.rdf_iri.specs.Scope.{InForce, bound_to, Binds, bytes_held}
 use Rattle.rdf_tokens.specs.Leaves.{Leaf, leaf_of, iri_of}
 use Rattle.rdf_trig.specs.declared.form.DocForm.{DocForm}
-use Rattle.rdf_trig.specs.Trees.{Document, document_tokens}
+use Rattle.rdf_trig.specs.Trees.{Document}
+use Rattle.rdf_trig.specs.TreeTokens.{document_tokens}
 use Rattle.rdf_trig.specs.Names.{reference_in, name_in, prefix_of, with_binding, SameNames}
 use Rattle.rdf_trig.specs.TreeQuads.{document_quads}
 use Rattle.rdf_trig.specs.Events.{Use, tokens, event_quads, document_events, BoundFront}
 use Rattle.rdf_trig.specs.Documents.{documents, trees, InTree, Passes}
 use Rattle.rdf_trig.specs.Owed.{HasToHold, scope_size}
-use Rattle.rdf_trig.specs.Refusals.{Refusal, RefusedFor}
+use Rattle.rdf_trig.specs.Refused.{Refusal, RefusedFor}
 use Rattle.rdf_trig.specs.Machine.{Over, State, refuses, accept, at_start, ran, accept_all}
 use Rattle.rdf_trig.specs.Language.{Chosen, language}
 use Rattle.rdf_trig.specs.Accepting.{TrigRead, tree_words}
@@ -63,14 +64,14 @@ TokensSettleTheirSenses = (form : DocForm) (start : InForce) (ahead : List Token
 pub record ShapedAndBound (form : DocForm) (start : InForce) (ts : List Token) : Type 0 where
   pub tree : Document form
   pub more : List Token
-  pub tokens : ts ++ more ≡ document_tokens tree
+  pub tokens : ts ++ more ≡ tokens (document_events start tree)
   pub bound : BoundFront (length ts) (document_events start tree)
 
 -- Tokens begin a document exactly where they begin a tree with their names bound by what stands before, and then they are bound in every such tree.
 pub record ViableWhereBound (form : DocForm) (start : InForce) (ts : List Token) : Type 0 where
   pub bound : Viable (documents form start) ts → ShapedAndBound form start ts
   pub viable : ShapedAndBound form start ts → Viable (documents form start) ts
-  pub every : Viable (documents form start) ts → (tree : Document form) (more : List Token) → ts ++ more ≡ document_tokens tree →
+  pub every : Viable (documents form start) ts → (tree : Document form) (more : List Token) → ts ++ more ≡ tokens (document_events start tree) →
       BoundFront (length ts) (document_events start tree)
 
 -- So whether a name stands for something is settled by what comes before it, and nothing that comes later changes it.

@@ -11,7 +11,9 @@ pub mod Language
 pub mod ReadWhole
 -- what need not be: functions that compute, machines and states, what the code's side speaks of, and the laws
 pub mod Machine
+pub mod TreeTokens
 pub mod TreeQuads
+pub mod Refused
 pub mod Laws
 pub mod Alike
 pub mod States

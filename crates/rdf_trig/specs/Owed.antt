@@ -9,10 +9,10 @@ use Rattle.rdf_iri.specs.Texts.{byte_len}
 use Rattle.rdf_iri.specs.Scope.{InForce, bound_to, base_bytes, binding_bytes}
 use Rattle.rdf_trig.specs.declared.form.DocForm.{DocForm}
 use Rattle.rdf_trig.specs.declared.form.DocForm.TheVariants.{Turtle, TriG}
-use Rattle.rdf_trig.specs.Trees.{BlankNode, label, anon, Verb, predicate, type_word, plain, tagged, typed, Literal, rdf, numeric, boolean, Object, iri_object, blank_object, collection_object, list_object, literal_object, Collection, collection, Items, no_items, item, BlankNodePropertyList, property_list, PredicateObjectList, predicate_objects, More, no_more, semicolon, semicolon_objects, ObjectList, objects, Commas, no_commas, comma, Subject, iri_subject, blank_subject, collection_subject, Triples, subject_triples, list_triples, Directive, prefix_id, base, sparql_prefix, sparql_base, LabelOrSubject, iri_label, blank_label, TriplesBlock, last, last_dot, dot, WrappedGraph, wrapped, named_graph, label_triples, list_triples2, collection_triples2, Block, triples_or_graph, default_graph, triples2, graph_word, Body, Document, end, with_directive, with_body, document_tokens}
+use Rattle.rdf_trig.specs.Trees.{BlankNode, label, anon, Verb, predicate, type_word, plain, tagged, typed, Literal, rdf, numeric, boolean, Object, iri_object, blank_object, collection_object, list_object, literal_object, Collection, collection, Items, no_items, item, BlankNodePropertyList, property_list, PredicateObjectList, predicate_objects, More, no_more, semicolon, semicolon_objects, ObjectList, objects, Commas, no_commas, comma, Subject, iri_subject, blank_subject, collection_subject, Triples, subject_triples, list_triples, Directive, prefix_id, base, sparql_prefix, sparql_base, LabelOrSubject, iri_label, blank_label, TriplesBlock, last, last_dot, dot, WrappedGraph, wrapped, named_graph, label_triples, list_triples2, collection_triples2, Block, triples_or_graph, default_graph, triples2, graph_word, Body, Document, end, with_directive, with_body}
 use Rattle.rdf_trig.specs.Names.{iri_in, scope_after}
 use Rattle.rdf_trig.specs.Quads.{subject_of, label_of}
-use Rattle.rdf_trig.specs.Events.{Bound, document_events}
+use Rattle.rdf_trig.specs.Events.{Bound, document_events, tokens}
 
 -- the bytes of an IRI
 abbrev pub iri_size : Option (List ℕ) → ℕ
@@ -163,7 +163,7 @@ held_after b (t ∷ ts) (h ∷ hs) = held_after h ts hs
 pub record HasToHold (w : InForce → ℕ) (form : DocForm) (start : InForce) (ts : List Token) (size : ℕ) : Type 0 where
   pub tree : Document form
   pub more : List Token
-  pub tokens : ts ++ more ≡ document_tokens tree
+  pub tokens : ts ++ more ≡ tokens (document_events start tree)
   pub bound : Bound (document_events start tree)
   pub held : held_after (w start) ts (document_held w start tree) ≡ size
 

@@ -1,21 +1,14 @@
 -- Why a token is refused after some tokens that begin a document.
 use Rattle.std.specs.Prelude.{◌≡◌, ◌⊎◌, Bool, List, [], ◌∷◌, ◌++◌, None}
 use Rattle.rdf_terms.specs.declared.kind.Kind.TheVariants.{IriRef, PnameNs, PnameLn}
+use Rattle.rdf_terms.specs.declared.reason.Reason.{Reason}
+use Rattle.rdf_terms.specs.declared.reason.Reason.TheVariants.{Unexpected, TooDeep, Unbound, NoBase, IriTooLong, TooManyBindings}
 use Rattle.rdf_tokens.specs.Tokens.{Token}
 use Rattle.rdf_tokens.specs.Grammars.{Viable, Shaped}
 use Rattle.rdf_iri.specs.Scope.{InForce}
 use Rattle.rdf_trig.specs.declared.form.DocForm.{DocForm}
 use Rattle.rdf_trig.specs.Events.{Use, stands, binds}
 use Rattle.rdf_trig.specs.Documents.{documents, trees, InTree, StandsFor, IsDeep, IsLong, IsOneMore}
-
--- the six reasons that a grammar has to refuse a token: a syntax error, a name or reference without an IRI, or a limit
-pub data Refusal : Type 0 where
-  unexpected : Refusal
-  too_deep : Refusal
-  unbound : Refusal
-  no_base : Refusal
-  iri_too_long : Refusal
-  too_many_bindings : Refusal
 
 -- with the token no document begins so, but some tree does
 pub record Excluded (form : DocForm) (start : InForce) (ahead : List Token) (t : Token) : Type 0 where
@@ -31,11 +24,12 @@ abbrev pub IsBaseless : DocForm → InForce → List Token → Token → Type 0
 IsBaseless form start ahead t = (t.kind ≡ IriRef) × (InTree form start ahead t (stands None) ⊎ ((full : Bool) × InTree form start ahead t (binds full None)))
 
 -- The token is unexpected where no tree has it after those before it. A name or reference that stands for nothing is in some tree, and in no document.
--- A token that passes a limit is in some document. A binding is one too many only where its IRI is not too long.
-abbrev pub RefusedFor : DocForm → InForce → List Token → Token → Refusal → Type 0
-RefusedFor form start ahead t unexpected = Shaped (trees form start) (ahead ++ t ∷ []) → ⊥
-RefusedFor form start ahead t unbound = Excluded form start ahead t × IsUnbound form start ahead t
-RefusedFor form start ahead t no_base = Excluded form start ahead t × IsBaseless form start ahead t
-RefusedFor form start ahead t too_deep = (u : Use) × StandsFor form start ahead t u × IsDeep start ahead t
-RefusedFor form start ahead t iri_too_long = (u : Use) × StandsFor form start ahead t u × IsLong start.limits u
-RefusedFor form start ahead t too_many_bindings = (u : Use) × StandsFor form start ahead t u × IsOneMore u × (IsLong start.limits u → ⊥)
+-- A token that passes a limit is in some document. A binding is one too many only where its IRI is not too long. No other reason is a grammar's.
+abbrev pub Blamed : DocForm → InForce → Reason → List Token → Token → Type 0
+Blamed form start Unexpected ahead t = Shaped (trees form start) (ahead ++ t ∷ []) → ⊥
+Blamed form start Unbound ahead t = Excluded form start ahead t × IsUnbound form start ahead t
+Blamed form start NoBase ahead t = Excluded form start ahead t × IsBaseless form start ahead t
+Blamed form start TooDeep ahead t = (u : Use) × StandsFor form start ahead t u × IsDeep start ahead t
+Blamed form start IriTooLong ahead t = (u : Use) × StandsFor form start ahead t u × IsLong start.limits u
+Blamed form start TooManyBindings ahead t = (u : Use) × StandsFor form start ahead t u × IsOneMore u × (IsLong start.limits u → ⊥)
+Blamed form start why ahead t = ⊥

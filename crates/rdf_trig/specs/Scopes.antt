@@ -16,7 +16,7 @@ use Rattle.rdf_trig.specs.declared.fault.StepFault.{StepFault}
 use Rattle.rdf_trig.specs.declared.fault.StepFault.TheVariants as fault
 use Rattle.rdf_trig.specs.Names.{reference_in, with_base, is_full, SameNames}
 use Rattle.rdf_trig.specs.Events.{Use, stands, binds}
-use Rattle.rdf_trig.specs.Refusals as refusal
+use Rattle.rdf_trig.specs.Refused as refusal
 use Rattle.rdf_trig.specs.Machine as M
 use Rattle.rdf_trig.specs.Machine.{by_use, refuses}
 use Rattle.rdf_trig.specs.States.{leaf, mode_at, name_at, use_at, IsNamed, NameIn, IsNamedIn, use_in, scope_in}

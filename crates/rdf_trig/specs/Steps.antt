@@ -18,7 +18,7 @@ use Rattle.rdf_trig.specs.declared.state.Held.{Held}
 use Rattle.rdf_trig.specs.declared.state.Held.TheVariants as held
 use Rattle.rdf_trig.specs.declared.state.State.{State}
 use Rattle.rdf_trig.specs.Quads.{stated, plain_literal}
-use Rattle.rdf_trig.specs.Refusals as refusal
+use Rattle.rdf_trig.specs.Refused as refusal
 use Rattle.rdf_trig.specs.Machine as M
 use Rattle.rdf_terms.specs.declared.kind.Kind.{Kind}
 use Rattle.rdf_terms.specs.declared.kind.Kind.TheVariants.{LangTag, AtBase, AtPrefix, Carets, OpenBracket, CloseBracket, OpenParen, CloseParen}

@@ -8,7 +8,8 @@ use Rattle.rdf_tokens.specs.Grammars.{Marked}
 use Rattle.rdf_iri.specs.Scope.{InForce}
 use Rattle.rdf_trig.specs.declared.form.DocForm.{DocForm}
 use Rattle.rdf_trig.specs.declared.form.DocForm.TheVariants.{Turtle, TriG}
-use Rattle.rdf_trig.specs.Trees.{Object, iri_object, blank_object, collection_object, list_object, literal_object, Collection, collection, Items, no_items, item, BlankNodePropertyList, property_list, PredicateObjectList, predicate_objects, More, no_more, semicolon, semicolon_objects, ObjectList, objects, Commas, no_commas, comma, Subject, iri_subject, blank_subject, collection_subject, Triples, subject_triples, list_triples, TriplesBlock, last, last_dot, dot, WrappedGraph, wrapped, named_graph, label_triples, list_triples2, collection_triples2, Block, triples_or_graph, default_graph, triples2, graph_word, Body, Document, end, with_directive, with_body, literal_tokens, object_tokens, objects_tokens, list_tokens, subject_tokens, label_tokens, triples_tokens, directive_tokens, body_tokens, collection_tokens}
+use Rattle.rdf_trig.specs.Trees.{Object, iri_object, blank_object, collection_object, list_object, literal_object, Collection, collection, Items, no_items, item, BlankNodePropertyList, property_list, PredicateObjectList, predicate_objects, More, no_more, semicolon, semicolon_objects, ObjectList, objects, Commas, no_commas, comma, Subject, iri_subject, blank_subject, collection_subject, Triples, subject_triples, list_triples, TriplesBlock, last, last_dot, dot, WrappedGraph, wrapped, named_graph, label_triples, list_triples2, collection_triples2, Block, triples_or_graph, default_graph, triples2, graph_word, Body, Document, end, with_directive, with_body}
+use Rattle.rdf_trig.specs.TreeTokens.{literal_tokens, object_tokens, objects_tokens, list_tokens, subject_tokens, label_tokens, triples_tokens, directive_tokens, body_tokens, collection_tokens}
 use Rattle.rdf_trig.specs.Names.{scope_after}
 use Rattle.rdf_trig.specs.Quads.{Setting, in_default, in_graph, stated, node, anon_at, verb_of, cell_of, items_of, collection_of, list_of, object_of, rest_quad, subject_of, label_of}
 

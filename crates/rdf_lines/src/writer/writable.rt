@@ -3,7 +3,8 @@
 ghost use Rattle.std.specs.Prelude.{chars, option_map, Decides};
 ghost use Rattle.rdf_terms.specs.Views.{node_of, quad_of, subject_by, term_by};
 ghost use Rattle.rdf_lines.specs.declared.form.Style.TheVariants.{Kept};
-ghost use Rattle.rdf_lines.specs.Writing.{CanWrite, CanWriteGraph, CanWriteNode, CanWriteSubject, CanWriteTerm};
+ghost use Rattle.rdf_lines.specs.Writing.{CanWrite, CanWriteNode};
+ghost use Rattle.rdf_lines.specs.NodeNames.{CanWriteGraph, CanWriteSubject, CanWriteTerm};
 
 use crate::form::Style;
 use rdf_terms::{NodeRef, QuadRef, SubjectRef, TermRef};

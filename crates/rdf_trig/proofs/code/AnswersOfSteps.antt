@@ -21,7 +21,7 @@ use Rattle.rdf_trig.specs.declared.state.Outer.TheVariants as outer
 use Rattle.rdf_trig.specs.Names.{reference_in}
 use Rattle.rdf_trig.specs.Quads.{Setting}
 use Rattle.rdf_trig.specs.Events.{Use}
-use Rattle.rdf_trig.specs.Refusals as refusal
+use Rattle.rdf_trig.specs.Refused as refusal
 use Rattle.rdf_trig.specs.Machine as M
 use Rattle.rdf_trig.specs.Machine.{Reply, No, Go, kept, by_use, refuses, accepts}
 use Rattle.rdf_trig.specs.States.{mode_at, use_in, scope_in, is_go, moved, DepthMoves, ShortPrefix, PrefixFits}

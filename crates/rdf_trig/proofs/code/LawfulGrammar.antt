@@ -16,12 +16,13 @@ use Rattle.rdf_trig.specs.declared.fault.StepFault.{StepFault}
 use Rattle.rdf_trig.specs.declared.fault.StepFault.TheVariants as fault
 use Rattle.rdf_trig.specs.declared.state.State.{State as Code}
 use Rattle.rdf_trig.specs.Documents.{documents, Passes}
-use Rattle.rdf_trig.specs.Refusals.{Refusal, RefusedFor, unexpected, too_deep, unbound, no_base, iri_too_long, too_many_bindings}
+use Rattle.rdf_trig.specs.Refused.{Refusal, RefusedFor, unexpected, too_deep, unbound, no_base, iri_too_long, too_many_bindings}
 use Rattle.rdf_trig.specs.Machine.{State, Answer, accepts, refuses, accept, at_start, mode_size}
 use Rattle.rdf_trig.specs.Alike.{SameState}
 use Rattle.rdf_trig.specs.States.{mode_in}
 use Rattle.rdf_trig.specs.Steps.{state_of, Accepts, answered, Begins, Fails}
-use Rattle.rdf_trig.specs.Language.{Chosen, Blamed}
+use Rattle.rdf_trig.specs.Language.{Chosen}
+use Rattle.rdf_trig.specs.Refusals.{Blamed}
 use Rattle.rdf_trig.specs.Accepting.{TreeAt, reason_of, tree_words}
 use Rattle.rdf_trig.proofs.machine.AlikeLemmas.{state_self}
 use Rattle.rdf_trig.proofs.machine.ExactDocuments.{due_ran, accepted_document, not_both}

@@ -18,7 +18,7 @@ use Rattle.rdf_tokens.specs.Leaves.{Leaf, iri_of}
 use Rattle.rdf_trig.specs.declared.fault.StepFault.{StepFault}
 use Rattle.rdf_trig.specs.Names.{reference_in, name_in, prefix_of, local_of, with_base, is_full}
 use Rattle.rdf_trig.specs.Events.{stands, binds}
-use Rattle.rdf_trig.specs.Refusals as refusal
+use Rattle.rdf_trig.specs.Refused as refusal
 use Rattle.rdf_trig.specs.Machine as M
 use Rattle.rdf_trig.specs.Machine.{by_use, refuses, too_long}
 use Rattle.rdf_trig.specs.Scopes.{IsReference, IsPrefixed, MeansLocal, step_fault, IsAdmitted, IsDenied, Names, Unnamed, Based, Binding, NotBinding}

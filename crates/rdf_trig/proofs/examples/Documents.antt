@@ -410,6 +410,7 @@ open_bound = named_bound (document_events start open_tree) refl
 
 owed_by : (k size : ℕ) → take k open_tokens ++ drop k open_tokens ≡ open_tokens →
     held_after 0 (take k open_tokens) (document_held (λ s. 0) start open_tree) ≡ size → Owed TriG start (take k open_tokens) size
+unfolding reference_in resolved has
 owed_by k size e h = record { tree = open_tree; more = drop k open_tokens; tokens = e; bound = open_bound; held = h }
 
 pub owed_inside : Owed TriG start (take 5 open_tokens) 30

@@ -22,7 +22,7 @@ use Rattle.rdf_trig.specs.Quads.{in_default}
 use Rattle.rdf_trig.specs.Events.{Use, stands, document_events, event_quads}
 use Rattle.rdf_trig.specs.TreeQuads.{document_quads}
 use Rattle.rdf_trig.specs.Documents.{documents, trees, InTree}
-use Rattle.rdf_trig.specs.Refusals.{unexpected, too_deep, unbound, no_base, iri_too_long, too_many_bindings}
+use Rattle.rdf_trig.specs.Refused.{unexpected, too_deep, unbound, no_base, iri_too_long, too_many_bindings}
 use Rattle.rdf_trig.specs.Machine.{sized, spelt, Top, Listed, WantPrefixIri, Sparql, Statement, InPropertyList, At, Start, Over, Want, After, AfterPropertyList, State, at_start, ran, accept_all}
 use Rattle.rdf_trig.specs.Laws.{CompletedBy, IsRefusedAfter, Reads, ViableWhereBound, ShapedAndBound, NamelessWhere}
 use Rattle.rdf_trig.proofs.examples.Documents.{leaf, quad, start, nested_tokens, nested_tree, nested_quads, nested_is, booleans_tokens, booleans_tree, booleans_quads, booleans_is, inner_collection_quads, inner_collection_tree, one_label_tokens, one_label_quads, one_label_is}
@@ -193,6 +193,7 @@ pub marks_rise : Rises 0 inner_collection_quads
 marks_rise = subst (Rises 0) inner_are (never_fall TriG start inner_collection_tree)
 
 pub booleans_settled : (qs : List Marked) → trees TriG start booleans_tokens qs → qs ≡ booleans_quads
+unfolding reference_in resolved has
 booleans_settled qs t = same_quads TriG start booleans_tokens qs booleans_quads t record { tree = booleans_tree; tokens = refl; quads = booleans_told }
 
 -- After the second boolean the collection's own quad and the first item's are due.

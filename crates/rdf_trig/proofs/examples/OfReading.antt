@@ -25,7 +25,7 @@ use Rattle.rdf_trig.specs.declared.form.DocForm.TheVariants.{Turtle}
 use Rattle.rdf_trig.specs.Names.{reference_in, name_in, is_full}
 use Rattle.rdf_trig.specs.Quads.{in_default}
 use Rattle.rdf_trig.specs.Documents.{documents, Passes}
-use Rattle.rdf_trig.specs.Refusals.{unexpected}
+use Rattle.rdf_trig.specs.Refused.{unexpected}
 use Rattle.rdf_trig.specs.Machine.{sized, Top, Statement, Start, Over, WantVerb, State, at_start, ran, accept_all}
 use Rattle.rdf_trig.specs.Language.{language}
 use Rattle.rdf_trig.specs.Accepting.{TrigRead, tree_words}

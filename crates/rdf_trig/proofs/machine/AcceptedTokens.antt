@@ -10,7 +10,7 @@ use Rattle.rdf_trig.specs.declared.form.DocForm.{DocForm}
 use Rattle.rdf_trig.specs.Quads.{Setting}
 use Rattle.rdf_trig.specs.Events.{Use, itself, stands, binds}
 use Rattle.rdf_trig.specs.Machine.{Mode, Reply, No, Go, step, waiting}
-use Rattle.rdf_trig.specs.Refusals.{unexpected, too_deep, no_base, iri_too_long, too_many_bindings}
+use Rattle.rdf_trig.specs.Refused.{unexpected, too_deep, no_base, iri_too_long, too_many_bindings}
 use Rattle.rdf_trig.specs.Machine.{kept, State, Answer, refuses, accepts, unnamed, too_long, by_use, deepens, answer, accept, Run, ran, refused, with_quads, go, accept_all, depth}
 use Rattle.rdf_trig.proofs.machine.ClosingTokens.{has_iri}
 use Rattle.rdf_trig.proofs.machine.ViableTokens.{stand, reach, on_reply, if_true}

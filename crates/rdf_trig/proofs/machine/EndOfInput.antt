@@ -11,11 +11,13 @@ use Rattle.rdf_tokens.proofs.GrammarsLemmas.{end_complete}
 use Rattle.rdf_iri.specs.Scope.{InForce}
 use Rattle.rdf_tokens.specs.Leaves.{Leaf, leaf_of, token}
 use Rattle.rdf_trig.specs.declared.form.DocForm.{DocForm}
-use Rattle.rdf_trig.specs.Trees.{Document, end, with_directive, with_body, directive_tokens, body_tokens, document_tokens}
+use Rattle.rdf_trig.specs.Trees.{Document, end, with_directive, with_body}
+use Rattle.rdf_trig.specs.TreeTokens.{directive_tokens, body_tokens, document_tokens}
 use Rattle.rdf_trig.specs.Documents.{documents}
 use Rattle.rdf_trig.specs.Quads.{Setting}
 use Rattle.rdf_trig.specs.Machine.{Topic, Top, InBlock, Place as P, Listed, InCollection, Around, Statement, InPropertyList, Mode, Start, Over, AfterText, After, AfterSemicolon, AfterPropertyList, Reply, No, Go, predicate_list_end, after, step, waiting}
 use Rattle.rdf_trig.specs.Machine.{State, Answer, refuses, accepts, accept, ran, refused, go, accept_all}
+use Rattle.rdf_trig.proofs.trees.TokensOfEvents.{document_told}
 use Rattle.rdf_trig.proofs.machine.AcceptedTokens.{accepted, first_ran}
 
 -- after the end a document is over
@@ -85,4 +87,4 @@ pub document_complete : (form : DocForm) (start : InForce) (limit : ℕ) (bytes 
     (tokens_of turtle limit bytes e).outcome ≡ complete
 document_complete form start limit bytes e qs d =
     let h = document_end d.tree in
-    end_complete turtle limit bytes e h.0 [] h.1 (d.tokens ∙ h.3) h.2
+    end_complete turtle limit bytes e h.0 [] h.1 (d.tokens ∙ (document_told d.tree start ∙ h.3)) h.2

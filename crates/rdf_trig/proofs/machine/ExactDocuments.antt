@@ -8,15 +8,15 @@ use Rattle.rdf_tokens.specs.Grammars.{Marked}
 use Rattle.rdf_iri.specs.Scope.{InForce}
 use Rattle.rdf_tokens.specs.Leaves.{leaf_of}
 use Rattle.rdf_trig.specs.declared.form.DocForm.{DocForm}
-use Rattle.rdf_trig.specs.Trees.{Document, document_tokens}
+use Rattle.rdf_trig.specs.Trees.{Document}
 use Rattle.rdf_trig.specs.Quads.{Setting, in_default}
 use Rattle.rdf_trig.specs.Events.{Event, Took, Gave, give, document_events, tokens, event_quads}
 use Rattle.rdf_trig.specs.Machine.{Mode, Start, Over, Reply, No, Go, start, step, waiting, fronted, stop, go_on, run}
 use Rattle.rdf_trig.specs.Machine.{State, Answer, refuses, accepts, accept, at_start, ran, with_quads, go, accept_all, depth}
-use Rattle.rdf_trig.specs.Refusals.{Refusal, unexpected, too_deep, unbound, no_base, iri_too_long, too_many_bindings, Excluded, RefusedFor}
+use Rattle.rdf_trig.specs.Refusals.{Excluded}
+use Rattle.rdf_trig.specs.Refused.{Refusal, unexpected, too_deep, unbound, no_base, iri_too_long, too_many_bindings, RefusedFor}
 use Rattle.rdf_trig.specs.Documents.{documents, trees, Passes}
 use Rattle.rdf_trig.proofs.machine.Soundness.{read_found, unput}
-use Rattle.rdf_trig.proofs.trees.TokensOfEvents.{document_told}
 use Rattle.rdf_trig.proofs.machine.ClosingTokens.{Accepts, admits}
 use Rattle.rdf_trig.proofs.machine.ViableTokens.{Stand, stand, reach, on_reply, if_true, front, run_tree, passing_bound, reached_viable}
 use Rattle.rdf_trig.proofs.machine.DueQuads.{due, before_due, emits, lag}
@@ -29,7 +29,7 @@ pub due_in : (form : DocForm) (start : InForce) (ts more : List Token) (s : Stat
     accept_all form (at_start start) ts ≡ ran s qs → documents form start (ts ++ more) all →
     items_below (length ts) all ≡ qs
 due_in form start ts more s qs all e d =
-    let told : tokens (document_events start d.tree) ≡ ts ++ more = document_told d.tree start ∙ sym d.tokens in
+    let told : tokens (document_events start d.tree) ≡ ts ++ more = sym d.tokens in
     ap (items_below (length ts)) (sym d.quads)
     ∙ before_due (document_events start d.tree) (length ts) 0 (length ts) (omega arith)
     ∙ sym (lag form ts more start d.tree told)
@@ -46,7 +46,7 @@ due_ran form start ts s qs e =
 due_of : (form : DocForm) (start : InForce) (ts : List Token) (qs : List Quad) → Due (documents form start) ts qs →
     qs ≡ emits form (in_default start) Start [] ts
 due_of form start ts qs (more, all, d, e) =
-    let told : tokens (document_events start d.tree) ≡ ts ++ more = document_told d.tree start ∙ sym d.tokens in
+    let told : tokens (document_events start d.tree) ≡ ts ++ more = sym d.tokens in
     sym e
     ∙ ap (items_below (length ts)) (sym d.quads)
     ∙ before_due (document_events start d.tree) (length ts) 0 (length ts) (omega arith)
@@ -58,11 +58,11 @@ pub same_due : (form : DocForm) (start : InForce) (ts : List Token) (qs rs : Lis
 same_due form start ts qs rs a b = due_of form start ts qs a ∙ sym (due_of form start ts rs b)
 
 -- Every tree of the same tokens has the same quads.
-tree_events : (form : DocForm) (start : InForce) (d e : Document form) → document_tokens d ≡ document_tokens e →
+tree_events : (form : DocForm) (start : InForce) (d e : Document form) → tokens (document_events start d) ≡ tokens (document_events start e) →
     document_events start d ≡ document_events start e
 tree_events form start d e h =
-    let a = run_tree true form d start (document_tokens d) (document_told d start) in
-    let b = run_tree true form e start (document_tokens d) (document_told e start ∙ sym h) in
+    let a = run_tree true form d start (tokens (document_events start d)) refl in
+    let b = run_tree true form e start (tokens (document_events start d)) (sym h) in
     let z : Some (document_events start d) ≡ Some (document_events start e) = sym a ∙ b in
     cc
 
@@ -138,10 +138,9 @@ accepted_document form start ts s qs e o =
     let at_over : Accepts true form s.setting s.mode [] = record { events = []; runs = ap stop o; bound = tt } in
     let a = front true form ts [] (in_default start) Start (place s) at_over r.reached in
     let runs : run form (in_default start) Start ts ≡ Some a.events = ap (run form (in_default start) Start) (sym (append-nil ts)) ∙ a.runs in
-    let f = read_found form ts (in_default start) a.events runs in
-    let told : ts ≡ document_tokens f.0 = sym f.2 ∙ document_told f.0 start in (
+    let f = read_found form ts (in_default start) a.events runs in (
       event_quads 0 (document_events start f.0),
-      record { tree = f.0; tokens = told; bound = passing_bound (document_events start f.0) (rw f.1 at a.bound); quads = refl },
+      record { tree = f.0; tokens = sym f.2; bound = passing_bound (document_events start f.0) (rw f.1 at a.bound); quads = refl },
       sym (document_due form start ts f.0 f.2) ∙ sym r.given,
     )
 
@@ -241,7 +240,7 @@ document_accepted form start ts ms d p =
     let v : Viable (documents form start) ts = ([], ms, subst (λ x. documents form start x ms) (sym (append-nil ts)) d) in
     let g = viable_goes form start ts v p in
     let r = ran_tokens form ts (at_start start) g.0 g.1 g.2 in
-    let told : tokens (document_events start d.tree) ≡ ts = document_told d.tree start ∙ sym d.tokens in
+    let told : tokens (document_events start d.tree) ≡ ts = sym d.tokens in
     let given : g.1 ≡ unmarked ms = r.given ∙ document_due form start ts d.tree told ∙ ap unmarked d.quads in
     (g.0, g.2 ∙ ap (ran g.0) given, run_over true form ts (in_default start) Start (document_events start d.tree) (place g.0) (run_tree true form d.tree start ts told) r.reached)
 

@@ -7,7 +7,7 @@ use Rattle.rdf_tokens.specs.Grammars.{counted}
 use Rattle.rdf_iri.specs.Scope.{InForce}
 use Rattle.rdf_tokens.specs.Leaves.{leaf_of}
 use Rattle.rdf_trig.specs.declared.form.DocForm.{DocForm}
-use Rattle.rdf_trig.specs.Refusals.{Refusal}
+use Rattle.rdf_trig.specs.Refused.{Refusal}
 use Rattle.rdf_trig.specs.Machine.{State, Answer, refuses, accepts, accept, at_start, ran, refused, with_quads, go, accept_all}
 use Rattle.rdf_trig.specs.Alike.{SameState, RunsTo}
 use Rattle.rdf_trig.proofs.machine.AcceptedTokens.{first_ran}

@@ -17,7 +17,7 @@ use Rattle.rdf_trig.specs.Events.{Use, itself, Event, Took, take, give, iri_even
 use Rattle.rdf_trig.specs.Documents.{documents}
 use Rattle.rdf_trig.specs.Owed.{verb_size, blank_held, literal_held, object_held, collection_held, items_held, list_held, predicates_held, more_held, objects_held, commas_held, label_held, maybe_held, triples_held, block_held, wrapped_held, body_held, document_held, held_after, HasToHold}
 use Rattle.rdf_trig.specs.Machine.{Topic, Spelt, sized, unsized, spelt, verb_in, Level, Top, InBlock, Place, Listed, InCollection, Around, Statement, InPropertyList, Up, Subject, At, Mode, Start, AfterLabel, GraphWord, WantBrace, Inside, Want, After, AfterText, WantType, PropertyListStart, CollectionStart, WantVerb, AfterSemicolon, AfterPropertyList, Reply, No, Go, goes, cell, subject_at, verb_at, quad_at, quad_up, nil, after_subject, collection_closed, after, step, place_size, around_size, up_size, mode_size, State, at_start, ran, accept_all}
-use Rattle.rdf_trig.proofs.trees.TokensOfEvents.{document_told, tokens_give}
+use Rattle.rdf_trig.proofs.trees.TokensOfEvents.{tokens_give}
 use Rattle.rdf_trig.proofs.machine.Completeness.{no_tag, TakesIri, TakesObject, want_takes, collection_start_takes, item_takes, TakesVerb, Ends, type_takes, brackets_verb, semicolon_verb, want_verb, TakesSubject, EndsTriples, label_verb, brackets_then_verb, subject_verb, start_takes, inside_takes, top_ends, dot_ends, brace_ends}
 use Rattle.rdf_trig.proofs.machine.ViableTokens.{Stand, stand, on_reply, reach, viable_reached, lax_true}
 use Rattle.rdf_trig.proofs.machine.AcceptedTokens.{ran_tokens}
@@ -398,9 +398,8 @@ walk out form (t ∷ ts) us c m n hs r e = by (λ c' k gs f h. walk out form ts 
 held_in_mode : (out : InForce → ℕ) (form : DocForm) (start : InForce) (ts : List Token) (n : Stand) (size : ℕ) → reach true form (in_default start) Start ts ≡ Some n →
     HasToHold out form start ts size → size ≡ stood out n
 held_in_mode out form start ts n size r o =
-    let told = document_told o.tree start in
     let all : sizes out form (in_default start) Start (ts ++ o.more) ≡ Some (document_held out start o.tree) =
-    ap (sizes out form (in_default start) Start) (o.tokens ∙ sym told) ∙ (document_sized out o.tree (in_default start)).has in
+    ap (sizes out form (in_default start) Start) o.tokens ∙ (document_sized out o.tree (in_default start)).has in
     sym o.held ∙ walk out form ts o.more (in_default start) Start n (document_held out start o.tree) r all
 
 -- What has to be held after tokens that the machine accepts is what its open predicate lists hold, and what is counted of its scope.

@@ -17,7 +17,8 @@ use Rattle.rdf_trig.specs.Quads.{Setting, in_default}
 use Rattle.rdf_trig.specs.Events.{Use, itself, stands, binds}
 use Rattle.rdf_trig.specs.Machine.{Mode, Start, Reply, No, Go, start, step, waiting}
 use Rattle.rdf_trig.specs.Machine.{kept, State, Answer, refuses, accepts, unnamed, too_long, by_use, deepens, answer, accept, at_start, ran, refused, with_quads, go, accept_all, depth}
-use Rattle.rdf_trig.specs.Refusals.{Refusal, unexpected, too_deep, unbound, no_base, iri_too_long, too_many_bindings, Excluded, RefusedFor}
+use Rattle.rdf_trig.specs.Refusals.{Excluded}
+use Rattle.rdf_trig.specs.Refused.{Refusal, unexpected, too_deep, unbound, no_base, iri_too_long, too_many_bindings, RefusedFor}
 use Rattle.rdf_trig.specs.Documents.{InTree, StandsFor, opens, closes, opened, closed, open_in, IsDeep, IsLong, IsOneMore, Passes}
 use Rattle.rdf_trig.proofs.machine.ClosingTokens.{has_iri}
 use Rattle.rdf_trig.proofs.machine.ViableTokens.{Stand, stand, reach, reached_viable, nameless, goes_on}

@@ -13,7 +13,6 @@ use Rattle.rdf_trig.specs.Machine.{Mode, Start, Reply, No, Go, start, step, wait
 use Rattle.rdf_trig.specs.Documents.{documents, trees}
 use Rattle.rdf_trig.proofs.machine.Completeness.{document_good}
 use Rattle.rdf_trig.proofs.machine.Soundness.{read_found, unput}
-use Rattle.rdf_trig.proofs.trees.TokensOfEvents.{document_told}
 use Rattle.rdf_trig.proofs.machine.ClosingTokens.{has_iri, admits, AllAdmitted, Accepts, passing_give, passing_back, close, closes}
 
 -- where the machine stands
@@ -135,19 +134,19 @@ any_passing (Gave q ∷ es) = any_passing es
 -- tokens that begin a run of names that are bound begin a document
 pub begins_viable : (form : DocForm) (start : InForce) (ts : List Token) → Begins true form start ts → Viable (documents form start) ts
 begins_viable form start ts (d, us, e, b) =
-    (us, event_quads 0 (document_events start d), record { tree = d; tokens = sym e ∙ document_told d start; bound = passing_bound (document_events start d) b; quads = refl })
+    (us, event_quads 0 (document_events start d), record { tree = d; tokens = sym e; bound = passing_bound (document_events start d) b; quads = refl })
 
 -- tokens that begin a document begin a run of names that are bound
 pub viable_begins : (form : DocForm) (start : InForce) (ts : List Token) → Viable (documents form start) ts → Begins true form start ts
-viable_begins form start ts v = let d = v.2 in (d.tree, v.0, document_told d.tree start ∙ sym d.tokens, bound_passing (document_events start d.tree) d.bound)
+viable_begins form start ts v = let d = v.2 in (d.tree, v.0, sym d.tokens, bound_passing (document_events start d.tree) d.bound)
 
 -- tokens that begin a run begin a tree
 pub begins_shaped : (form : DocForm) (start : InForce) (ts : List Token) → Begins false form start ts → Shaped (trees form start) ts
-begins_shaped form start ts (d, us, e, b) = (us, event_quads 0 (document_events start d), record { tree = d; tokens = sym e ∙ document_told d start; quads = refl })
+begins_shaped form start ts (d, us, e, b) = (us, event_quads 0 (document_events start d), record { tree = d; tokens = sym e; quads = refl })
 
 -- tokens that begin a tree begin a run, names aside
 pub shaped_begins : (form : DocForm) (start : InForce) (ts : List Token) → Shaped (trees form start) ts → Begins false form start ts
-shaped_begins form start ts v = let d = v.2 in (d.tree, v.0, document_told d.tree start ∙ sym d.tokens, any_passing (document_events start d.tree))
+shaped_begins form start ts v = let d = v.2 in (d.tree, v.0, sym d.tokens, any_passing (document_events start d.tree))
 
 -- tokens that the machine takes begin a document
 pub reached_viable : (form : DocForm) (start : InForce) (ts : List Token) (s : Stand) → reach true form (in_default start) Start ts ≡ Some s →

@@ -9,10 +9,11 @@ use Rattle.rdf_tokens.specs.Tokens.{Token}
 use Rattle.rdf_iri.specs.Scope.{InForce}
 use Rattle.rdf_tokens.specs.Leaves.{leaf_of}
 use Rattle.rdf_trig.specs.declared.form.DocForm.{DocForm}
-use Rattle.rdf_trig.specs.Trees.{Document, document_tokens}
+use Rattle.rdf_trig.specs.Trees.{Document}
+use Rattle.rdf_trig.specs.TreeTokens.{document_tokens}
 use Rattle.rdf_trig.specs.TreeQuads.{document_quads}
 use Rattle.rdf_trig.specs.Events.{tokens, event_quads, document_events}
-use Rattle.rdf_trig.specs.Refusals.{Refusal}
+use Rattle.rdf_trig.specs.Refused.{Refusal}
 use Rattle.rdf_trig.specs.Machine.{State, refuses, accept, at_start, ran, accept_all}
 use Rattle.rdf_trig.specs.Laws.{Reads, IsRefusedAfter}
 use Rattle.rdf_trig.proofs.trees.TokensOfEvents.{document_told}

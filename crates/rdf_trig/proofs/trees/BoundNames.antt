@@ -6,14 +6,13 @@ use Rattle.rdf_tokens.specs.Tokens.{Token}
 use Rattle.rdf_iri.specs.Scope.{InForce}
 use Rattle.rdf_tokens.specs.Leaves.{leaf_of}
 use Rattle.rdf_trig.specs.declared.form.DocForm.{DocForm}
-use Rattle.rdf_trig.specs.Trees.{Document, document_tokens}
+use Rattle.rdf_trig.specs.Trees.{Document}
 use Rattle.rdf_trig.specs.Quads.{Setting, in_default}
 use Rattle.rdf_trig.specs.Events.{Use, itself, stands, binds, Event, Took, Gave, give, document_events, tokens, HasIri, BoundFront}
 use Rattle.rdf_trig.specs.Machine.{Mode, Start, Reply, No, Go, start, step, waiting, fronted, go_on, run}
 use Rattle.rdf_trig.specs.Documents.{documents, InTree}
 use Rattle.rdf_trig.specs.Laws.{ViableWhereBound}
 use Rattle.rdf_trig.proofs.machine.Soundness.{unput}
-use Rattle.rdf_trig.proofs.trees.TokensOfEvents.{document_told}
 use Rattle.rdf_trig.proofs.machine.ClosingTokens.{has_iri}
 use Rattle.rdf_trig.proofs.machine.ViableTokens.{Stand, stand, reach, on_reply, if_true, run_tree, reach-snoc, step_on, and_on, use_bound, reached_viable, viable_reached, begins_reached, any_passing, was_true}
 use Rattle.rdf_trig.proofs.trees.Senses.{same_sense, tokens_after}
@@ -81,17 +80,17 @@ pub viable_bound : (form : DocForm) (start : InForce) (ts : List Token) → Viab
 viable_bound form start ts = record {
   bound = λ v. let d = v.2 in record { tree = d.tree; more = v.0; tokens = d.tokens; bound = every v d.tree v.0 d.tokens };
   viable = λ b.
-      let r = run_tree true form b.tree start (ts ++ b.more) (document_told b.tree start ∙ sym b.tokens) in
+      let r = run_tree true form b.tree start (ts ++ b.more) (sym b.tokens) in
       let s = bound_reached form ts b.more (in_default start) Start (document_events start b.tree) r b.bound in
       reached_viable form start ts s.0 s.1;
   every = every;
 }
   where
-    every : Viable (documents form start) ts → (d : Document form) (more : List Token) → ts ++ more ≡ document_tokens d →
+    every : Viable (documents form start) ts → (d : Document form) (more : List Token) → ts ++ more ≡ tokens (document_events start d) →
         BoundFront (length ts) (document_events start d)
     every v d more e =
         let s = viable_reached form start ts v in
-        reached_bound form ts more (in_default start) Start (document_events start d) s.0 (run_tree true form d start (ts ++ more) (document_told d start ∙ sym e)) s.1
+        reached_bound form ts more (in_default start) Start (document_events start d) s.0 (run_tree true form d start (ts ++ more) (sym e)) s.1
 
 -- What a token stands for is settled by the tokens before it.
 pub settled : (form : DocForm) (start : InForce) (ahead : List Token) (t : Token) (u v : Use) → InTree form start ahead t u → InTree form start ahead t v →

@@ -1,5 +1,5 @@
 -- What begins a document is completed to one by a few fixed tokens.
-use Rattle.std.proofs.Common.{◌≡◌, Bool, true, false, List, [], ◌∷◌, ◌++◌, Some, refl, sym, ◌∙◌}
+use Rattle.std.proofs.Common.{◌≡◌, Bool, true, false, List, [], ◌∷◌, ◌++◌, Some, refl, sym}
 use Rattle.std.specs.List.{All}
 use Rattle.std.proofs.lemmas.List.Elements.{All-nil, All-cons}
 use Rattle.rdf_tokens.specs.Grammars.{Viable, Shaped}
@@ -13,7 +13,6 @@ use Rattle.rdf_trig.specs.Machine.{Level, Top, InBlock, Place, Listed, InCollect
 use Rattle.rdf_trig.specs.Documents.{documents, trees}
 use Rattle.rdf_trig.specs.Laws.{IsClosing, CompletedBy}
 use Rattle.rdf_trig.proofs.machine.Soundness.{read_found}
-use Rattle.rdf_trig.proofs.trees.TokensOfEvents.{document_told}
 use Rattle.rdf_trig.proofs.machine.ClosingTokens.{AllAdmitted, the_end, close_level, close_verb, close_place, close_list, close_brackets, close_around, close_directive, close_block, close, closes}
 use Rattle.rdf_trig.proofs.machine.ViableTokens.{Stand, reach, front, passing_bound, viable_reached, shaped_reached}
 
@@ -117,7 +116,7 @@ completed form start ts = (by_document, by_tree)
           close (Stand.mode s.0),
           event_quads 0 (document_events start w.tree),
           all_closing (close (Stand.mode s.0)) (closing (Stand.mode s.0)),
-          record { tree = w.tree; tokens = sym w.told ∙ document_told w.tree start; bound = passing_bound (document_events start w.tree) w.passing; quads = refl },
+          record { tree = w.tree; tokens = sym w.told; bound = passing_bound (document_events start w.tree) w.passing; quads = refl },
         )
 
     by_tree : Shaped (trees form start) ts → CompletedBy (trees form start) ts
@@ -127,5 +126,5 @@ completed form start ts = (by_document, by_tree)
           close (Stand.mode s.0),
           event_quads 0 (document_events start w.tree),
           all_closing (close (Stand.mode s.0)) (closing (Stand.mode s.0)),
-          record { tree = w.tree; tokens = sym w.told ∙ document_told w.tree start; quads = refl },
+          record { tree = w.tree; tokens = sym w.told; quads = refl },
         )

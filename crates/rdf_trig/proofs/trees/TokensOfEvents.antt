@@ -10,7 +10,8 @@ use Rattle.rdf_iri.specs.Scope.{InForce}
 use Rattle.rdf_tokens.specs.Leaves.{Leaf, token}
 use Rattle.rdf_trig.specs.declared.form.DocForm.{DocForm}
 use Rattle.rdf_trig.specs.declared.form.DocForm.TheVariants.{Turtle, TriG}
-use Rattle.rdf_trig.specs.Trees.{pname_ln, pname_ns, Iri, iri_ref, prefixed, BlankNode, label, anon, Verb, predicate, type_word, String, short, long, Tag, lang_tag, base_tag, prefix_tag, plain, tagged, typed, integer, decimal, double, true_word, false_word, Literal, rdf, numeric, boolean, Object, iri_object, blank_object, collection_object, list_object, literal_object, Collection, collection, Items, no_items, item, BlankNodePropertyList, property_list, PredicateObjectList, predicate_objects, More, no_more, semicolon, semicolon_objects, ObjectList, objects, Commas, no_commas, comma, Subject, iri_subject, blank_subject, collection_subject, Triples, subject_triples, list_triples, Directive, prefix_id, base, sparql_prefix, sparql_base, LabelOrSubject, iri_label, blank_label, TriplesBlock, last, last_dot, dot, WrappedGraph, wrapped, named_graph, label_triples, list_triples2, collection_triples2, triples_or_graph, default_graph, triples2, graph_word, Body, Document, end, with_directive, with_body, iri_tokens, verb_tokens, string_tokens, tag_tokens, literal_tokens, blank_tokens, object_tokens, collection_tokens, items_tokens, list_tokens, predicates_tokens, more_tokens, objects_tokens, commas_tokens, subject_tokens, maybe_tokens, triples_tokens, directive_tokens, label_tokens, block_tokens, wrapped_tokens, body_tokens, document_tokens}
+use Rattle.rdf_trig.specs.Trees.{pname_ln, pname_ns, Iri, iri_ref, prefixed, BlankNode, label, anon, Verb, predicate, type_word, String, short, long, Tag, lang_tag, base_tag, prefix_tag, plain, tagged, typed, integer, decimal, double, true_word, false_word, Literal, rdf, numeric, boolean, Object, iri_object, blank_object, collection_object, list_object, literal_object, Collection, collection, Items, no_items, item, BlankNodePropertyList, property_list, PredicateObjectList, predicate_objects, More, no_more, semicolon, semicolon_objects, ObjectList, objects, Commas, no_commas, comma, Subject, iri_subject, blank_subject, collection_subject, Triples, subject_triples, list_triples, Directive, prefix_id, base, sparql_prefix, sparql_base, LabelOrSubject, iri_label, blank_label, TriplesBlock, last, last_dot, dot, WrappedGraph, wrapped, named_graph, label_triples, list_triples2, collection_triples2, triples_or_graph, default_graph, triples2, graph_word, Body, Document, end, with_directive, with_body}
+use Rattle.rdf_trig.specs.TreeTokens.{iri_tokens, verb_tokens, string_tokens, tag_tokens, literal_tokens, blank_tokens, object_tokens, collection_tokens, items_tokens, list_tokens, predicates_tokens, more_tokens, objects_tokens, commas_tokens, subject_tokens, maybe_tokens, triples_tokens, directive_tokens, label_tokens, block_tokens, wrapped_tokens, body_tokens, document_tokens}
 use Rattle.rdf_trig.specs.Names.{scope_after}
 use Rattle.rdf_trig.specs.Quads.{Setting, in_default, in_graph, node, anon_at, verb_of, cell_of, items_of, collection_of, list_of, subject_of, label_of, rest_quad}
 use Rattle.rdf_trig.specs.Events.{Event, take, give, iri_events, verb_events, string_events, tag_events, blank_object_events, literal_events, object_quad, object_events, collection_events, items_events, rest_events, list_events, predicates_events, more_events, objects_events, commas_events, subject_events, maybe_events, triples_events, directive_events, label_events, block_events, maybe_block_events, wrapped_events, body_events, document_events, tokens}

@@ -4,7 +4,6 @@ use Rattle.std.specs.Str.{chars}
 use Rattle.std.specs.Str.Iter.{chars_rest}
 use Rattle.std.proofs.lemmas.Str.{length-encode}
 use Rattle.rdf_terms.proofs.CharsLemmas.{next_char, no_chars}
-use Rattle.rdf_terms.specs.Values.{outside}
 use Rattle.rdf_stream.specs.declared.bad_escape.Step.TheVariants.{Leads}
 use Rattle.rdf_stream.specs.EscapeWalks.{IsInRoom, IsStepInRoom, begun_at, inside_of, stand_of, stop_from}
 use Rattle.rdf_stream.proofs.EscapeWalksLemmas.{by_fails, by_leads, by_means}

@@ -1,5 +1,4 @@
-use Rattle.std.proofs.Common.{◌≡◌, ◌∙◌, ◌<◌, ap, arith, subst, sym}
-use Rattle.rdf_terms.specs.Values.{hex_value}
+use Rattle.std.proofs.Common.{◌∙◌, ap, arith, sym}
 use Rattle.rdf_stream.specs.EscapeWalks.{inside_of, step_for}
 use Rattle.rdf_stream.proofs.EscapeWalksLemmas.{move_digit, room_fits, some_digit}
 use Rattle.rdf_stream.proofs.bad_escape.digit.Goals as goal

@@ -4,7 +4,8 @@ use Rattle.rdf_lines.proofs.AcceptingLemmas.{lawful as lines_lawful}
 use Rattle.rdf_trig.proofs.code.LawfulGrammar.{lawful as trees_lawful}
 use Rattle.rdf_lines.specs.Accepting.{line_words}
 use Rattle.rdf_trig.specs.Accepting.{tree_words}
-use Rattle.rdf_stream.specs.Checks.{BeginsToRead, CheckStops, IsAccepted}
+use Rattle.rdf_stream.specs.Checks.{CheckStops, IsAccepted}
+use Rattle.rdf_stream.specs.CheckRuns.{BeginsToRead}
 use Rattle.rdf_stream.specs.Devices.{reading}
 use Rattle.rdf_stream.specs.Places.{HandsOut, TellsNear}
 use Rattle.rdf_stream.specs.Told.{told}

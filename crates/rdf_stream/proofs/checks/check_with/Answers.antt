@@ -1,6 +1,6 @@
 -- A check over the pieces of a source: it begins with nothing read, and each outcome is that of the pieces.
 use Rattle.std.proofs.Common.{◌≡◌, true, refl}
-use Rattle.rdf_stream.specs.Checks.{BeginsToRead}
+use Rattle.rdf_stream.specs.CheckRuns.{BeginsToRead}
 use Rattle.rdf_stream.specs.Devices.{reading}
 use Rattle.rdf_stream.specs.Faults.{IsRefusal}
 use Rattle.rdf_stream.proofs.ChecksLemmas.{Halted, Taken, begins, checked, refused_document, stopped}

@@ -5,7 +5,7 @@ use Rattle.rdf_lines.specs.Accepting.{line_words}
 use Rattle.rdf_trig.specs.Accepting.{tree_words}
 use Rattle.rdf_stream.specs.Converting.{Starts}
 use Rattle.rdf_stream.specs.Converts.{Accepts, IsPrompt, StopsFor}
-use Rattle.rdf_stream.specs.Languages.{output}
+use Rattle.rdf_stream.specs.Outputs.{output}
 use Rattle.rdf_stream.specs.Places.{HandsOut, TellsNear}
 use Rattle.rdf_stream.specs.Told.{told}
 use Rattle.rdf_stream.proofs.ConvertsLemmas.{lines_job, trees_job}

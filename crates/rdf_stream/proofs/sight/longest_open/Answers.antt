@@ -1,6 +1,7 @@
 use Rattle.std.proofs.Common.{◌≡◌, ◌∙◌, ◌+◌, arith, length, subst, take, false}
 use Rattle.std.specs.Str.{IsCharBoundary}
-use Rattle.rdf_stream.specs.Sights.{IsSeen, reading_from}
+use Rattle.rdf_stream.specs.Sights.{reading_from}
+use Rattle.rdf_stream.specs.SightRuns.{IsSeen}
 use Rattle.rdf_stream.proofs.SightLemmas.{by_equal, IsLongestTo, longest_all, longest_next, longest_none, longest_settled, longest_within, only_open}
 use Rattle.rdf_stream.proofs.sight.longest_open.Goals.{then-is_char_boundary+in_ok-see_to-2+in-Open, else-is_char_boundary}
 use Rattle.rdf_stream.proofs.sight.longest_open.Goals as goal

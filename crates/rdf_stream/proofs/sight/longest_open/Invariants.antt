@@ -1,5 +1,5 @@
 use Rattle.std.proofs.Common.{◌≡◌}
-use Rattle.rdf_stream.specs.Sights.{HasTaken}
+use Rattle.rdf_stream.specs.SightRuns.{HasTaken}
 use Rattle.rdf_stream.proofs.SightLemmas.{IsLongestTo}
 use Rattle.rdf_stream.proofs.sight.longest_open.Given as goal
 

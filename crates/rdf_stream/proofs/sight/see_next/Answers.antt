@@ -1,6 +1,6 @@
 use Rattle.std.proofs.Common.{Ok, ◌∙◌, ap, sym, subst}
 use Rattle.rdf_tokens.specs.Scans.{Gives}
-use Rattle.rdf_stream.specs.Sights.{Sees}
+use Rattle.rdf_stream.specs.SightRuns.{Sees}
 use Rattle.rdf_stream.proofs.SightLemmas.{sees_stop, sees_none, sees_token}
 use Rattle.rdf_stream.proofs.sight.see_next.Goals as goal
 

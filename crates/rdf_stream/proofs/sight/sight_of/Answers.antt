@@ -1,10 +1,11 @@
-use Rattle.std.proofs.Common.{◌≡◌, false, subst}
+use Rattle.std.proofs.Common.{false, subst}
 use Rattle.std.specs.Option.{MatchOption}
 use Rattle.rdf_tokens.specs.Good.{good}
 use Rattle.rdf_tokens.specs.Tokens.{rest_of}
 use Rattle.rdf_stream.specs.declared.sight.Seen.TheVariants.{Unfit}
 use Rattle.rdf_stream.specs.BadEscapes.{HasBadEscape}
-use Rattle.rdf_stream.specs.Sights.{IsSeen, reading_from}
+use Rattle.rdf_stream.specs.Sights.{reading_from}
+use Rattle.rdf_stream.specs.SightRuns.{IsSeen}
 use Rattle.rdf_stream.proofs.SightLemmas.{by_equal}
 use Rattle.rdf_stream.proofs.SightPlaces.{found_there, stands}
 use Rattle.rdf_stream.proofs.sight.sight_of.Goals as goal

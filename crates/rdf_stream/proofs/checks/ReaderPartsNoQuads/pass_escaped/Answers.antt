@@ -1,6 +1,6 @@
-use Rattle.std.proofs.Common.{◌++◌, [], subst, sym}
+use Rattle.std.proofs.Common.{subst, sym}
 use Rattle.std.proofs.lemmas.List.{append-nil}
-use Rattle.rdf_stream.specs.Checks.{IsChecking}
+use Rattle.rdf_stream.specs.CheckRuns.{IsChecking}
 use Rattle.rdf_stream.proofs.checks.ReaderPartsNoQuads.pass_escaped.Goals as goal
 
 pub returns-clause-takes : goal.returns-clause-takes

@@ -1,7 +1,7 @@
 -- A part: its lines are put, and an error within it stops the run, whatever comes after it.
 use Rattle.std.proofs.Common.{◌++◌, false, append_assoc, subst}
 use Rattle.rdf_stream.specs.Converting.{RunHalts}
-use Rattle.rdf_stream.specs.Expected.{StandsFor}
+use Rattle.rdf_stream.specs.ExpectedRuns.{StandsFor}
 use Rattle.rdf_stream.proofs.ConvertingLemmas.{few_now, live_now, run_halts, run_reads}
 use Rattle.rdf_stream.proofs.ConvertsLemmas.{halts_more}
 use Rattle.rdf_stream.proofs.ExpectedLemmas.{stands_in_piece, stands_more, stands_told}

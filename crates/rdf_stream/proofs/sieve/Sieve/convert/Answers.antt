@@ -4,7 +4,7 @@ use Rattle.rdf_lines.specs.declared.rules.Rules.{Rules}
 use Rattle.rdf_lines.specs.Documents.{in_lines}
 use Rattle.rdf_tokens.specs.Scans.{place_of}
 use Rattle.rdf_stream.specs.Converts.{Accepts}
-use Rattle.rdf_stream.specs.Languages.{conversion}
+use Rattle.rdf_stream.specs.Outputs.{conversion}
 use Rattle.rdf_stream.specs.Outputs.{output_of}
 use Rattle.rdf_stream.proofs.DocumentLemmas.{lines_convertible}
 use Rattle.rdf_stream.proofs.SieveLemmas.{converted_good, mark_bad, mark_had, refusal, refused_bad, refused_for, refused_place}

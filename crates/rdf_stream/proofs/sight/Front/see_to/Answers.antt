@@ -1,6 +1,7 @@
 use Rattle.std.proofs.Common.{◌∙◌, ◌+◌, ◌-◌, ◌≤◌, arith, drop, refl, subst, take, false}
 use Rattle.rdf_tokens.specs.Tokens.Outcome.{undecided}
-use Rattle.rdf_stream.specs.Sights.{HasNone, HasTaken, IsSeen, LeavesOpen, SeesPart, reading_from}
+use Rattle.rdf_stream.specs.Sights.{HasNone, LeavesOpen, reading_from}
+use Rattle.rdf_stream.specs.SightRuns.{HasTaken, IsSeen, SeesPart}
 use Rattle.rdf_stream.proofs.SightLemmas.{by_scan, decided, open_before, took}
 use Rattle.rdf_stream.proofs.sight.Front.see_to.Goals as goal
 

@@ -1,6 +1,6 @@
 use Rattle.std.proofs.Common.{◌-◌}
 use Rattle.rdf_tokens.specs.Scans.{SameScan}
-use Rattle.rdf_stream.specs.Sights.{HasTaken}
+use Rattle.rdf_stream.specs.SightRuns.{HasTaken}
 use Rattle.rdf_stream.proofs.sight.Front.see_to.Given as goal
 
 abbrev pub invariant-parts : goal.invariant-parts
