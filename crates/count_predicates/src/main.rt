@@ -38,7 +38,8 @@ impl Counts {
 }
 
 impl QuadSink for Counts {
-    ghost takes = { λ _ quad after. (text : List ℕ) × (chars text ≡ quad.predicate) × (0 < unwrap_or (get_by_text after.of text) 0) };
+    ghost takes = { λ _ quad after.
+        (text : List ℕ) × (chars text ≡ quad.predicate) × (0 < unwrap_or (get_by_text after.of text) 0) };
 
     ghost leaves = { λ _ _ _. ⊤ };
 

@@ -6,8 +6,8 @@ ghost use Rattle.rdf_c.specs.Kinds.{HasBits, IsAlone, length_of};
 use rdf_stream::{Details, Kinds, Near, Nearby, Sight};
 use rdf_terms::Kind;
 
-/// What is known of a token that was unexpected: sets of kinds, a bit for each kind, both 0 where no token was unexpected; and of each refusal how
-/// much stands at its place.
+/// What is known of a token that was unexpected: sets of kinds, a bit for each kind, both 0 where no token was
+/// unexpected; and of each refusal how much stands at its place.
 #[repr(C)]
 #[derive(Clone, Copy)]
 pub struct Unexpected {
@@ -15,8 +15,8 @@ pub struct Unexpected {
     pub found: u64,
     /// The kinds of which a token could have stood in its place.
     pub expected: u64,
-    /// How many bytes the token has that stands at the place of a refusal; where there is none, how many could begin one. 0 where that is not
-    /// known.
+    /// How many bytes the token has that stands at the place of a refusal; where there is none, how many could
+    /// begin one. 0 where that is not known.
     pub length: u64,
 }
 

@@ -21,12 +21,12 @@ use crate::runs::{check_bytes, convert_bytes};
 use rdf_stream::{Details, Near, Nearby};
 use std::alloc::Global;
 
-/// Reads the document, and writes the lines of its quads to the front of the output, as many bytes as there is room for; the
-/// outcome says how many bytes the lines have. A base of no bytes is none. The prefixes are
-/// lines of a prefix and its IRI each, as the program's `--prefixes` reads them. The word, of ASCII letters and digits, stands in front of
-/// the name of each node that is written; of no bytes it changes no name. Of a refused document the lines before the refusal are
-/// written. Bytes of the output after the lines stay as they are, and so does all of it where there is no job, where a line of the prefixes
-/// is refused, and where memory was refused.
+/// Reads the document, and writes the lines of its quads to the front of the output, as many bytes as there is room
+/// for; the outcome says how many bytes the lines have. A base of no bytes is none. The prefixes are lines of a
+/// prefix and its IRI each, as the program's `--prefixes` reads them. The word, of ASCII letters and digits, stands
+/// in front of the name of each node that is written; of no bytes it changes no name. Of a refused document the
+/// lines before the refusal are written. Bytes of the output after the lines stay as they are, and so does all of
+/// it where there is no job, where a line of the prefixes is refused, and where memory was refused.
 #[unsafe(no_mangle)]
 pub extern "C" fn rdfconv_convert(
     alloc: Global,
@@ -39,7 +39,8 @@ pub extern "C" fn rdfconv_convert(
     outcome: &mut Outcome,
 )
     ensures len { length output.new ≡ length output.old }
-    ensures outcome { HasConverted request.now base.now prefixes.now word.now input.now output.old output.new outcome.new }
+    ensures outcome { HasConverted request.now base.now prefixes.now word.now input.now output.old output.new
+        outcome.new }
 {
     *outcome = match job_of(alloc, request, base, prefixes, word) {
         Ok(job) => convert_bytes(alloc, job, input, output),
@@ -74,9 +75,9 @@ pub extern "C" fn rdfconv_check(
     );
 }
 
-/// What `rdfconv_check` does; and of a document that is refused for an unexpected token the token's kind, and the kinds of tokens that
-/// could have stood in its place. Else both sets are empty. Of each refusal the number of bytes that stand at its place: of the token there,
-/// or, where there is none, of what could begin one.
+/// What `rdfconv_check` does; and of a document that is refused for an unexpected token the token's kind, and the
+/// kinds of tokens that could have stood in its place. Else both sets are empty. Of each refusal the number of
+/// bytes that stand at its place: of the token there, or, where there is none, of what could begin one.
 #[unsafe(no_mangle)]
 pub extern "C" fn rdfconv_check_expecting(
     alloc: Global,

@@ -6,9 +6,9 @@ ghost use Rattle.rdf_c.specs.Numbers.{number_of_binding_reason, number_of_reason
 use rdf_stream::{BindingFault, BindingReason};
 use rdf_terms::Reason;
 
-/// How a call ended: status 0 where the document is accepted, 1 where it is refused, 2 where the request is of no job, 4 where
-/// memory was refused, 5 where the document is accepted and its lines are longer than the output, and 6 where a line of the prefixes is
-/// refused. What does not belong to the status is 0.
+/// How a call ended: status 0 where the document is accepted, 1 where it is refused, 2 where the request is of no
+/// job, 4 where memory was refused, 5 where the document is accepted and its lines are longer than the output, and
+/// 6 where a line of the prefixes is refused. What does not belong to the status is 0.
 #[repr(C)]
 #[derive(Clone, Copy)]
 pub struct Outcome {

@@ -33,7 +33,8 @@ pub struct Request {
 /// Why there is no job.
 #[derive(Clone, Copy, Debug, PartialEq, Eq)]
 pub(crate) enum JobFault {
-    /// There is no such format, limit or form, the base is no IRI or has more bytes than the limit, or the word is no word.
+    /// There is no such format, limit or form, the base is no IRI or has more bytes than the limit, or the word is
+    /// no word.
     NoJob,
     /// A line of the prefixes is refused.
     Prefixes(BindingFault),
@@ -41,8 +42,8 @@ pub(crate) enum JobFault {
     Memory,
 }
 
-/// The job that a call asks for. The prefixes are a file of bindings, and of no bytes where none are handed in; so is the word in front
-/// of the names of nodes.
+/// The job that a call asks for. The prefixes are a file of bindings, and of no bytes where none are handed in; so
+/// is the word in front of the names of nodes.
 pub(crate) fn job_of(
     alloc: Global,
     request: &Request,

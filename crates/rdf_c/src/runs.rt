@@ -82,7 +82,8 @@ fn convert_to(
 ) -> Result<Summary, StreamFault>
     requires none { lines.old.bytes.items ≡ [] }
     requires live { lines.old.failed ≡ false }
-    ensures accepted { IfOk result (λ summary. Accepts (conversion_of job) input.now (Some []) (Some lines.new.bytes.items) summary) }
+    ensures accepted { IfOk result (λ summary.
+        Accepts (conversion_of job) input.now (Some []) (Some lines.new.bytes.items) summary) }
     ensures stops { IfErr result (λ fault. Stopped fault job input.now lines.new.bytes.items) }
 {
     let mut source = Bytes::new(input);

@@ -20,7 +20,8 @@ pub fn address_within(
 ) -> Result<Iri, TermFault>
     ensures address { IfOk result (IsAddress most folder.now (option_map (λ s. s.now) file.entry)) }
     ensures fits { IfOk result (λ base. byte_len base ≤ most) }
-    ensures none { IsErrOf result TermFault.BadTerm → HasNoAddress most folder.now (option_map (λ s. s.now) file.entry) }
+    ensures none { IsErrOf result TermFault.BadTerm →
+        HasNoAddress most folder.now (option_map (λ s. s.now) file.entry) }
 {
     match file {
         Some(name) => named_address(alloc, folder, name, most),

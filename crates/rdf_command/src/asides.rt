@@ -90,8 +90,10 @@ pub fn run_skipping<H: Host, O: Drain + Explains, E: Drain>(
     requires fresh { AreFresh H.Input.has_ended H.Input.has_failed files }
     requires out { O.has_failed out.old ≡ false }
     requires err { E.has_failed err.old ≡ false }
-    ensures { AsWritten (EndsBySkip (Some bad.now) (outputs_of H.Host host.now (drain_tells H.Output.Drain H.Output.Explains))
-        (devices_of H.Input.Source H.Input.Explains O.Drain O.Explains) task (option_map H.Input.remaining files.prefixes)
+    ensures { AsWritten (EndsBySkip (Some bad.now)
+        (outputs_of H.Host host.now (drain_tells H.Output.Drain H.Output.Explains))
+        (devices_of H.Input.Source H.Input.Explains O.Drain O.Explains) task
+        (option_map H.Input.remaining files.prefixes)
         (H.Input.remaining files.document) (option_map (files_told H.Input.Source) result.files)) result.status
         O.Drain E.Drain out.old out.new err.old err.new }
 {
@@ -117,7 +119,9 @@ fn skip_over<H: Host, I: Source + Explains, O: Drain + Explains, E: Drain>(
     requires fresh { AreFresh I.has_ended I.has_failed files.old }
     requires out { O.has_failed out.old ≡ false }
     requires err { E.has_failed err.old ≡ false }
-    ensures { AsWritten (AsideEnds (outputs_of H.Host host.now (drain_tells H.Output.Drain H.Output.Explains)) (devices_of I.Source I.Explains O.Drain O.Explains) bad.now task (option_map I.remaining files.old.prefixes) (I.remaining files.old.document)
+    ensures { AsWritten (AsideEnds (outputs_of H.Host host.now (drain_tells H.Output.Drain H.Output.Explains))
+        (devices_of I.Source I.Explains O.Drain O.Explains) bad.now task (option_map I.remaining files.old.prefixes)
+        (I.remaining files.old.document)
         (files_told I.Source files.new)) result O.Drain E.Drain out.old out.new err.old err.new }
 {
     let mut task = task;
@@ -168,8 +172,10 @@ fn skip_to<H: Host, S: Source + Explains, O: Drain + Explains, E: Drain>(
     requires source { S.has_failed source.old ≡ false }
     requires out { O.has_failed out.old ≡ false }
     requires err { E.has_failed err.old ≡ false }
-    ensures { AsWritten (AsideBy (option_map (λ s. s.now) output.entry) (outputs_of H.Host host.now (drain_tells H.Output.Drain H.Output.Explains))
-        (devices_of S.Source S.Explains O.Drain O.Explains) (told_by how.now) job (S.remaining source.old) (told S.Source source.new)) result
+    ensures { AsWritten (AsideBy (option_map (λ s. s.now) output.entry)
+        (outputs_of H.Host host.now (drain_tells H.Output.Drain H.Output.Explains))
+        (devices_of S.Source S.Explains O.Drain O.Explains) (told_by how.now) job (S.remaining source.old)
+        (told S.Source source.new)) result
         O.Drain E.Drain out.old out.new err.old err.new }
 {
     match how.action {
@@ -193,8 +199,10 @@ fn skip_and_write<H: Host, S: Source + Explains, O: Drain + Explains, E: Drain>(
     requires source { S.has_failed source.old ≡ false }
     requires out { O.has_failed out.old ≡ false }
     requires err { E.has_failed err.old ≡ false }
-    ensures { AsWritten (AsideOut (option_map (λ s. s.now) output.entry) (outputs_of H.Host host.now (drain_tells H.Output.Drain H.Output.Explains))
-        (devices_of S.Source S.Explains O.Drain O.Explains) (told_by how.now) job (S.remaining source.old) (told S.Source source.new)) result
+    ensures { AsWritten (AsideOut (option_map (λ s. s.now) output.entry)
+        (outputs_of H.Host host.now (drain_tells H.Output.Drain H.Output.Explains))
+        (devices_of S.Source S.Explains O.Drain O.Explains) (told_by how.now) job (S.remaining source.old)
+        (told S.Source source.new)) result
         O.Drain E.Drain out.old out.new err.old err.new }
 {
     match output {
@@ -215,7 +223,9 @@ fn skip_in_check<H: Host, S: Source + Explains, E: Drain>(
     requires more { S.has_ended source.old ≡ false }
     requires source { S.has_failed source.old ≡ false }
     requires err { E.has_failed err.old ≡ false }
-    ensures { AsideOnly (outputs_of H.Host host.now (drain_tells H.Output.Drain H.Output.Explains)) (source_tells S.Source S.Explains) (told_by how.now) job (S.remaining source.old) (told S.Source source.new) result
+    ensures { AsideOnly (outputs_of H.Host host.now (drain_tells H.Output.Drain H.Output.Explains))
+        (source_tells S.Source S.Explains) (told_by how.now) job (S.remaining source.old)
+        (told S.Source source.new) result
         (E.contents err.old) (written E.Drain err.new) }
 {
     let mut nothing = Nothing { is_flushed: true };
@@ -237,7 +247,8 @@ fn skip_onto<H: Host, S: Source + Explains, O: Drain + Explains, E: Drain>(
     requires out { O.has_failed out.old ≡ false }
     requires err { E.has_failed err.old ≡ false }
     ensures { AsWritten (AsideOnto (outputs_of H.Host host.now (drain_tells H.Output.Drain H.Output.Explains))
-        (devices_of S.Source S.Explains O.Drain O.Explains) (told_by how.now) job (S.remaining source.old) (told S.Source source.new)) result
+        (devices_of S.Source S.Explains O.Drain O.Explains) (told_by how.now) job (S.remaining source.old)
+        (told S.Source source.new)) result
         O.Drain E.Drain out.old out.new err.old err.new }
 {
     match put_aside(how, job, host, source, out, err) {
@@ -259,7 +270,9 @@ fn skip_into<H: Host, S: Source + Explains, E: Drain>(
     requires more { S.has_ended source.old ≡ false }
     requires source { S.has_failed source.old ≡ false }
     requires err { E.has_failed err.old ≡ false }
-    ensures { AsideInto name.now (outputs_of H.Host host.now (drain_tells H.Output.Drain H.Output.Explains)) (source_tells S.Source S.Explains) (told_by how.now) job (S.remaining source.old) (told S.Source source.new) result
+    ensures { AsideInto name.now (outputs_of H.Host host.now (drain_tells H.Output.Drain H.Output.Explains))
+        (source_tells S.Source S.Explains) (told_by how.now) job (S.remaining source.old)
+        (told S.Source source.new) result
         (E.contents err.old) (written E.Drain err.new) }
 {
     let mut output = match host.create(how.alloc, name) {
@@ -278,7 +291,8 @@ fn skip_into<H: Host, S: Source + Explains, E: Drain>(
     }
 }
 
-// Writes the lines of the good lines' quads, and puts the bad lines into their file; or tells why not, and answers the status.
+// Writes the lines of the good lines' quads, and puts the bad lines into their file; or tells why not, and answers
+// the status.
 fn put_aside<H: Host, S: Source + Explains, D: Drain + Explains, E: Drain>(
     how: &Skipping<'_>,
     job: Job,
@@ -292,9 +306,12 @@ fn put_aside<H: Host, S: Source + Explains, D: Drain + Explains, E: Drain>(
     requires source { S.has_failed source.old ≡ false }
     requires drain { D.has_failed drain.old ≡ false }
     requires err { E.has_failed err.old ≡ false }
-    ensures put { IfOk result (IsPutAside (outputs_of H.Host host.now (drain_tells H.Output.Drain H.Output.Explains)) (told_by how.now) job (S.remaining source.old) (D.contents drain.old) (written D.Drain drain.new)) }
+    ensures put { IfOk result (IsPutAside (outputs_of H.Host host.now (drain_tells H.Output.Drain H.Output.Explains))
+        (told_by how.now) job (S.remaining source.old) (D.contents drain.old) (written D.Drain drain.new)) }
     ensures untold { OnOk result (err.new ≡ err.old) }
-    ensures none { IfErr result (λ status. AsWritten (NotPutAside (outputs_of H.Host host.now (drain_tells H.Output.Drain H.Output.Explains)) (devices_of S.Source S.Explains D.Drain D.Explains) (told_by how.now) job (S.remaining source.old)
+    ensures none { IfErr result (λ status. AsWritten
+        (NotPutAside (outputs_of H.Host host.now (drain_tells H.Output.Drain H.Output.Explains))
+        (devices_of S.Source S.Explains D.Drain D.Explains) (told_by how.now) job (S.remaining source.old)
         (told S.Source source.new)) status D.Drain E.Drain drain.old drain.new err.old err.new) }
 {
     let mut bad = match host.create(how.alloc, how.bad) {
@@ -334,7 +351,8 @@ fn tell_stop_aside<S: Explains, D: Drain + Explains, B: Explains, E: Drain>(
 )
     requires { E.has_failed err.old ≡ false }
     ensures { ReportsStop how.now.explain (device how.now.document.now (S.tells source.now))
-        (broken (D.has_failed drain.now) (device how.now.output.now (D.tells drain.now)) (device how.now.bad.now (B.tells bad.now)))
+        (broken (D.has_failed drain.now) (device how.now.output.now (D.tells drain.now))
+        (device how.now.bad.now (B.tells bad.now)))
         stop.now.fault stop.now.evidence (E.contents err.old) (E.contents err.new) (E.has_failed err.new) }
 {
     let document = (how.document, source);

@@ -76,8 +76,8 @@ fn command_by<'a>(
     task
 }
 
-/// The lines that report and explain a fault of the words, where they ask for that and the fault is a text that is no IRI.
-/// There are none where memory for them is refused.
+/// The lines that report and explain a fault of the words, where they ask for that and the fault is a text that is
+/// no IRI. There are none where memory for them is refused.
 pub fn lines_for<'a>(alloc: Global, words: &'a [&'a str], fault: &WordsFault) -> Option<Vec<u8>>
     ensures told { IfSome result (λ lines. IsToldBy (map (λ s. s.now) words.entry.now) fault.now (Some lines.items)) }
     ensures iri { IfSome result (λ _. IsOfIri fault.now) }
@@ -98,7 +98,8 @@ fn lines_by<'a>(
     fault: &WordsFault,
 ) -> Result<Option<Vec<u8>>, WordsFault>
     requires { map (λ s. s.now) formats.now ≡ format_names }
-    ensures { IfOk result (λ lines. option_map (λ l. l.items) lines ≡ lines_for (rdfconv (Names formats.entry)) (map (λ s. s.now) words.entry.now) fault.now) }
+    ensures { IfOk result (λ lines. option_map (λ l. l.items) lines ≡ lines_for (rdfconv (Names formats.entry))
+        (map (λ s. s.now) words.entry.now) fault.now) }
 {
     let matches = program(alloc, formats)?.try_get_matches_from(words)?;
     let (_, found) = matches.subcommand().unwrap();
@@ -114,7 +115,8 @@ fn lines_in(
     fault: &WordsFault,
 ) -> Result<Option<Vec<u8>>, AllocError>
     requires { HasLimits (rows_of (found_of found.now)) }
-    ensures { IfOk result (λ lines. option_map (λ l. l.items) lines ≡ lines_by (rows_of (found_of found.now)) fault.now) }
+    ensures { IfOk result (λ lines.
+        option_map (λ l. l.items) lines ≡ lines_by (rows_of (found_of found.now)) fault.now) }
 {
     if !is_given(found.get_str("explain")) {
         return Ok(None);
@@ -141,7 +143,8 @@ fn lines_of(
     text: Option<&str>,
     most: u64,
 ) -> Result<Option<Vec<u8>>, AllocError>
-    ensures { IfOk result (λ lines. option_map (λ l. l.items) lines ≡ lines_of line.now (option_map (λ s. s.now) text.entry) (Some most)) }
+    ensures { IfOk result (λ lines.
+        option_map (λ l. l.items) lines ≡ lines_of line.now (option_map (λ s. s.now) text.entry) (Some most)) }
 {
     match text {
         Some(text) => Ok(Some(bad_iri_lines(alloc, line, text, most)?)),
@@ -425,7 +428,8 @@ fn skip_of(
     text: Option<&str>,
 ) -> Result<Option<String>, WordsFault>
     ensures skip { IfOk result (λ skip. option_map string_bytes skip ≡ option_map (λ s. s.now) text.entry) }
-    ensures good { OnOk result (IfSome (option_map (λ s. s.now) text.entry) (λ _. CanSkip form (map (λ s. s.now) further.now))) }
+    ensures good { OnOk result (IfSome (option_map (λ s. s.now) text.entry) (λ _.
+        CanSkip form (map (λ s. s.now) further.now))) }
     ensures lines { IfOk result (λ skip. IfSome skip (λ _. HasLines form)) }
     ensures bad { IfErr result (NoSkipOf form (map (λ s. s.now) further.now) (option_map (λ s. s.now) text.entry)) }
 {

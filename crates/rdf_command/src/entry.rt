@@ -44,7 +44,8 @@ pub fn start<H: Host, O: Drain + Explains, E: Drain>(
     requires out { O.has_failed out.old ≡ false }
     requires err { E.has_failed err.old ≡ false }
     ensures { AsWritten (HostEnds H.Host host.now (devices_of H.Input.Source H.Input.Explains O.Drain O.Explains)
-        (drain_tells H.Output.Drain H.Output.Explains) (option_map (files_told H.Input.Source) result.files)) result.status
+        (drain_tells H.Output.Drain H.Output.Explains)
+        (option_map (files_told H.Input.Source) result.files)) result.status
         O.Drain E.Drain out.old out.new err.old err.new }
 {
     match task_of(alloc, host) {
@@ -61,7 +62,8 @@ fn task_of<H: Host>(alloc: Global, host: &H) -> Result<Task, Refusal>
     ensures base { IfOk result (λ task. BaseFits task.base task.limits) }
     ensures skip { IfOk result SkipFits }
     ensures task { IfOk result (IsGiven (H.has_words host.now)) }
-    ensures refused { IfErr result (λ refusal. (lines : Option (List ℕ)) × IsNotGiven (H.has_words host.now) (H.has_bad_word host.now) refusal.fault lines
+    ensures refused { IfErr result (λ refusal.
+        (lines : Option (List ℕ)) × IsNotGiven (H.has_words host.now) (H.has_bad_word host.now) refusal.fault lines
         × IfSome refusal.lines (λ told. lines ≡ Some told.items)) }
     ensures lines { IfErr result (λ refusal. IfSome refusal.lines (λ _. IsOfIri refusal.fault)) }
 {
@@ -81,8 +83,10 @@ fn task_in<'a>(alloc: Global, words: &'a [&'a str]) -> Result<Task, Refusal>
     ensures base { IfOk result (λ task. BaseFits task.base task.limits) }
     ensures skip { IfOk result SkipFits }
     ensures task { IfOk result (IsTaskOf (map (λ s. s.now) words.entry.now)) }
-    ensures refused { IfErr result (λ refusal. (lines : Option (List ℕ)) × IsNoTaskOf (map (λ s. s.now) words.entry.now) refusal.fault
-        × IsToldBy (map (λ s. s.now) words.entry.now) refusal.fault lines × IfSome refusal.lines (λ told. lines ≡ Some told.items)) }
+    ensures refused { IfErr result (λ refusal.
+        (lines : Option (List ℕ)) × IsNoTaskOf (map (λ s. s.now) words.entry.now) refusal.fault
+        × IsToldBy (map (λ s. s.now) words.entry.now) refusal.fault lines
+        × IfSome refusal.lines (λ told. lines ≡ Some told.items)) }
     ensures lines { IfErr result (λ refusal. IfSome refusal.lines (λ _. IsOfIri refusal.fault)) }
 {
     match command_of(alloc, words) {
@@ -111,8 +115,10 @@ fn run_task<H: Host, O: Drain + Explains, E: Drain>(
     requires skip { SkipFits task }
     requires out { O.has_failed out.old ≡ false }
     requires err { E.has_failed err.old ≡ false }
-    ensures { AsWritten (TaskEnds (folders_of H.Host host.now) (H.has_document host.now) (shut_of H.Host host.now (devices_of H.Input.Source H.Input.Explains O.Drain O.Explains))
-        (outputs_of H.Host host.now (drain_tells H.Output.Drain H.Output.Explains)) task (option_map (files_told H.Input.Source) result.files)) result.status
+    ensures { AsWritten (TaskEnds (folders_of H.Host host.now) (H.has_document host.now)
+        (shut_of H.Host host.now (devices_of H.Input.Source H.Input.Explains O.Drain O.Explains))
+        (outputs_of H.Host host.now (drain_tells H.Output.Drain H.Output.Explains)) task
+        (option_map (files_told H.Input.Source) result.files)) result.status
         O.Drain E.Drain out.old out.new err.old err.new }
 {
     if task.more.as_slice().is_empty() {
@@ -136,7 +142,8 @@ fn run_alone<H: Host, O: Drain + Explains, E: Drain>(
     requires skip { SkipFits task }
     requires out { O.has_failed out.old ≡ false }
     requires err { E.has_failed err.old ≡ false }
-    ensures { AsWritten (OneEndsAt task.addressed (folders_of H.Host host.now) (H.has_document host.now) (shut_of H.Host host.now (devices_of H.Input.Source H.Input.Explains O.Drain O.Explains))
+    ensures { AsWritten (OneEndsAt task.addressed (folders_of H.Host host.now) (H.has_document host.now)
+        (shut_of H.Host host.now (devices_of H.Input.Source H.Input.Explains O.Drain O.Explains))
         (outputs_of H.Host host.now (drain_tells H.Output.Drain H.Output.Explains))
         task (option_map (files_told H.Input.Source) result.files)) result.status
         O.Drain E.Drain out.old out.new err.old err.new }
@@ -164,9 +171,11 @@ fn address_at<H: Host>(
     file: Option<&str>,
     most: u64,
 ) -> Result<Iri, TermFault>
-    ensures address { IfOk result (λ base. (folder : Text) × H.has_folder host.now folder × IsAddress most folder (option_map (λ s. s.now) file.entry) base) }
+    ensures address { IfOk result (λ base. (folder : Text) × H.has_folder host.now folder
+        × IsAddress most folder (option_map (λ s. s.now) file.entry) base) }
     ensures fits { IfOk result (λ base. byte_len base ≤ most) }
-    ensures none { IsErrOf result TermFault.BadTerm → LacksAddress (folders_of H.Host host.now) most (option_map (λ s. s.now) file.entry) }
+    ensures none { IsErrOf result TermFault.BadTerm →
+        LacksAddress (folders_of H.Host host.now) most (option_map (λ s. s.now) file.entry) }
 {
     let folder = folder_of(alloc, host)?;
     address_within(alloc, folder.as_str(), file, most)
@@ -196,8 +205,10 @@ fn run_one<H: Host, O: Drain + Explains, E: Drain>(
     requires skip { SkipFits task }
     requires out { O.has_failed out.old ≡ false }
     requires err { E.has_failed err.old ≡ false }
-    ensures { AsWritten (OneEnds (H.has_document host.now) (shut_of H.Host host.now (devices_of H.Input.Source H.Input.Explains O.Drain O.Explains))
-        (outputs_of H.Host host.now (drain_tells H.Output.Drain H.Output.Explains)) task (option_map (files_told H.Input.Source) result.files)) result.status
+    ensures { AsWritten (OneEnds (H.has_document host.now)
+        (shut_of H.Host host.now (devices_of H.Input.Source H.Input.Explains O.Drain O.Explains))
+        (outputs_of H.Host host.now (drain_tells H.Output.Drain H.Output.Explains)) task
+        (option_map (files_told H.Input.Source) result.files)) result.status
         O.Drain E.Drain out.old out.new err.old err.new }
 {
     match open_files(host, &task) {
@@ -211,10 +222,13 @@ fn run_one<H: Host, O: Drain + Explains, E: Drain>(
 
 // Opens the files of a task, that of the bindings first. The name of one that does not open is given back.
 fn open_files<'a, H: Host>(host: &H, task: &'a Task) -> Result<Files<H::Input>, &'a str>
-    ensures prefixes { IfOk result (λ files. HasPrefixes (H.has_document host.now) (prefixes_of task.now) (option_map H.Input.remaining files.prefixes)) }
-    ensures document { IfOk result (λ files. H.has_document host.now (file_of task.now) (H.Input.remaining files.document)) }
+    ensures prefixes { IfOk result (λ files.
+        HasPrefixes (H.has_document host.now) (prefixes_of task.now) (option_map H.Input.remaining files.prefixes)) }
+    ensures document { IfOk result (λ files.
+        H.has_document host.now (file_of task.now) (H.Input.remaining files.document)) }
     ensures fresh { IfOk result (AreFresh H.Input.has_ended H.Input.has_failed) }
-    ensures shut { IfErr result (λ name. ((prefixes_of task.now ≡ Some name.now) ⊎ (file_of task.now ≡ Some name.now)) × H.is_shut host.now name.now) }
+    ensures shut { IfErr result (λ name. ((prefixes_of task.now ≡ Some name.now) ⊎ (file_of task.now ≡ Some name.now))
+        × H.is_shut host.now name.now) }
 {
     let prefixes = match open_prefixes(host, task) {
         Ok(prefixes) => prefixes,
@@ -228,10 +242,12 @@ fn open_files<'a, H: Host>(host: &H, task: &'a Task) -> Result<Files<H::Input>, 
 
 // Opens the file of this name, or standard input, and gives back the name of a file that does not open.
 fn open_named<'a, H: Host>(host: &H, file: Option<&'a str>) -> Result<H::Input, &'a str>
-    ensures opened { IfOk result (λ input. H.has_document host.now (option_map (λ s. s.now) file.entry) (H.Input.remaining input)) }
+    ensures opened { IfOk result (λ input.
+        H.has_document host.now (option_map (λ s. s.now) file.entry) (H.Input.remaining input)) }
     ensures more { IfOk result (λ input. H.Input.has_ended input ≡ false) }
     ensures live { IfOk result (λ input. H.Input.has_failed input ≡ false) }
-    ensures shut { IfErr result (λ name. (option_map (λ s. s.now) file.entry ≡ Some name.now) × H.is_shut host.now name.now) }
+    ensures shut { IfErr result (λ name.
+        (option_map (λ s. s.now) file.entry ≡ Some name.now) × H.is_shut host.now name.now) }
 {
     match host.open(file) {
         Ok(input) => Ok(input),
@@ -241,8 +257,10 @@ fn open_named<'a, H: Host>(host: &H, file: Option<&'a str>) -> Result<H::Input, 
 
 /// Opens the file of bindings, where the task names one. Its name is given back where it does not open.
 pub fn open_prefixes<'a, H: Host>(host: &H, task: &'a Task) -> Result<Option<H::Input>, &'a str>
-    ensures opened { IfOk result (λ prefixes. HasPrefixes (H.has_document host.now) (prefixes_of task.now) (option_map H.Input.remaining prefixes)) }
-    ensures fresh { IfOk result (λ prefixes. IfSome prefixes (λ s. (H.Input.has_ended s ≡ false) × (H.Input.has_failed s ≡ false))) }
+    ensures opened { IfOk result (λ prefixes.
+        HasPrefixes (H.has_document host.now) (prefixes_of task.now) (option_map H.Input.remaining prefixes)) }
+    ensures fresh { IfOk result (λ prefixes.
+        IfSome prefixes (λ s. (H.Input.has_ended s ≡ false) × (H.Input.has_failed s ≡ false))) }
     ensures shut { IfErr result (λ name. (prefixes_of task.now ≡ Some name.now) × H.is_shut host.now name.now) }
 {
     match task.prefixes.as_deref() {

@@ -10,8 +10,8 @@ pub trait Explains {
     /// Asked why a call failed, it tells this, or nothing.
     ghost tells: { Self → Option Text → Type 0 };
 
-    /// Why a call failed, as the system said it then; None where no call has failed, where nothing is known, or where memory
-    /// is refused.
+    /// Why a call failed, as the system said it then; None where no call has failed, where nothing is known, or
+    /// where memory is refused.
     fn reason(&self, alloc: Global) -> Option<String>
         ensures { tells self.now (option_map string_bytes result) };
 }

@@ -111,7 +111,8 @@ fn words_of(alloc: Global, error: Option<Error>) -> Option<String>
 pub trait Host {
     /// What a document is read from.
     type Input: Source + Explains + Drop;
-    /// A file that is being written, and has not got its name yet. It may be no `Drop` type, so that code over any host keeps or discards it.
+    /// A file that is being written, and has not got its name yet. It may be no `Drop` type, so that code over any
+    /// host keeps or discards it.
     type Output: Drain + Explains;
 
     /// These are the words, the program's name first.
@@ -142,13 +143,16 @@ pub trait Host {
 
     /// Opens the file of this name, or standard input where there is none.
     fn open(&self, file: Option<&str>) -> Result<Self::Input, NotOpen>
-        ensures opened { IfOk result (λ input. has_document self.now (option_map (λ s. s.now) file.entry) (Self.Input.remaining input)) }
+        ensures opened { IfOk result (λ input.
+            has_document self.now (option_map (λ s. s.now) file.entry) (Self.Input.remaining input)) }
         ensures more { IfOk result (λ input. Self.Input.has_ended input ≡ false) }
         ensures live { IfOk result (λ input. Self.Input.has_failed input ≡ false) }
-        ensures shut { OnErr result ((path : Text) × (option_map (λ s. s.now) file.entry ≡ Some path) × is_shut self.now path) };
+        ensures shut { OnErr result ((path : Text) × (option_map (λ s. s.now) file.entry ≡ Some path)
+            × is_shut self.now path) };
 
-    /// Why the file of this name did not open, why no output was created for it, or why an output did not become this
-    /// file: what the system said of the last call that failed so. None where it said nothing, or where memory is refused.
+    /// Why the file of this name did not open, why no output was created for it, or why an output did not become
+    /// this file: what the system said of the last call that failed so. None where it said nothing, or where memory
+    /// is refused.
     fn reason(&self, alloc: Global, name: &str) -> Option<String>
         ensures { has_reason self.now name.now (option_map string_bytes result) };
 
@@ -226,8 +230,8 @@ impl Write for Device {
     }
 }
 
-/// Where lines go: standard output, or a file that is written beside the one that it is to be. One type stands for both, so that the
-/// program has one copy of the code that writes lines.
+/// Where lines go: standard output, or a file that is written beside the one that it is to be. One type stands for
+/// both, so that the program has one copy of the code that writes lines.
 #[derive(Drop)]
 pub struct Destination {
     // The name of the file while it is written; none for standard output.

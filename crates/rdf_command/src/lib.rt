@@ -1,4 +1,5 @@
-//! What the words of the command line of `rdfconv` ask for, and its run, over whatever gives these words, the documents and the outputs.
+//! What the words of the command line of `rdfconv` ask for, and its run, over whatever gives these words, the
+//! documents and the outputs.
 #![tactic(auto)]
 
 mod addresses;

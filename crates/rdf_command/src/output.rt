@@ -36,8 +36,10 @@ pub fn run_over<H: Host, O: Drain + Explains, E: Drain>(
     requires fresh { AreFresh H.Input.has_ended H.Input.has_failed files }
     requires out { O.has_failed out.old ≡ false }
     requires err { E.has_failed err.old ≡ false }
-    ensures { AsWritten (EndsBySkip (skip_of task) (outputs_of H.Host host.now (drain_tells H.Output.Drain H.Output.Explains))
-        (devices_of H.Input.Source H.Input.Explains O.Drain O.Explains) task (option_map H.Input.remaining files.prefixes)
+    ensures { AsWritten (EndsBySkip (skip_of task)
+        (outputs_of H.Host host.now (drain_tells H.Output.Drain H.Output.Explains))
+        (devices_of H.Input.Source H.Input.Explains O.Drain O.Explains) task
+        (option_map H.Input.remaining files.prefixes)
         (H.Input.remaining files.document) (option_map (files_told H.Input.Source) result.files)) result.status
         O.Drain E.Drain out.old out.new err.old err.new }
 {
@@ -61,8 +63,10 @@ fn run_to<H: Host, O: Drain + Explains, E: Drain>(
     requires fresh { AreFresh H.Input.has_ended H.Input.has_failed files }
     requires out { O.has_failed out.old ≡ false }
     requires err { E.has_failed err.old ≡ false }
-    ensures { AsWritten (EndsTo (output_of task) (outputs_of H.Host host.now (drain_tells H.Output.Drain H.Output.Explains))
-        (devices_of H.Input.Source H.Input.Explains O.Drain O.Explains) task (option_map H.Input.remaining files.prefixes)
+    ensures { AsWritten (EndsTo (output_of task)
+        (outputs_of H.Host host.now (drain_tells H.Output.Drain H.Output.Explains))
+        (devices_of H.Input.Source H.Input.Explains O.Drain O.Explains) task
+        (option_map H.Input.remaining files.prefixes)
         (H.Input.remaining files.document) (option_map (files_told H.Input.Source) result.files)) result.status
         O.Drain E.Drain out.old out.new err.old err.new }
 {
@@ -85,7 +89,9 @@ fn run_onto<I: Source + Explains + Drop, O: Drain + Explains, E: Drain>(
     requires fresh { AreFresh I.has_ended I.has_failed files }
     requires out { O.has_failed out.old ≡ false }
     requires err { E.has_failed err.old ≡ false }
-    ensures { AsWritten (EndsOnto (devices_of I.Source I.Explains O.Drain O.Explains) task (option_map I.remaining files.prefixes) (I.remaining files.document) (option_map (files_told I.Source) result.files)) result.status
+    ensures { AsWritten (EndsOnto (devices_of I.Source I.Explains O.Drain O.Explains) task
+        (option_map I.remaining files.prefixes) (I.remaining files.document)
+        (option_map (files_told I.Source) result.files)) result.status
         O.Drain E.Drain out.old out.new err.old err.new }
 {
     let mut files = files;
@@ -108,8 +114,11 @@ fn run_into<H: Host, E: Drain>(
     requires base { BaseFits task.base task.limits }
     requires fresh { AreFresh H.Input.has_ended H.Input.has_failed files }
     requires err { E.has_failed err.old ≡ false }
-    ensures { EndsInto (outputs_of H.Host host.now (drain_tells H.Output.Drain H.Output.Explains)) (source_tells H.Input.Source H.Input.Explains) name.now task (option_map H.Input.remaining files.prefixes) (H.Input.remaining files.document)
-        (option_map (files_told H.Input.Source) result.files) result.status (E.contents err.old) (written E.Drain err.new) }
+    ensures { EndsInto (outputs_of H.Host host.now (drain_tells H.Output.Drain H.Output.Explains))
+        (source_tells H.Input.Source H.Input.Explains) name.now task (option_map H.Input.remaining files.prefixes)
+        (H.Input.remaining files.document)
+        (option_map (files_told H.Input.Source) result.files) result.status (E.contents err.old)
+        (written E.Drain err.new) }
 {
     let explain = task.explain;
     let mut output = match host.create(alloc, name) {
@@ -142,10 +151,13 @@ fn finish<H: Host, E: Drain>(
     requires flushed { status ≡ 0 → H.Output.is_flushed output ≡ true }
     requires err { status ≡ 0 → E.has_failed err.old ≡ false }
     ensures stopped { status ≢ 0 → (result ≡ status) × (err.new ≡ err.old) }
-    ensures kept { result ≡ 0 → (status ≡ 0) × (err.new ≡ err.old) × H.has_output host.now file.entry.0.now (H.Output.contents output) }
+    ensures kept { result ≡ 0 → (status ≡ 0) × (err.new ≡ err.old)
+        × H.has_output host.now file.entry.0.now (H.Output.contents output) }
     ensures left { result ≢ 0 → H.is_left host.now file.entry.0.now }
     ensures unnamed { status ≡ 0 → result ≢ 0 → (result ≡ 3)
-        × ReportsFailed file.entry.1 (report_text StreamFault.Write) (device file.entry.0.now (H.has_reason host.now file.entry.0.now)) (E.contents err.old) (E.contents err.new) (E.has_failed err.new) }
+        × ReportsFailed file.entry.1 (report_text StreamFault.Write)
+        (device file.entry.0.now (H.has_reason host.now file.entry.0.now)) (E.contents err.old) (E.contents err.new)
+        (E.has_failed err.new) }
 {
     let (name, explain) = file;
     if status != 0 {

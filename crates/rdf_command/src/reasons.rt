@@ -29,7 +29,8 @@ pub fn refuse_file<H: Host, E: Drain>(
 ) -> u8
     requires { E.has_failed err.old ≡ false }
     ensures status { result ≡ 3 }
-    ensures reported { ReportsShut (H.has_reason host.now) explain name.now (E.contents err.old) (E.contents err.new) (E.has_failed err.new) }
+    ensures reported { ReportsShut (H.has_reason host.now) explain name.now (E.contents err.old) (E.contents err.new)
+        (E.has_failed err.new) }
 {
     if explain {
         tell_why(alloc, b"rdfconv: cannot open file\n", host, name, err);
@@ -39,8 +40,8 @@ pub fn refuse_file<H: Host, E: Drain>(
     3
 }
 
-/// The text and the status of an output of this name that was not created. Where an explanation is asked for, a line with
-/// the name and the system's reason follows, but for want of memory.
+/// The text and the status of an output of this name that was not created. Where an explanation is asked for, a
+/// line with the name and the system's reason follows, but for want of memory.
 pub fn refuse_output<H: Host, E: Drain>(
     alloc: Global,
     host: &H,
@@ -51,7 +52,8 @@ pub fn refuse_output<H: Host, E: Drain>(
 ) -> u8
     requires { E.has_failed err.old ≡ false }
     ensures status { result ≡ output_status why }
-    ensures reported { ReportsNoOutput (H.has_reason host.now) explain name.now why (E.contents err.old) (E.contents err.new) (E.has_failed err.new) }
+    ensures reported { ReportsNoOutput (H.has_reason host.now) explain name.now why (E.contents err.old)
+        (E.contents err.new) (E.has_failed err.new) }
 {
     match why {
         NoOutput::NotOpen => refuse_file(alloc, host, name, explain, err),
@@ -59,8 +61,8 @@ pub fn refuse_output<H: Host, E: Drain>(
     }
 }
 
-/// The text and the status of an output that could not get this name. Where an explanation is asked for, a line with the
-/// name and the system's reason follows.
+/// The text and the status of an output that could not get this name. Where an explanation is asked for, a line
+/// with the name and the system's reason follows.
 pub fn refuse_name<H: Host, E: Drain>(
     alloc: Global,
     host: &H,
@@ -70,7 +72,9 @@ pub fn refuse_name<H: Host, E: Drain>(
 ) -> u8
     requires { E.has_failed err.old ≡ false }
     ensures status { result ≡ 3 }
-    ensures reported { ReportsFailed explain (report_text StreamFault.Write) (device name.now (H.has_reason host.now name.now)) (E.contents err.old) (E.contents err.new) (E.has_failed err.new) }
+    ensures reported { ReportsFailed explain (report_text StreamFault.Write)
+        (device name.now (H.has_reason host.now name.now)) (E.contents err.old) (E.contents err.new)
+        (E.has_failed err.new) }
 {
     let line = write_failed().as_bytes();
     if explain {
@@ -84,7 +88,8 @@ pub fn refuse_name<H: Host, E: Drain>(
 // The line of a file that failed, and the line of the reason that the host tells.
 fn tell_why<H: Host, E: Drain>(alloc: Global, line: &[u8], host: &H, name: &str, err: &mut E)
     requires { E.has_failed err.old ≡ false }
-    ensures { ReportsFailed true line.now (device name.now (H.has_reason host.now name.now)) (E.contents err.old) (E.contents err.new) (E.has_failed err.new) }
+    ensures { ReportsFailed true line.now (device name.now (H.has_reason host.now name.now)) (E.contents err.old)
+        (E.contents err.new) (E.has_failed err.new) }
 {
     let why = host.reason(alloc, name);
     tell_reason(alloc, line, name, why.as_deref(), err);
@@ -93,7 +98,8 @@ fn tell_why<H: Host, E: Drain>(alloc: Global, line: &[u8], host: &H, name: &str,
 // The line of a device that failed, and the line of the reason that it tells.
 fn tell_failed<D: Explains, E: Drain>(alloc: Global, line: &[u8], teller: (&str, &D), err: &mut E)
     requires { E.has_failed err.old ≡ false }
-    ensures { ReportsFailed true line.now (device teller.entry.0.now (D.tells teller.entry.1.now)) (E.contents err.old) (E.contents err.new) (E.has_failed err.new) }
+    ensures { ReportsFailed true line.now (device teller.entry.0.now (D.tells teller.entry.1.now))
+        (E.contents err.old) (E.contents err.new) (E.has_failed err.new) }
 {
     let (name, device) = teller;
     let why = device.reason(alloc);
@@ -103,7 +109,8 @@ fn tell_failed<D: Explains, E: Drain>(alloc: Global, line: &[u8], teller: (&str,
 // A line, and the line of a reason. That is left out where memory for it is refused.
 fn tell_reason<E: Drain>(alloc: Global, line: &[u8], name: &str, why: Option<&str>, err: &mut E)
     requires { E.has_failed err.old ≡ false }
-    ensures { Reports (line.now ++ reason_line name.now (option_map (λ s. s.now) why.entry)) (E.contents err.old) (E.contents err.new) (E.has_failed err.new)
+    ensures { Reports (line.now ++ reason_line name.now (option_map (λ s. s.now) why.entry)) (E.contents err.old)
+        (E.contents err.new) (E.has_failed err.new)
         ⊎ Reports line.now (E.contents err.old) (E.contents err.new) (E.has_failed err.new) }
 {
     match with_reason(alloc, line, name, why) {
@@ -112,8 +119,8 @@ fn tell_reason<E: Drain>(alloc: Global, line: &[u8], name: &str, why: Option<&st
     }
 }
 
-/// The line and the status of one of several documents, that of this name, whose file did not open. Where an explanation
-/// is asked for, a line with the name and the system's reason follows.
+/// The line and the status of one of several documents, that of this name, whose file did not open. Where an
+/// explanation is asked for, a line with the name and the system's reason follows.
 pub fn refuse_file_of<H: Host, E: Drain>(
     alloc: Global,
     host: &H,
@@ -123,7 +130,8 @@ pub fn refuse_file_of<H: Host, E: Drain>(
 ) -> u8
     requires { E.has_failed err.old ≡ false }
     ensures status { result ≡ 3 }
-    ensures reported { ReportsShutOf (H.has_reason host.now) explain name.now (E.contents err.old) (E.contents err.new) (E.has_failed err.new) }
+    ensures reported { ReportsShutOf (H.has_reason host.now) explain name.now (E.contents err.old)
+        (E.contents err.new) (E.has_failed err.new) }
 {
     if explain {
         tell_why_of(alloc, host, name, err);
@@ -136,7 +144,8 @@ pub fn refuse_file_of<H: Host, E: Drain>(
 // The line of one of several documents whose file did not open, and the line of the reason that the host tells.
 fn tell_why_of<H: Host, E: Drain>(alloc: Global, host: &H, name: &str, err: &mut E)
     requires { E.has_failed err.old ≡ false }
-    ensures { ReportsShutOf (H.has_reason host.now) true name.now (E.contents err.old) (E.contents err.new) (E.has_failed err.new) }
+    ensures { ReportsShutOf (H.has_reason host.now) true name.now (E.contents err.old) (E.contents err.new)
+        (E.has_failed err.new) }
 {
     let why = host.reason(alloc, name);
     tell_reason_of(
@@ -158,7 +167,8 @@ fn tell_failed_of<D: Explains, E: Drain>(
     err: &mut E,
 )
     requires { E.has_failed err.old ≡ false }
-    ensures { ReportsFailedOf name.now true line.now (device teller.entry.0.now (D.tells teller.entry.1.now)) (E.contents err.old) (E.contents err.new) (E.has_failed err.new) }
+    ensures { ReportsFailedOf name.now true line.now (device teller.entry.0.now (D.tells teller.entry.1.now))
+        (E.contents err.old) (E.contents err.new) (E.has_failed err.new) }
 {
     let (called, device) = teller;
     let why = device.reason(alloc);
@@ -174,7 +184,9 @@ fn tell_reason_of<E: Drain>(
     err: &mut E,
 )
     requires { E.has_failed err.old ≡ false }
-    ensures { ReportsOf name.now (line.now ++ reason_line reason.entry.0.now (option_map (λ s. s.now) reason.entry.1)) (E.contents err.old) (E.contents err.new) (E.has_failed err.new) }
+    ensures { ReportsOf name.now (line.now
+        ++ reason_line reason.entry.0.now (option_map (λ s. s.now) reason.entry.1)) (E.contents err.old)
+        (E.contents err.new) (E.has_failed err.new) }
 {
     let (called, why) = reason;
     match with_reason(alloc, line, called, why) {
@@ -200,7 +212,8 @@ fn with_reason(
 }
 
 fn put_reason(name: &str, why: Option<&str>, text: &mut Vec<u8>) -> Result<(), AllocError>
-    ensures { OnOk result (text.new.items ≡ text.old.items ++ reason_line name.now (option_map (λ s. s.now) why.entry)) }
+    ensures { OnOk result (text.new.items ≡ text.old.items
+        ++ reason_line name.now (option_map (λ s. s.now) why.entry)) }
 {
     match why {
         Some(why) => put_line(name, why, text),
@@ -217,8 +230,8 @@ fn put_line(name: &str, why: &str, text: &mut Vec<u8>) -> Result<(), AllocError>
     text.extend_from_slice(b"\n")
 }
 
-/// Reports why the document of this name was not accepted, and explains it where that is asked for: a refusal by what is
-/// known of its place, and a read or a write that failed by the name of the device and the system's reason.
+/// Reports why the document of this name was not accepted, and explains it where that is asked for: a refusal by
+/// what is known of its place, and a read or a write that failed by the name of the device and the system's reason.
 pub fn tell_stopped<S: Explains, O: Explains, E: Drain>(
     alloc: Global,
     explain: bool,
@@ -228,7 +241,8 @@ pub fn tell_stopped<S: Explains, O: Explains, E: Drain>(
     err: &mut E,
 )
     requires { E.has_failed err.old ≡ false }
-    ensures { ReportsStop explain (device document.entry.0.now (S.tells document.entry.1.now)) (device output.entry.0.now (O.tells output.entry.1.now))
+    ensures { ReportsStop explain (device document.entry.0.now (S.tells document.entry.1.now))
+        (device output.entry.0.now (O.tells output.entry.1.now))
         stop.now.fault stop.now.evidence (E.contents err.old) (E.contents err.new) (E.has_failed err.new) }
 {
     if explain {
@@ -247,7 +261,8 @@ fn explain_stop<S: Explains, O: Explains, E: Drain>(
     err: &mut E,
 )
     requires { E.has_failed err.old ≡ false }
-    ensures { ReportsStop true (device document.entry.0.now (S.tells document.entry.1.now)) (device output.entry.0.now (O.tells output.entry.1.now))
+    ensures { ReportsStop true (device document.entry.0.now (S.tells document.entry.1.now))
+        (device output.entry.0.now (O.tells output.entry.1.now))
         stop.now.fault stop.now.evidence (E.contents err.old) (E.contents err.new) (E.has_failed err.new) }
 {
     let (name, _) = document;
@@ -269,7 +284,8 @@ pub fn tell_stopped_of<S: Explains, O: Explains, E: Drain>(
     err: &mut E,
 )
     requires { E.has_failed err.old ≡ false }
-    ensures { ReportsStopOf explain (device document.entry.0.now (S.tells document.entry.1.now)) (device output.entry.0.now (O.tells output.entry.1.now))
+    ensures { ReportsStopOf explain (device document.entry.0.now (S.tells document.entry.1.now))
+        (device output.entry.0.now (O.tells output.entry.1.now))
         stop.now.fault stop.now.evidence (E.contents err.old) (E.contents err.new) (E.has_failed err.new) }
 {
     if explain {
@@ -288,7 +304,8 @@ fn explain_stop_of<S: Explains, O: Explains, E: Drain>(
     err: &mut E,
 )
     requires { E.has_failed err.old ≡ false }
-    ensures { ReportsStopOf true (device document.entry.0.now (S.tells document.entry.1.now)) (device output.entry.0.now (O.tells output.entry.1.now))
+    ensures { ReportsStopOf true (device document.entry.0.now (S.tells document.entry.1.now))
+        (device output.entry.0.now (O.tells output.entry.1.now))
         stop.now.fault stop.now.evidence (E.contents err.old) (E.contents err.new) (E.has_failed err.new) }
 {
     let (name, _) = document;
@@ -300,8 +317,8 @@ fn explain_stop_of<S: Explains, O: Explains, E: Drain>(
     }
 }
 
-/// The text and the status of a file of bindings that was not loaded. Where an explanation is asked for, a line with its
-/// name follows, and with the line that is bad or the system's reason.
+/// The text and the status of a file of bindings that was not loaded. Where an explanation is asked for, a line
+/// with its name follows, and with the line that is bad or the system's reason.
 pub fn refuse_bindings<S: Explains, E: Drain>(
     alloc: Global,
     explain: bool,
@@ -311,7 +328,8 @@ pub fn refuse_bindings<S: Explains, E: Drain>(
 ) -> u8
     requires { E.has_failed err.old ≡ false }
     ensures status { result ≡ load_status fault.now }
-    ensures reported { ReportsBindings explain (device file.entry.0.now (S.tells file.entry.1.now)) fault.now (E.contents err.old) (E.contents err.new) (E.has_failed err.new) }
+    ensures reported { ReportsBindings explain (device file.entry.0.now (S.tells file.entry.1.now)) fault.now
+        (E.contents err.old) (E.contents err.new) (E.has_failed err.new) }
 {
     if explain {
         explain_bindings(alloc, fault, file, err)
@@ -328,7 +346,8 @@ fn explain_bindings<S: Explains, E: Drain>(
 ) -> u8
     requires { E.has_failed err.old ≡ false }
     ensures status { result ≡ load_status fault.now }
-    ensures reported { ReportsBindings true (device file.entry.0.now (S.tells file.entry.1.now)) fault.now (E.contents err.old) (E.contents err.new) (E.has_failed err.new) }
+    ensures reported { ReportsBindings true (device file.entry.0.now (S.tells file.entry.1.now)) fault.now
+        (E.contents err.old) (E.contents err.new) (E.has_failed err.new) }
 {
     match fault {
         LoadFault::Bad(fault) => {
@@ -344,12 +363,14 @@ fn explain_bindings<S: Explains, E: Drain>(
     }
 }
 
-// The line that reports a bad line of a file of bindings, and the line that names its place. That is left out where memory
-// for it is refused.
+// The line that reports a bad line of a file of bindings, and the line that names its place. That is left out where
+// memory for it is refused.
 fn tell_bad_line<E: Drain>(alloc: Global, name: &str, line: u64, err: &mut E)
     requires { E.has_failed err.old ≡ false }
-    ensures { Reports (prefixes_text line ++ bad_prefixes_text name.now line) (E.contents err.old) (E.contents err.new) (E.has_failed err.new)
-        ⊎ (Reports (prefixes_text line) (E.contents err.old) (E.contents err.new) (E.has_failed err.new) ⊎ (E.contents err.new ≡ E.contents err.old)) }
+    ensures { Reports (prefixes_text line
+        ++ bad_prefixes_text name.now line) (E.contents err.old) (E.contents err.new) (E.has_failed err.new)
+        ⊎ (Reports (prefixes_text line) (E.contents err.old) (E.contents err.new) (E.has_failed err.new)
+        ⊎ (E.contents err.new ≡ E.contents err.old)) }
 {
     match bad_line(alloc, name, line) {
         Ok(text) => tell_bytes(text.as_slice(), err),

@@ -59,7 +59,8 @@ pub fn status(fault: &StreamFault) -> u8
 /// refusal alone takes memory. Where that is refused, nothing is reported.
 pub fn tell_stop<E: Drain>(alloc: Global, name: &str, explain: bool, stop: &Stop, err: &mut E)
     requires { E.has_failed err.old ≡ false }
-    ensures { ReportsExplained explain name.now stop.now.fault stop.now.evidence (E.contents err.old) (E.contents err.new) (E.has_failed err.new) }
+    ensures { ReportsExplained explain name.now stop.now.fault stop.now.evidence (E.contents err.old)
+        (E.contents err.new) (E.has_failed err.new) }
 {
     match &stop.fault {
         StreamFault::Refused(_) => {
@@ -77,7 +78,8 @@ pub fn tell_stop<E: Drain>(alloc: Global, name: &str, explain: bool, stop: &Stop
 
 // The line that reports a stop, and the lines that explain it. They are left out where memory for them is refused.
 fn report_of(alloc: Global, name: &str, explain: bool, stop: &Stop) -> Result<Vec<u8>, AllocError>
-    ensures { IfOk result (λ text. (text.items ≡ report_text stop.now.fault ++ explanation explain name.now stop.now.fault stop.now.evidence)
+    ensures { IfOk result (λ text.
+        (text.items ≡ report_text stop.now.fault ++ explanation explain name.now stop.now.fault stop.now.evidence)
         ⊎ (text.items ≡ report_text stop.now.fault)) }
 {
     let mut text = Vec::new(alloc);
@@ -98,7 +100,8 @@ fn put_explanation(
     stop: &Stop,
     text: &mut Vec<u8>,
 ) -> Result<(), AllocError>
-    ensures put { OnOk result (text.new.items ≡ text.old.items ++ explanation explain name.now stop.now.fault stop.now.evidence) }
+    ensures put { OnOk result (text.new.items ≡ text.old.items
+        ++ explanation explain name.now stop.now.fault stop.now.evidence) }
     ensures left_out { OnErr result (text.new.items ≡ text.old.items) }
 {
     match &stop.fault {
@@ -113,7 +116,8 @@ fn put_explanation(
 /// Reports why one of several documents, that of this name, was not accepted, and explains it where that is asked for.
 pub fn tell_stop_of<E: Drain>(alloc: Global, name: &str, explain: bool, stop: &Stop, err: &mut E)
     requires { E.has_failed err.old ≡ false }
-    ensures { ReportsExplainedOf explain name.now stop.now.fault stop.now.evidence (E.contents err.old) (E.contents err.new) (E.has_failed err.new) }
+    ensures { ReportsExplainedOf explain name.now stop.now.fault stop.now.evidence (E.contents err.old)
+        (E.contents err.new) (E.has_failed err.new) }
 {
     match report_of(alloc, name, explain, stop) {
         Ok(text) => tell_of(alloc, name, &text[b"rdfconv: ".len()..], err),
@@ -175,7 +179,8 @@ pub fn refuse_prefixes<E: Drain>(alloc: Global, fault: &LoadFault, err: &mut E) 
 /// Reports a bad line of a file of bindings. Where memory for the text is refused, nothing is reported.
 pub fn tell_prefixes<E: Drain>(alloc: Global, line: u64, err: &mut E)
     requires { E.has_failed err.old ≡ false }
-    ensures { Reports (prefixes_text line) (E.contents err.old) (E.contents err.new) (E.has_failed err.new) ⊎ (E.contents err.new ≡ E.contents err.old) }
+    ensures { Reports (prefixes_text line) (E.contents err.old) (E.contents err.new) (E.has_failed err.new)
+        ⊎ (E.contents err.new ≡ E.contents err.old) }
 {
     if let Ok(text) = prefixes_line(alloc, line) {
         tell_bytes(text.as_slice(), err);
@@ -234,7 +239,8 @@ pub fn refuse_address<E: Drain>(fault: TermFault, err: &mut E) -> u8
 pub fn refuse_address_of<E: Drain>(alloc: Global, name: &str, fault: TermFault, err: &mut E) -> u8
     requires { E.has_failed err.old ≡ false }
     ensures status { result ≡ address_status fault }
-    ensures reported { ReportsNoAddressOf name.now fault (E.contents err.old) (E.contents err.new) (E.has_failed err.new) }
+    ensures reported { ReportsNoAddressOf name.now fault (E.contents err.old) (E.contents err.new)
+        (E.has_failed err.new) }
 {
     match fault {
         TermFault::BadTerm => {
@@ -255,8 +261,10 @@ pub fn refuse_task<O: Drain, E: Drain>(
     requires lines { IfSome refusal.now.lines (λ _. IsOfIri refusal.now.fault) }
     requires out { O.has_failed out.old ≡ false }
     requires err { E.has_failed err.old ≡ false }
-    ensures status { RefusesWith (option_map (λ l. l.items) refusal.now.lines) refusal.now.fault result (E.contents err.old) (E.contents err.new) (E.has_failed err.new) }
-    ensures goes { GoesTo refusal.now.fault (O.contents out.old) (O.contents out.new) (E.contents err.old) (E.contents err.new) }
+    ensures status { RefusesWith (option_map (λ l. l.items) refusal.now.lines) refusal.now.fault result
+        (E.contents err.old) (E.contents err.new) (E.has_failed err.new) }
+    ensures goes { GoesTo refusal.now.fault (O.contents out.old) (O.contents out.new) (E.contents err.old)
+        (E.contents err.new) }
 {
     match &refusal.lines {
         Some(lines) => {
@@ -277,7 +285,8 @@ pub fn refuse_words<O: Drain, E: Drain>(
     requires out { O.has_failed out.old ≡ false }
     requires err { E.has_failed err.old ≡ false }
     ensures status { RefusesWords fault.now result (E.contents err.old) (E.contents err.new) (E.has_failed err.new) }
-    ensures goes { GoesTo fault.now (O.contents out.old) (O.contents out.new) (E.contents err.old) (E.contents err.new) }
+    ensures goes { GoesTo fault.now (O.contents out.old) (O.contents out.new) (E.contents err.old)
+        (E.contents err.new) }
 {
     match fault {
         WordsFault::Usage(error) => {
@@ -337,7 +346,8 @@ fn tell_usage<E: Drain>(alloc: Global, error: &Error, err: &mut E)
 pub fn tell_memory<E: Drain>(err: &mut E) -> u8
     requires { E.has_failed err.old ≡ false }
     ensures status { result ≡ 4 }
-    ensures reported { Reports (report_text StreamFault.Memory) (E.contents err.old) (E.contents err.new) (E.has_failed err.new) }
+    ensures reported { Reports (report_text StreamFault.Memory) (E.contents err.old) (E.contents err.new)
+        (E.has_failed err.new) }
 {
     tell(out_of_memory(), err);
     4

@@ -47,7 +47,8 @@ pub fn run<I: Source + Explains, O: Drain + Explains, E: Drain>(
     requires fresh { AreFresh I.has_ended I.has_failed files.old }
     requires out { O.has_failed out.old ≡ false }
     requires err { E.has_failed err.old ≡ false }
-    ensures ends { AsWritten (RunEnds (devices_of I.Source I.Explains O.Drain O.Explains) standard_output task (option_map I.remaining files.old.prefixes)
+    ensures ends { AsWritten (RunEnds (devices_of I.Source I.Explains O.Drain O.Explains) standard_output task
+        (option_map I.remaining files.old.prefixes)
         (I.remaining files.old.document) (files_told I.Source files.new)) result
         O.Drain E.Drain out.old out.new err.old err.new }
     ensures untold { result ≡ 0 → err.new ≡ err.old }
@@ -68,7 +69,9 @@ pub fn run_to_output<I: Source + Explains, O: Drain + Explains, E: Drain>(
     requires fresh { AreFresh I.has_ended I.has_failed files.old }
     requires out { O.has_failed out.old ≡ false }
     requires err { E.has_failed err.old ≡ false }
-    ensures ends { AsWritten (RunEnds (devices_of I.Source I.Explains O.Drain O.Explains) name.now task (option_map I.remaining files.old.prefixes) (I.remaining files.old.document) (files_told I.Source files.new)) result
+    ensures ends { AsWritten (RunEnds (devices_of I.Source I.Explains O.Drain O.Explains) name.now task
+        (option_map I.remaining files.old.prefixes) (I.remaining files.old.document)
+        (files_told I.Source files.new)) result
         O.Drain E.Drain out.old out.new err.old err.new }
     ensures untold { result ≡ 0 → err.new ≡ err.old }
 {
@@ -102,8 +105,10 @@ pub(crate) fn job_of<I: Source>(
 ) -> Result<Job, LoadFault>
     requires base { BaseFits task.base task.limits }
     requires fresh { IfSome prefixes.old (λ s. (I.has_ended s ≡ false) × (I.has_failed s ≡ false)) }
-    ensures job { IfOk result (IsJobOf task (option_map I.remaining prefixes.old) (option_map (told I.Source) prefixes.new)) }
-    ensures stops { IfErr result (λ fault. StartsNot fault task.limits (option_map I.remaining prefixes.old) (option_map (told I.Source) prefixes.new)) }
+    ensures job { IfOk result (IsJobOf task (option_map I.remaining prefixes.old)
+        (option_map (told I.Source) prefixes.new)) }
+    ensures stops { IfErr result (λ fault. StartsNot fault task.limits (option_map I.remaining prefixes.old)
+        (option_map (told I.Source) prefixes.new)) }
 {
     let limits = task.limits;
     let job = bare_job(task);
@@ -119,7 +124,15 @@ pub(crate) fn job_of<I: Source>(
 // What a task asks for, without bindings.
 fn bare_job(task: Task) -> Job
     requires { BaseFits task.base task.limits }
-    ensures { result ≡ record { form = task.form; base = task.base; bindings = []; escapes = task.escapes; node_prefix = word_of task.node_prefix; graph = task.graph; limits = task.limits } }
+    ensures { result ≡ record {
+      form = task.form;
+      base = task.base;
+      bindings = [];
+      escapes = task.escapes;
+      node_prefix = word_of task.node_prefix;
+      graph = task.graph;
+      limits = task.limits;
+    } }
 {
     let job = Job::new(task.form, task.base, task.limits).unwrap();
     let job = job.with_escapes(task.escapes);
@@ -160,12 +173,16 @@ fn act<S: Source, O: Drain>(
     requires more { S.has_ended source.old ≡ false }
     requires source { S.has_failed source.old ≡ false }
     requires out { O.has_failed out.old ≡ false }
-    ensures accepted { OnOk result (IfSome (S.remaining source.old) (λ bytes. Does action job bytes (O.contents out.old) (O.contents out.new))) }
+    ensures accepted { OnOk result (IfSome (S.remaining source.old) (λ bytes.
+        Does action job bytes (O.contents out.old) (O.contents out.new))) }
     ensures flushed { OnOk result (O.is_flushed out.new ≡ true) }
-    ensures stops { IfErr result (λ stop. AsTold (StopsAction action stop.fault job) S.Source O.Drain source.old source.new out.old out.new) }
+    ensures stops { IfErr result (λ stop.
+        AsTold (StopsAction action stop.fault job) S.Source O.Drain source.old source.new out.old out.new) }
     ensures sent { IfErr result (λ stop. SendsOn action stop.fault (O.is_flushed out.new)) }
-    ensures expected { IfErr result (λ stop. TellsEvidence explain action stop.fault job (S.remaining source.old) (told S.Source source.new) stop.evidence) }
-    ensures prompt { HandsOver action job (S.remaining source.old) (told S.Source source.new) (O.contents out.old) (O.contents out.new) }
+    ensures expected { IfErr result (λ stop. TellsEvidence explain action stop.fault job (S.remaining source.old)
+        (told S.Source source.new) stop.evidence) }
+    ensures prompt { HandsOver action job (S.remaining source.old) (told S.Source source.new) (O.contents out.old)
+        (O.contents out.new) }
 {
     match action {
         Action::Check => check_to(alloc, job, None, explain, source, out),
@@ -185,11 +202,14 @@ fn show_to<S: Source, O: Drain>(
     requires more { S.has_ended source.old ≡ false }
     requires source { S.has_failed source.old ≡ false }
     requires out { O.has_failed out.old ≡ false }
-    ensures accepted { OnOk result (IfSome (S.remaining source.old) (λ bytes. Does Action.Show job bytes (O.contents out.old) (O.contents out.new))) }
+    ensures accepted { OnOk result (IfSome (S.remaining source.old) (λ bytes.
+        Does Action.Show job bytes (O.contents out.old) (O.contents out.new))) }
     ensures flushed { OnOk result (O.is_flushed out.new ≡ true) }
-    ensures stops { IfErr result (λ stop. AsTold (StopsAction Action.Show stop.fault job) S.Source O.Drain source.old source.new out.old out.new) }
+    ensures stops { IfErr result (λ stop.
+        AsTold (StopsAction Action.Show stop.fault job) S.Source O.Drain source.old source.new out.old out.new) }
     ensures sent { IfErr result (λ stop. IsSentOn stop.fault (O.is_flushed out.new)) }
-    ensures expected { IfErr result (λ stop. TellsEvidence explain Action.Show stop.fault job (S.remaining source.old) (told S.Source source.new) stop.evidence) }
+    ensures expected { IfErr result (λ stop. TellsEvidence explain Action.Show stop.fault job (S.remaining source.old)
+        (told S.Source source.new) stop.evidence) }
 {
     let limits = job.limits();
     let mut near = asked_near(explain);
@@ -236,12 +256,16 @@ fn convert_to<S: Source, O: Drain>(
     requires more { S.has_ended source.old ≡ false }
     requires source { S.has_failed source.old ≡ false }
     requires out { O.has_failed out.old ≡ false }
-    ensures accepted { OnOk result (IfSome (S.remaining source.old) (λ bytes. IsConverted (conversion_of job) bytes (O.contents out.old) (O.contents out.new))) }
+    ensures accepted { OnOk result (IfSome (S.remaining source.old) (λ bytes.
+        IsConverted (conversion_of job) bytes (O.contents out.old) (O.contents out.new))) }
     ensures flushed { OnOk result (O.is_flushed out.new ≡ true) }
-    ensures stops { IfErr result (λ stop. AsTold (StopsFor stop.fault (conversion_of job)) S.Source O.Drain source.old source.new out.old out.new) }
+    ensures stops { IfErr result (λ stop.
+        AsTold (StopsFor stop.fault (conversion_of job)) S.Source O.Drain source.old source.new out.old out.new) }
     ensures sent { IfErr result (λ stop. IsSentOn stop.fault (O.is_flushed out.new)) }
-    ensures expected { IfErr result (λ stop. TellsOf explain stop.fault job (S.remaining source.old) (told S.Source source.new) stop.evidence) }
-    ensures prompt { IsPrompt (conversion_of job) (S.remaining source.old) (told S.Source source.new) (O.contents out.old) (O.contents out.new) }
+    ensures expected { IfErr result (λ stop.
+        TellsOf explain stop.fault job (S.remaining source.old) (told S.Source source.new) stop.evidence) }
+    ensures prompt { IsPrompt (conversion_of job) (S.remaining source.old) (told S.Source source.new)
+        (O.contents out.old) (O.contents out.new) }
 {
     let limits = job.limits();
     let mut details = Details::none();
@@ -264,10 +288,14 @@ pub fn check_to<S: Source, O: Drain>(
     requires more { S.has_ended source.old ≡ false }
     requires source { S.has_failed source.old ≡ false }
     requires out { O.has_failed out.old ≡ false }
-    ensures accepted { OnOk result (IfSome (S.remaining source.old) (λ bytes. IsCheckedAs (option_map (λ s. s.now) name.entry) job bytes (O.contents out.old) (O.contents out.new))) }
+    ensures accepted { OnOk result (IfSome (S.remaining source.old) (λ bytes.
+        IsCheckedAs (option_map (λ s. s.now) name.entry) job bytes (O.contents out.old) (O.contents out.new))) }
     ensures flushed { OnOk result (O.is_flushed out.new ≡ true) }
-    ensures stops { IfErr result (λ stop. AsTold (StopsCheckAs (option_map (λ s. s.now) name.entry) stop.fault job) S.Source O.Drain source.old source.new out.old out.new) }
-    ensures expected { IfErr result (λ stop. TellsOf explain stop.fault job (S.remaining source.old) (told S.Source source.new) stop.evidence) }
+    ensures stops { IfErr result (λ stop. AsTold
+        (StopsCheckAs (option_map (λ s. s.now) name.entry) stop.fault job) S.Source O.Drain source.old source.new
+        out.old out.new) }
+    ensures expected { IfErr result (λ stop.
+        TellsOf explain stop.fault job (S.remaining source.old) (told S.Source source.new) stop.evidence) }
 {
     let limits = job.limits();
     let mut details = Details::none();
@@ -289,7 +317,8 @@ pub fn check_to<S: Source, O: Drain>(
 }
 
 fn accepted_line(alloc: Global, name: Option<&str>, summary: Summary) -> Result<Vec<u8>, AllocError>
-    ensures { IfOk result (λ text. text.items ≡ front_of (option_map (λ s. s.now) name.entry) ++ accepted_text summary) }
+    ensures { IfOk result (λ text.
+        text.items ≡ front_of (option_map (λ s. s.now) name.entry) ++ accepted_text summary) }
 {
     let mut text = front_of(alloc, name)?;
     put_accepted(summary, &mut text)?;

@@ -78,7 +78,8 @@ pub fn check_each<H: Host, O: Drain + Explains, E: Drain>(
     requires base { BaseFits task.now.base task.now.limits }
     requires out { O.has_failed out.old ≡ false }
     requires err { E.has_failed err.old ≡ false }
-    ensures { AsWritten (SeveralEnd (folders_of H.Host host.now) (H.has_document host.now) (shut_of H.Host host.now (devices_of H.Input.Source H.Input.Explains O.Drain O.Explains)) task.now) result
+    ensures { AsWritten (SeveralEnd (folders_of H.Host host.now) (H.has_document host.now)
+        (shut_of H.Host host.now (devices_of H.Input.Source H.Input.Explains O.Drain O.Explains)) task.now) result
         O.Drain E.Drain out.old out.new err.old err.new }
 {
     let folder = match folder_for(alloc, host, task.addressed) {
@@ -114,7 +115,8 @@ fn folder_for<H: Host>(
     host: &H,
     addressed: bool,
 ) -> Result<Option<String>, TermFault>
-    ensures found { IfOk result (λ folder. IsFolderFor (folders_of H.Host host.now) addressed (option_map string_bytes folder)) }
+    ensures found { IfOk result (λ folder.
+        IsFolderFor (folders_of H.Host host.now) addressed (option_map string_bytes folder)) }
     ensures asked { OnErr result (addressed ≡ true) }
     ensures untold { IsErrOf result TermFault.BadTerm → H.has_no_folder host.now }
 {
@@ -132,8 +134,10 @@ fn given<I: Source>(
     source: &mut Option<I>,
 ) -> Result<Option<Vec<u8>>, LoadFault>
     requires { IfSome source.old (λ s. (I.has_ended s ≡ false) × (I.has_failed s ≡ false)) }
-    ensures given { IfOk result (λ bytes. GivesBindings limits (option_map I.remaining source.old) (option_map (λ b. b.items) bytes)) }
-    ensures none { IfErr result (λ fault. StartsNot fault limits (option_map I.remaining source.old) (option_map (told I.Source) source.new)) }
+    ensures given { IfOk result (λ bytes.
+        GivesBindings limits (option_map I.remaining source.old) (option_map (λ b. b.items) bytes)) }
+    ensures none { IfErr result (λ fault.
+        StartsNot fault limits (option_map I.remaining source.old) (option_map (told I.Source) source.new)) }
 {
     match source {
         Some(source) => Ok(Some(given_by(alloc, limits, source)?)),
@@ -163,7 +167,9 @@ fn check_with<H: Host, O: Drain + Explains, E: Drain>(
     requires base { BaseFits (shared_of plan.now).base plan.now.limits }
     requires out { O.has_failed out.old ≡ false }
     requires err { E.has_failed err.old ≡ false }
-    ensures { AsWritten (EndsEach (H.has_document host.now) (shut_of H.Host host.now (devices_of H.Input.Source H.Input.Explains O.Drain O.Explains)) (shared_of plan.now) (documents_of task.now)) result
+    ensures { AsWritten (EndsEach (H.has_document host.now)
+        (shut_of H.Host host.now (devices_of H.Input.Source H.Input.Explains O.Drain O.Explains)) (shared_of plan.now)
+        (documents_of task.now)) result
         O.Drain E.Drain out.old out.new err.old err.new }
 {
     let first = (task.form, name_by(task.file.as_deref()));
@@ -197,7 +203,9 @@ fn check_next<H: Host, O: Drain + Explains, E: Drain>(
     requires base { BaseFits (shared_of plan.now).base plan.now.limits }
     requires out { O.has_failed out.old ≡ false }
     requires err { E.has_failed err.old ≡ false }
-    ensures ends { AsWritten (EndsAt (shared_of plan.now).folder (H.has_document host.now) (shut_of H.Host host.now (devices_of H.Input.Source H.Input.Explains O.Drain O.Explains)) (shared_of plan.now) (document.entry.0, document.entry.1.now)) result.status
+    ensures ends { AsWritten (EndsAt (shared_of plan.now).folder (H.has_document host.now)
+        (shut_of H.Host host.now (devices_of H.Input.Source H.Input.Explains O.Drain O.Explains)) (shared_of plan.now)
+        (document.entry.0, document.entry.1.now)) result.status
         O.Drain E.Drain out.old out.new err.old err.new }
     ensures failed { result.has_failed ≡ has_failed_output (written O.Drain out.new) (written E.Drain err.new) }
 {
@@ -219,7 +227,9 @@ fn check_one<H: Host, O: Drain + Explains, E: Drain>(
     requires base { BaseFits (shared_of plan.now).base plan.now.limits }
     requires out { O.has_failed out.old ≡ false }
     requires err { E.has_failed err.old ≡ false }
-    ensures { AsWritten (EndsAt (shared_of plan.now).folder (H.has_document host.now) (shut_of H.Host host.now (devices_of H.Input.Source H.Input.Explains O.Drain O.Explains)) (shared_of plan.now) (document.entry.0, document.entry.1.now)) result
+    ensures { AsWritten (EndsAt (shared_of plan.now).folder (H.has_document host.now)
+        (shut_of H.Host host.now (devices_of H.Input.Source H.Input.Explains O.Drain O.Explains)) (shared_of plan.now)
+        (document.entry.0, document.entry.1.now)) result
         O.Drain E.Drain out.old out.new err.old err.new }
 {
     match plan.folder {
@@ -239,7 +249,9 @@ fn check_at<H: Host, O: Drain + Explains, E: Drain>(
 ) -> u8
     requires out { O.has_failed out.old ≡ false }
     requires err { E.has_failed err.old ≡ false }
-    ensures { AsWritten (EndsAt (Some folder.now) (H.has_document host.now) (shut_of H.Host host.now (devices_of H.Input.Source H.Input.Explains O.Drain O.Explains)) (shared_of plan.now) (document.entry.0, document.entry.1.now)) result
+    ensures { AsWritten (EndsAt (Some folder.now) (H.has_document host.now)
+        (shut_of H.Host host.now (devices_of H.Input.Source H.Input.Explains O.Drain O.Explains)) (shared_of plan.now)
+        (document.entry.0, document.entry.1.now)) result
         O.Drain E.Drain out.old out.new err.old err.new }
 {
     let (_, name) = document;
@@ -260,7 +272,9 @@ fn check_based<H: Host, O: Drain + Explains, E: Drain>(
     requires base { BaseFits (shared_of plan.now).base plan.now.limits }
     requires out { O.has_failed out.old ≡ false }
     requires err { E.has_failed err.old ≡ false }
-    ensures { AsWritten (EndsOne (H.has_document host.now) (shut_of H.Host host.now (devices_of H.Input.Source H.Input.Explains O.Drain O.Explains)) (shared_of plan.now) (document.entry.0, document.entry.1.now)) result
+    ensures { AsWritten (EndsOne (H.has_document host.now)
+        (shut_of H.Host host.now (devices_of H.Input.Source H.Input.Explains O.Drain O.Explains)) (shared_of plan.now)
+        (document.entry.0, document.entry.1.now)) result
         O.Drain E.Drain out.old out.new err.old err.new }
 {
     let (form, name) = document;
@@ -286,8 +300,11 @@ fn check_source<I: Source + Explains + Drop, O: Drain + Explains, E: Drain>(
     requires source { I.has_failed source ≡ false }
     requires out { O.has_failed out.old ≡ false }
     requires err { E.has_failed err.old ≡ false }
-    ensures { (left : Reading) × (AsWritten (AcceptsOne document.entry.0 document.entry.1.now (I.remaining source)) result O.Drain E.Drain out.old out.new err.old err.new
-        ⊎ AsWritten (StopsOne (devices_of I.Source I.Explains O.Drain O.Explains) plan.now.explain document.entry.0 document.entry.1.now (I.remaining source) left) result O.Drain E.Drain out.old out.new err.old err.new) }
+    ensures { (left : Reading) × (AsWritten
+        (AcceptsOne document.entry.0 document.entry.1.now
+        (I.remaining source)) result O.Drain E.Drain out.old out.new err.old err.new
+        ⊎ AsWritten (StopsOne (devices_of I.Source I.Explains O.Drain O.Explains) plan.now.explain document.entry.0
+        document.entry.1.now (I.remaining source) left) result O.Drain E.Drain out.old out.new err.old err.new) }
 {
     let (job, name) = document;
     let mut source = source;

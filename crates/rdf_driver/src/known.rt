@@ -6,8 +6,8 @@ ghost use Rattle.rdf_terms.specs.declared.kind.Kind.TheVariants as KindIs;
 
 use rdf_terms::Kind;
 
-/// What is known of a token's kind. A function with a type parameter for it has an instance for each of these types: one that is called
-/// once is inlined there, where the kind is a constant.
+/// What is known of a token's kind. A function with a type parameter for it has an instance for each of these
+/// types: one that is called once is inlined there, where the kind is a constant.
 pub trait Known {
     /// What is known of the kind.
     ghost is: { Kind → Type 0 };

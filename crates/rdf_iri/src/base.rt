@@ -56,7 +56,8 @@ impl<A: Allocator> Model for Base<A> {
 
     ghost view = { λ b. b.iri };
 
-    ghost invariant = { λ b. (b.directory ≡ true → HasDirectory (parts_of (encode_utf8_all b.iri))) × MatchOption b.root ⊤ (HasRoot (encode_utf8_all b.iri)) };
+    ghost invariant = { λ b. (b.directory ≡ true → HasDirectory (parts_of (encode_utf8_all b.iri)))
+        × MatchOption b.root ⊤ (HasRoot (encode_utf8_all b.iri)) };
 }
 
 impl<A: Allocator> Base<A> {
@@ -107,7 +108,8 @@ impl<A: Allocator> Base<A> {
 }
 
 impl<A: Allocator + Copy> Base<A> {
-    /// Puts what a reference without a scheme stands for in place of a text. Most are paths, which need no memory of their own.
+    /// Puts what a reference without a scheme stands for in place of a text. Most are paths, which need no memory
+    /// of their own.
     pub(crate) fn put_target(
         &self,
         alloc: A,
@@ -115,7 +117,8 @@ impl<A: Allocator + Copy> Base<A> {
         text: &mut TextBuffer<A>,
     ) -> Result<(), AllocError>
         requires { has_scheme (chars reference.now) ≡ false }
-        ensures target { OnOk result (chars text.new ≡ recompose (target (parts_of self.now) (parts_of (chars reference.now)))) }
+        ensures target { OnOk result (chars text.new ≡ recompose
+            (target (parts_of self.now) (parts_of (chars reference.now)))) }
         ensures base { IsIri self.now }
     {
         match self.root {

@@ -32,7 +32,8 @@ fn is_comment(text: &str) -> bool
 
 /// The prefix and the IRI of a line, if it has a form of a binding.
 pub(crate) fn binding_in(text: &str) -> Option<(&str, &str)>
-    ensures { MatchOption result ((prefix iri : List ℕ) → IsBinding text.now prefix iri → ⊥) (λ p. IsBinding text.now (chars p.0.now) (chars p.1.now)) }
+    ensures { MatchOption result ((prefix iri : List ℕ) → IsBinding text.now prefix iri → ⊥) (λ p.
+        IsBinding text.now (chars p.0.now) (chars p.1.now)) }
 {
     match plain(text) {
         Some(found) => Some(found),
@@ -42,7 +43,8 @@ pub(crate) fn binding_in(text: &str) -> Option<(&str, &str)>
 
 /// `ex: http://example.org/`
 fn plain(text: &str) -> Option<(&str, &str)>
-    ensures { MatchOption result ((prefix iri : List ℕ) → IsIn IsPlain (chars text.now) prefix iri → ⊥) (λ p. IsIn IsPlain (chars text.now) (chars p.0.now) (chars p.1.now)) }
+    ensures { MatchOption result ((prefix iri : List ℕ) → IsIn IsPlain (chars text.now) prefix iri → ⊥) (λ p.
+        IsIn IsPlain (chars text.now) (chars p.0.now) (chars p.1.now)) }
 {
     let (name, rest) = cut(text, ' ');
     match rest {
@@ -59,7 +61,8 @@ fn plain(text: &str) -> Option<(&str, &str)>
 
 /// `@prefix ex: <http://example.org/> .` or `PREFIX ex: <http://example.org/>`
 fn declaration(text: &str) -> Option<(&str, &str)>
-    ensures { MatchOption result ((prefix iri : List ℕ) → IsIn IsDeclaration (chars text.now) prefix iri → ⊥) (λ p. IsIn IsDeclaration (chars text.now) (chars p.0.now) (chars p.1.now)) }
+    ensures { MatchOption result ((prefix iri : List ℕ) → IsIn IsDeclaration (chars text.now) prefix iri → ⊥) (λ p.
+        IsIn IsDeclaration (chars text.now) (chars p.0.now) (chars p.1.now)) }
 {
     let text = after_blanks(text);
     match text.strip_prefix("@prefix") {
@@ -70,7 +73,8 @@ fn declaration(text: &str) -> Option<(&str, &str)>
 
 /// What follows `@prefix`.
 fn prefix_id(text: &str) -> Option<(&str, &str)>
-    ensures { MatchOption result ((prefix iri : List ℕ) → Declares EndsAtDot (chars text.now) prefix iri → ⊥) (λ p. Declares EndsAtDot (chars text.now) (chars p.0.now) (chars p.1.now)) }
+    ensures { MatchOption result ((prefix iri : List ℕ) → Declares EndsAtDot (chars text.now) prefix iri → ⊥) (λ p.
+        Declares EndsAtDot (chars text.now) (chars p.0.now) (chars p.1.now)) }
 {
     let (prefix, iri, rest) = pair(text)?;
     if ends_at_dot(rest) {
@@ -82,7 +86,8 @@ fn prefix_id(text: &str) -> Option<(&str, &str)>
 
 /// What follows `PREFIX`.
 fn sparql_prefix(text: &str) -> Option<(&str, &str)>
-    ensures { MatchOption result ((prefix iri : List ℕ) → Declares SaysNothing (chars text.now) prefix iri → ⊥) (λ p. Declares SaysNothing (chars text.now) (chars p.0.now) (chars p.1.now)) }
+    ensures { MatchOption result ((prefix iri : List ℕ) → Declares SaysNothing (chars text.now) prefix iri → ⊥) (λ p.
+        Declares SaysNothing (chars text.now) (chars p.0.now) (chars p.1.now)) }
 {
     let (prefix, iri, rest) = pair(text)?;
     if says_nothing(rest) {
@@ -103,7 +108,8 @@ fn ends_at_dot(text: &str) -> bool
 
 /// The text after `PREFIX`, in any case.
 fn after_keyword(text: &str) -> Option<&str>
-    ensures { MatchOption result ((keyword rest : List ℕ) → Shape Turtle Prefix keyword → chars text.now ≡ keyword ++ rest → ⊥)
+    ensures { MatchOption result ((keyword rest : List ℕ) → Shape Turtle Prefix keyword → chars text.now ≡ keyword
+        ++ rest → ⊥)
         (λ x. (keyword : List ℕ) × Shape Turtle Prefix keyword × (chars text.now ≡ keyword ++ chars x.now)) }
 {
     let (keyword, rest) = text.split_at_checked(6)?;
@@ -116,7 +122,8 @@ fn after_keyword(text: &str) -> Option<&str>
 
 /// PNAME_NS and IRIREF: the prefix, the IRI and what follows.
 fn pair(text: &str) -> Option<(&str, &str, &str)>
-    ensures { MatchOption result ((p : List ℕ × List ℕ × List ℕ) → PairThen (chars text.now) p → ⊥) (λ p. PairThen (chars text.now) (chars p.0.now, chars p.1.now, chars p.2.now)) }
+    ensures { MatchOption result ((p : List ℕ × List ℕ × List ℕ) → PairThen (chars text.now) p → ⊥) (λ p.
+        PairThen (chars text.now) (chars p.0.now, chars p.1.now, chars p.2.now)) }
 {
     let (prefix, rest) = name_in(text)?;
     let (iri, rest) = iri_in(rest)?;
@@ -125,7 +132,8 @@ fn pair(text: &str) -> Option<(&str, &str, &str)>
 
 /// The prefix of a PNAME_NS behind a blank, and what follows.
 fn name_in(text: &str) -> Option<(&str, &str)>
-    ensures { MatchOption result ((prefix rest : List ℕ) → NameThen (chars text.now) prefix rest → ⊥) (λ p. NameThen (chars text.now) (chars p.0.now) (chars p.1.now)) }
+    ensures { MatchOption result ((prefix rest : List ℕ) → NameThen (chars text.now) prefix rest → ⊥) (λ p.
+        NameThen (chars text.now) (chars p.0.now) (chars p.1.now)) }
 {
     if !begins_blank(text) {
         return None;
@@ -147,7 +155,8 @@ fn name_in(text: &str) -> Option<(&str, &str)>
 
 /// The IRI of an IRIREF, if it is absolute, and what follows.
 fn iri_in(text: &str) -> Option<(&str, &str)>
-    ensures { MatchOption result ((iri rest : List ℕ) → IriThen (chars text.now) iri rest → ⊥) (λ p. IriThen (chars text.now) (chars p.0.now) (chars p.1.now)) }
+    ensures { MatchOption result ((iri rest : List ℕ) → IriThen (chars text.now) iri rest → ⊥) (λ p.
+        IriThen (chars text.now) (chars p.0.now) (chars p.1.now)) }
 {
     let (iri, rest) = cut(after_blanks(text).strip_prefix('<')?, '>');
     match rest {

@@ -43,11 +43,11 @@ impl<A: Allocator> Bindings<A> {
     }
 }
 
-/// The bindings of a file in UTF-8. Each line binds a prefix to an absolute IRI without escapes, in one of three forms:
-/// `ex: http://example.org/`, `@prefix ex: <http://example.org/> .` or `PREFIX ex: <http://example.org/>`; or it is empty,
-/// blank or a comment. Of the lines of one prefix the last counts. The first form has one space and nothing more; the
-/// others are as in Turtle, with a comment behind them or not, but each in one line. Lines end at LF or at CR and LF. One
-/// U+FEFF at the beginning is ignored.
+/// The bindings of a file in UTF-8. Each line binds a prefix to an absolute IRI without escapes, in one of three
+/// forms: `ex: http://example.org/`, `@prefix ex: <http://example.org/> .` or `PREFIX ex: <http://example.org/>`;
+/// or it is empty, blank or a comment. Of the lines of one prefix the last counts. The first form has one space and
+/// nothing more; the others are as in Turtle, with a comment behind them or not, but each in one line. Lines end at
+/// LF or at CR and LF. One U+FEFF at the beginning is ignored.
 pub fn read_bindings<A: Allocator + Copy>(
     alloc: A,
     limits: Limits,

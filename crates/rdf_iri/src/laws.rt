@@ -33,7 +33,8 @@ pub fn results_are_computed()
     ensures { ResultsAreComputed }
 {}
 
-/// A file of which a line fails is no file of bindings within the limits: such a file is refused for want of memory alone.
+/// A file of which a line fails is no file of bindings within the limits: such a file is refused for want of memory
+/// alone.
 pub fn failing_files_are_none()
     ensures { FailingFilesAreNone }
 {}

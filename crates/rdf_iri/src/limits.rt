@@ -21,7 +21,8 @@ impl Model for Limits {
 
     ghost view = { λ l. record { token = l.token; depth = l.depth; bindings = l.bindings; iri = l.iri } };
 
-    ghost invariant = { λ l. InRange (record { token = l.token; depth = l.depth; bindings = l.bindings; iri = l.iri }) };
+    ghost invariant = { λ l.
+        InRange (record { token = l.token; depth = l.depth; bindings = l.bindings; iri = l.iri }) };
 
     ghost inverse = { λ s. record { token = s.token; depth = s.depth; bindings = s.bindings; iri = s.iri } };
 }
@@ -31,7 +32,12 @@ impl Limits {
     /// and parentheses open at one time (to 1,048,576), `bindings` the prefixes bound at one time (to 16,777,216)
     /// and `iri` the bytes of one IRI (1 to 268,435,456). None outside these ranges.
     pub fn new(token: u64, depth: u64, bindings: u64, iri: u64) -> Option<Limits>
-        ensures { let sizes : Sizes = record { token = token; depth = depth; bindings = bindings; iri = iri } in SomeIff result (InRange sizes) sizes }
+        ensures { let sizes : Sizes = record {
+          token = token;
+          depth = depth;
+          bindings = bindings;
+          iri = iri;
+        } in SomeIff result (InRange sizes) sizes }
     {
         let in_range = (1..=1 << 28).contains(&token)
             && depth <= 1 << 20

@@ -64,7 +64,8 @@ fn cut_scheme(text: &str) -> (Option<&str>, &str)
 }
 
 fn cut_authority(text: &str) -> (Option<&str>, &str)
-    ensures authority { text_of result.0 ≡ cond (begins (47 ∷ 47 ∷ []) text.now) (Some (before 47 (drop 2 text.now))) None }
+    ensures authority { text_of result.0 ≡ cond (begins (47 ∷ 47 ∷ []) text.now)
+        (Some (before 47 (drop 2 text.now))) None }
     ensures path { result.1.now ≡ cond (begins (47 ∷ 47 ∷ []) text.now) (from 47 (drop 2 text.now)) text.now }
 {
     if !begins_with(text.as_bytes(), b"//") {

@@ -56,8 +56,8 @@ impl<A: Allocator> Prefixes<A> {
         }
     }
 
-    /// The same of a short prefix where few are bound. Else it tells nothing. It calls nothing, so that a function that does without other calls too
-    /// saves no registers.
+    /// The same of a short prefix where few are bound. Else it tells nothing. It calls nothing, so that a function
+    /// that does without other calls too saves no registers.
     #[inline(always)]
     pub(crate) fn get_short(&self, prefix: &str) -> Option<&Iri<A>>
         ensures { IfSome result (λ iri. bound_to self.now (chars prefix.now) ≡ Some iri.now) }
@@ -92,7 +92,8 @@ impl<A: Allocator> Prefixes<A> {
 
     /// The bytes of all prefixes and their IRIs, which keep the limits. It takes no memory.
     pub(crate) fn held(&self, limits: Limits) -> u64
-        requires sizes { (prefix iri : List ℕ) → bound_to self.now prefix ≡ Some iri → (byte_len prefix ≤ 4 * limits.token) × (byte_len iri ≤ limits.iri) }
+        requires sizes { (prefix iri : List ℕ) → bound_to self.now prefix ≡ Some iri →
+            (byte_len prefix ≤ 4 * limits.token) × (byte_len iri ≤ limits.iri) }
         requires count { length self.now ≤ limits.bindings }
         ensures sum { result ≡ sum_by binding_bytes self.now }
         ensures most { result ≤ limits.bindings * (4 * limits.token + limits.iri) }
@@ -143,7 +144,8 @@ impl<A: Allocator + Copy> Prefixes<A> {
 fn place_of<A: Allocator>(slots: &[u32], row: &[(String<A>, Iri<A>)], prefix: &str) -> Option<usize>
     requires slots { HaveSlots slots.now row.now }
     requires apart { KeptApart (entries_of row.now) [] }
-    ensures { MatchOption result (bound_to (entries_of row.now) (chars prefix.now) ≡ None) (StandsAt (entries_of row.now) (chars prefix.now)) }
+    ensures { MatchOption result (bound_to (entries_of row.now) (chars prefix.now) ≡ None)
+        (StandsAt (entries_of row.now) (chars prefix.now)) }
 {
     if row.len() <= ROW {
         place_in(row, prefix)
@@ -162,7 +164,8 @@ fn place_of_many<A: Allocator>(
     requires many { 16 < length row.now }
     requires slots { HaveSlots slots.now row.now }
     requires apart { KeptApart (entries_of row.now) [] }
-    ensures { MatchOption result (bound_to (entries_of row.now) (chars prefix.now) ≡ None) (StandsAt (entries_of row.now) (chars prefix.now)) }
+    ensures { MatchOption result (bound_to (entries_of row.now) (chars prefix.now) ≡ None)
+        (StandsAt (entries_of row.now) (chars prefix.now)) }
 {
     match find(slots, row, prefix) {
         Some(place) => Some(place),
@@ -176,7 +179,8 @@ fn place_of_many<A: Allocator>(
 /// Where a prefix stands in a row, sought one by one.
 #[inline(always)]
 fn place_in<A: Allocator>(row: &[(String<A>, Iri<A>)], prefix: &str) -> Option<usize>
-    ensures { MatchOption result (bound_to (entries_of row.now) (chars prefix.now) ≡ None) (StandsAt (entries_of row.now) (chars prefix.now)) }
+    ensures { MatchOption result (bound_to (entries_of row.now) (chars prefix.now) ≡ None)
+        (StandsAt (entries_of row.now) (chars prefix.now)) }
 {
     for place in 0..row.len() {
         if is_same(row[place].0.as_str(), prefix) {

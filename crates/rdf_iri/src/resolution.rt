@@ -57,7 +57,8 @@ pub fn resolve_in_place<A: Allocator + Copy>(
     limit: u64,
 ) -> Result<(), IriFault>
     requires { IsIriText (chars (string_bytes text.old)) }
-    ensures resolved { OnOk result (Resolves (text_of base.entry) (chars (string_bytes text.old)) (chars (string_bytes text.new))) }
+    ensures resolved { OnOk result (Resolves (text_of base.entry) (chars (string_bytes text.old))
+        (chars (string_bytes text.new))) }
     ensures is_iri { OnOk result (IsIri (chars (string_bytes text.new))) }
     ensures within { OnOk result (byte_len (chars (string_bytes text.new)) ≤ limit) }
     ensures refused { IfErr result (Unresolved (text_of base.entry) (chars (string_bytes text.old)) limit) }
@@ -78,9 +79,11 @@ fn make_absolute<A: Allocator + Copy>(
     text: &mut String<A>,
 ) -> Result<(), IriFault>
     requires { IsIriText (chars (string_bytes text.old)) }
-    ensures resolved { OnOk result (Resolves (text_of base.entry) (chars (string_bytes text.old)) (chars (string_bytes text.new))) }
+    ensures resolved { OnOk result (Resolves (text_of base.entry) (chars (string_bytes text.old))
+        (chars (string_bytes text.new))) }
     ensures is_iri { OnOk result (IsIri (chars (string_bytes text.new))) }
-    ensures refused { IfErr result (λ r. (limit : ℕ) → Unresolved (text_of base.entry) (chars (string_bytes text.old)) limit r) }
+    ensures refused { IfErr result (λ r.
+        (limit : ℕ) → Unresolved (text_of base.entry) (chars (string_bytes text.old)) limit r) }
 {
     if has_scheme(text.as_str()) {
         return Ok(());
@@ -144,7 +147,8 @@ pub(crate) fn resolved<A: Allocator + Copy>(
     base: &str,
     reference: &str,
 ) -> Result<String<A>, AllocError>
-    ensures { IfOk result (λ text. chars (string_bytes text) ≡ recompose (target (parts_of (chars base.now)) (parts_of (chars reference.now)))) }
+    ensures { IfOk result (λ text. chars (string_bytes text) ≡ recompose
+        (target (parts_of (chars base.now)) (parts_of (chars reference.now)))) }
 {
     let bytes = resolved_bytes(alloc, base, reference)?;
     Ok(String::from_utf8(bytes).unwrap())

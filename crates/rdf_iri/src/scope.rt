@@ -119,18 +119,20 @@ impl<A: Allocator + Copy> Scope<A> {
         resolve(self.alloc, self.base(), reference, self.limits.iri())
     }
 
-    /// Puts the IRI of a reference, against the base in force, in its place. After an error nothing is known of the text.
+    /// Puts the IRI of a reference, against the base in force, in its place. After an error nothing is known of the
+    /// text.
     pub fn resolve_in_place(&self, text: &mut String<A>) -> Result<(), IriFault>
         requires { IsIriText (chars (string_bytes text.old)) }
-        ensures resolved { OnOk result (ResolvesHere self.now (chars (string_bytes text.old)) (chars (string_bytes text.new))) }
+        ensures resolved { OnOk result (ResolvesHere self.now (chars (string_bytes text.old))
+            (chars (string_bytes text.new))) }
         ensures is_iri { OnOk result (IsIri (chars (string_bytes text.new))) }
         ensures refused { IfErr result (UnresolvedHere self.now (chars (string_bytes text.old))) }
     {
         resolve_in_place(self.alloc, self.base(), text, self.limits.iri())
     }
 
-    /// Puts the IRI of a reference, against the base in force, in place of a text, in the memory that the text has. After an error
-    /// nothing is known of the text.
+    /// Puts the IRI of a reference, against the base in force, in place of a text, in the memory that the text has.
+    /// After an error nothing is known of the text.
     pub fn resolve_into(&self, reference: &str, text: &mut TextBuffer<A>) -> Result<(), IriFault>
         requires { IsIriText (chars reference.now) }
         ensures resolved { OnOk result (ResolvesHere self.now (chars reference.now) (chars text.new)) }
@@ -207,9 +209,11 @@ impl<A: Allocator + Copy> Scope<A> {
         Ok(IriView::of_bytes(text.as_bytes()).try_copy(self.alloc)?)
     }
 
-    /// Puts the IRI of a name in place of a text, in the memory that the text has. After an error nothing is known of the text.
+    /// Puts the IRI of a name in place of a text, in the memory that the text has. After an error nothing is known
+    /// of the text.
     ///
-    /// What most names take is here without a call but the last one, which goes on in place of this: so no registers are saved.
+    /// What most names take is here without a call but the last one, which goes on in place of this: so no
+    /// registers are saved.
     #[inline(never)]
     pub fn expand_into(
         &self,
@@ -249,8 +253,8 @@ impl<A: Allocator + Copy> Scope<A> {
         put_joined(text, front, local, self.limits.iri())
     }
 
-    /// What `expand_into` does with a local part as it is written, with the backslashes of its escapes. Where memory is short it is not known whether the
-    /// IRI is within the limit.
+    /// What `expand_into` does with a local part as it is written, with the backslashes of its escapes. Where
+    /// memory is short it is not known whether the IRI is within the limit.
     pub fn expand_escaped_into(
         &self,
         prefix: &str,
@@ -258,9 +262,11 @@ impl<A: Allocator + Copy> Scope<A> {
         text: &mut TextBuffer<A>,
     ) -> Result<(), IriFault>
         requires { IsIriText (without_backslashes (chars local.now)) }
-        ensures expanded { OnOk result (ExpandsHere self.now (chars prefix.now) (without_backslashes (chars local.now)) (chars text.new)) }
+        ensures expanded { OnOk result (ExpandsHere self.now (chars prefix.now)
+            (without_backslashes (chars local.now)) (chars text.new)) }
         ensures is_iri { OnOk result (IsIri (chars text.new)) }
-        ensures refused { IfErr result (λ f. f ≢ IriFault.Memory → NotExpanded self.now (chars prefix.now) (without_backslashes (chars local.now)) f) }
+        ensures refused { IfErr result (λ f. f ≢ IriFault.Memory →
+            NotExpanded self.now (chars prefix.now) (without_backslashes (chars local.now)) f) }
     {
         self.expand_into(prefix, "", text)?;
         text.push_unescaped(local)?;
@@ -314,7 +320,8 @@ fn put_joined<A: Allocator + Copy>(
     Ok(())
 }
 
-/// The same of short texts, without a call. It says whether it did; it puts nothing where they are long, or pass the limit, or want more memory.
+/// The same of short texts, without a call. It says whether it did; it puts nothing where they are long, or pass
+/// the limit, or want more memory.
 #[inline(always)]
 fn put_short_joined<A: Allocator + Copy>(
     text: &mut TextBuffer<A>,

@@ -22,7 +22,8 @@ enum Move {
     Last,
 }
 
-/// Appends a reference that is a path to a text that ends in a directory. The first slash of the text's path is the last of `root` bytes.
+/// Appends a reference that is a path to a text that ends in a directory. The first slash of the text's path is the
+/// last of `root` bytes.
 pub(crate) fn put_onward<A: Allocator + Copy>(
     text: &mut TextBuffer<A>,
     root: usize,

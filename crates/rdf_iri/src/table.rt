@@ -67,7 +67,8 @@ pub(crate) fn find<A: Allocator>(
     row: &[(String<A>, Iri<A>)],
     prefix: &str,
 ) -> Option<usize>
-    ensures { MatchOption result ((place : ℕ) → HasSlot slots.now prefix.now place → IsKeyAt row.now prefix.now place → ⊥) (IsKeyAt row.now prefix.now) }
+    ensures { MatchOption result ((place : ℕ) → HasSlot slots.now prefix.now place →
+        IsKeyAt row.now prefix.now place → ⊥) (IsKeyAt row.now prefix.now) }
 {
     if slots.len() != SLOTS {
         return None;
@@ -92,7 +93,8 @@ fn place_in_slot<A: Allocator>(
     prefix: &str,
 ) -> Option<usize>
     requires { mark % 65536 ≡ 0 }
-    ensures { MatchOption result ((place : ℕ) → Names slot mark place → IsKeyAt row.now prefix.now place → ⊥) (IsKeyAt row.now prefix.now) }
+    ensures { MatchOption result ((place : ℕ) → Names slot mark place → IsKeyAt row.now prefix.now place →
+        ⊥) (IsKeyAt row.now prefix.now) }
 {
     let place = slot % PLACES;
     if slot - place != mark {

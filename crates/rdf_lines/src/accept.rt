@@ -25,11 +25,13 @@ impl<A: Allocator> State<A> {
     ) -> Result<(), Reason>
         requires token { IsLineToken token.now }
         requires live { S.has_failed sink.old ≡ false }
-        ensures ok { OnOk result (Does S.takes (answer rules (mode_of self.old) token.now) sink.old (mode_of self.new) sink.new) }
+        ensures ok { OnOk result (Does S.takes (answer rules (mode_of self.old) token.now) sink.old
+            (mode_of self.new) sink.new) }
         ensures live { OnOk result (S.has_failed sink.new ≡ false) }
         ensures held { StaysWithin rules.iri self.old self.old.mode token.now self.new self.new.mode }
         ensures stays { IfErr result (λ r. r ≡ Reason.Unexpected → self.new ≡ self.old) }
-        ensures err { IfErr result (λ r. Fails S.leaves S.has_failed r (answer rules (mode_of self.old) token.now) sink.old sink.new) }
+        ensures err { IfErr result (λ r.
+            Fails S.leaves S.has_failed r (answer rules (mode_of self.old) token.now) sink.old sink.new) }
     {
         match self.next(rules, token, sink) {
             Ok(mode) => {
@@ -55,11 +57,13 @@ impl<A: Allocator> State<A> {
     ) -> Result<Mode, Reason>
         requires token { IsLineToken token.now }
         requires live { S.has_failed sink.old ≡ false }
-        ensures ok { IfOk result (λ m. Does S.takes (answer rules (mode_of self.old) token.now) sink.old (mode_at self.new m) sink.new) }
+        ensures ok { IfOk result (λ m.
+            Does S.takes (answer rules (mode_of self.old) token.now) sink.old (mode_at self.new m) sink.new) }
         ensures live { OnOk result (S.has_failed sink.new ≡ false) }
         ensures held { IfOk result (StaysWithin rules.iri self.old self.old.mode token.now self.new) }
         ensures stays { IfErr result (λ r. r ≡ Reason.Unexpected → self.new ≡ self.old) }
-        ensures err { IfErr result (λ r. Fails S.leaves S.has_failed r (answer rules (mode_of self.old) token.now) sink.old sink.new) }
+        ensures err { IfErr result (λ r.
+            Fails S.leaves S.has_failed r (answer rules (mode_of self.old) token.now) sink.old sink.new) }
     {
         match self.mode {
             Mode::Begin => self.at_begin(rules.iri, token),
@@ -100,7 +104,8 @@ impl<A: Allocator> State<A> {
     #[inline(always)]
     fn after_subject(&mut self, limit: u64, token: &Token<'_>) -> Result<Mode, Reason>
         requires { IsLineToken token.now }
-        ensures ok { IfOk result (λ m. LeadsTo limit (mode_at self.old Mode.AfterSubject) token.now (mode_at self.new m)) }
+        ensures ok { IfOk result (λ m.
+            LeadsTo limit (mode_at self.old Mode.AfterSubject) token.now (mode_at self.new m)) }
         ensures held { IfOk result (StaysWithin limit self.old Mode.AfterSubject token.now self.new) }
         ensures stays { IfErr result (λ r. r ≡ Reason.Unexpected → self.new ≡ self.old) }
         ensures err { IfErr result (IsDeclined limit (mode_at self.old Mode.AfterSubject) token.now) }
@@ -117,7 +122,8 @@ impl<A: Allocator> State<A> {
     #[inline(always)]
     fn after_predicate(&mut self, limit: u64, token: &Token<'_>) -> Result<Mode, Reason>
         requires { IsLineToken token.now }
-        ensures ok { IfOk result (λ m. LeadsTo limit (mode_at self.old Mode.AfterPredicate) token.now (mode_at self.new m)) }
+        ensures ok { IfOk result (λ m.
+            LeadsTo limit (mode_at self.old Mode.AfterPredicate) token.now (mode_at self.new m)) }
         ensures held { IfOk result (StaysWithin limit self.old Mode.AfterPredicate token.now self.new) }
         ensures stays { IfErr result (λ r. r ≡ Reason.Unexpected → self.new ≡ self.old) }
         ensures err { IfErr result (IsDeclined limit (mode_at self.old Mode.AfterPredicate) token.now) }
@@ -169,7 +175,8 @@ impl<A: Allocator> State<A> {
     #[inline(always)]
     fn after_carets(&mut self, limit: u64, token: &Token<'_>) -> Result<Mode, Reason>
         requires { IsLineToken token.now }
-        ensures ok { IfOk result (λ m. LeadsTo limit (mode_at self.old Mode.AfterCarets) token.now (mode_at self.new m)) }
+        ensures ok { IfOk result (λ m.
+            LeadsTo limit (mode_at self.old Mode.AfterCarets) token.now (mode_at self.new m)) }
         ensures held { IfOk result (StaysWithin limit self.old Mode.AfterCarets token.now self.new) }
         ensures stays { IfErr result (λ r. r ≡ Reason.Unexpected → self.new ≡ self.old) }
         ensures err { IfErr result (IsDeclined limit (mode_at self.old Mode.AfterCarets) token.now) }
@@ -195,7 +202,8 @@ impl<A: Allocator> State<A> {
         requires token { IsLineToken token.now }
         requires live { S.has_failed sink.old ≡ false }
         ensures ok { IfOk result (λ m. Does S.takes
-            (answer rules (mode_at self.old (Mode.AfterObject kind)) token.now) sink.old (mode_at self.new m) sink.new) }
+            (answer rules (mode_at self.old (Mode.AfterObject kind)) token.now) sink.old
+            (mode_at self.new m) sink.new) }
         ensures live { OnOk result (S.has_failed sink.new ≡ false) }
         ensures held { IfOk result (StaysWithin rules.iri self.old (Mode.AfterObject kind) token.now self.new) }
         ensures stays { IfErr result (λ r. r ≡ Reason.Unexpected → self.new ≡ self.old) }
@@ -258,7 +266,8 @@ impl<A: Allocator> State<A> {
         ensures mode { IfOk result (λ m. m ≡ Mode.AfterDot) }
         ensures ok { OnOk result (S.takes sink.old (quad_with self.now kind graph.entry) sink.new) }
         ensures live { OnOk result (S.has_failed sink.new ≡ false) }
-        ensures err { IfErr result (λ r. Fails S.leaves S.has_failed r (gives (quad_with self.now kind graph.entry) M.AfterDot) sink.old sink.new) }
+        ensures err { IfErr result (λ r. Fails S.leaves S.has_failed r
+            (gives (quad_with self.now kind graph.entry) M.AfterDot) sink.old sink.new) }
     {
         let quad = QuadRef {
             subject: self.subject.view(),

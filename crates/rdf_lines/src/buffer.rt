@@ -25,8 +25,8 @@ const LONG_LEN: usize = 8_388_608;
 /// How many bytes it keeps then.
 const KEPT_LEN: usize = 1_048_576;
 
-/// The bytes of lines, in order. It differs from a vector of bytes in cost alone: what `clear` and `truncate` take away stays in memory, and the next
-/// line is placed over it, so that no memory has to be filled for it first.
+/// The bytes of lines, in order. It differs from a vector of bytes in cost alone: what `clear` and `truncate` take
+/// away stays in memory, and the next line is placed over it, so that no memory has to be filled for it first.
 #[derive(Drop)]
 pub struct LineBuffer<A: Allocator = Global> {
     bytes: Vec<u8, A>,
@@ -108,22 +108,25 @@ impl<A: Allocator + Copy> LineBuffer<A> {
     /// Appends the line of a quad in N-Quads, as `write_line_in` does. After an error the lines are as they were.
     #[inline(always)]
     pub fn put_line(&mut self, quad: &QuadRef<'_>, form: WrittenForm<'_>) -> Result<(), LabelFault>
-        ensures written { OnOk result (self.new ≡ self.old ++ encode_utf8_all (line_in (form_of form.entry) (quad_of quad.now))) }
+        ensures written { OnOk result (self.new ≡ self.old
+            ++ encode_utf8_all (line_in (form_of form.entry) (quad_of quad.now))) }
         ensures unchanged { OnErr result (self.new ≡ self.old) }
         ensures not_labelled { IsErrOf result LabelFault.NotLabelled ↔ ¬ CanWrite form.entry.style (quad_of quad.now) }
     {
         self.put_line_for::<Usual>(quad, form)
     }
 
-    /// What `put_line` does, for a caller that names itself by a type. Each such type has machine code of its own, which stands in the caller where
-    /// that is the only one to name it: a program that puts lines in two places calls this in one of them.
+    /// What `put_line` does, for a caller that names itself by a type. Each such type has machine code of its own,
+    /// which stands in the caller where that is the only one to name it: a program that puts lines in two places
+    /// calls this in one of them.
     #[inline(always)]
     pub fn put_line_for<C>(
         &mut self,
         quad: &QuadRef<'_>,
         form: WrittenForm<'_>,
     ) -> Result<(), LabelFault>
-        ensures written { OnOk result (self.new ≡ self.old ++ encode_utf8_all (line_in (form_of form.entry) (quad_of quad.now))) }
+        ensures written { OnOk result (self.new ≡ self.old
+            ++ encode_utf8_all (line_in (form_of form.entry) (quad_of quad.now))) }
         ensures unchanged { OnErr result (self.new ≡ self.old) }
         ensures not_labelled { IsErrOf result LabelFault.NotLabelled ↔ ¬ CanWrite form.entry.style (quad_of quad.now) }
     {
@@ -148,8 +151,9 @@ impl<A: Allocator + Copy> LineBuffer<A> {
         Ok(())
     }
 
-    /// What `put_iris` does in the plain form, where each text is short and memory for the longest line of such is filled. Else it puts nothing. It calls
-    /// nothing, so that a function that does without other calls too saves no registers.
+    /// What `put_iris` does in the plain form, where each text is short and memory for the longest line of such is
+    /// filled. Else it puts nothing. It calls nothing, so that a function that does without other calls too saves
+    /// no registers.
     #[inline(always)]
     pub fn put_short_iris(
         &mut self,
@@ -172,11 +176,12 @@ impl<A: Allocator + Copy> LineBuffer<A> {
         }
     }
 
-    /// What `put_line` does in the plain form, where each text has at most 64 bytes, no word stands in front of a node's name, and memory for the longest
-    /// line of such is filled. Else it appends nothing. It takes no memory.
+    /// What `put_line` does in the plain form, where each text has at most 64 bytes, no word stands in front of a
+    /// node's name, and memory for the longest line of such is filled. Else it appends nothing. It takes no memory.
     #[inline(always)]
     pub fn put_short(&mut self, quad: &QuadRef<'_>, form: WrittenForm<'_>) -> bool
-        ensures written { result ≡ true → self.new ≡ self.old ++ encode_utf8_all (line_in (form_of form.entry) (quad_of quad.now)) }
+        ensures written { result ≡ true → self.new ≡ self.old
+            ++ encode_utf8_all (line_in (form_of form.entry) (quad_of quad.now)) }
         ensures unchanged { result ≡ false → self.new ≡ self.old }
     {
         let Some(end) = put_short(quad, &form, self.len, self.bytes.as_mut_slice()) else {
@@ -186,7 +191,8 @@ impl<A: Allocator + Copy> LineBuffer<A> {
         true
     }
 
-    /// Passes the line that the text begins with, as `pass_escaped` does, and answers how many bytes it has, or none. Where memory is refused, it is not passed.
+    /// Passes the line that the text begins with, as `pass_escaped` does, and answers how many bytes it has, or
+    /// none. Where memory is refused, it is not passed.
     pub(crate) fn pass_line(
         &mut self,
         reader: &mut Reader<LineGrammar<A>, A>,

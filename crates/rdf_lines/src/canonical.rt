@@ -40,9 +40,9 @@ pub(crate) struct IriPart<'a> {
     pub(crate) rest: &'a str,
 }
 
-/// Passes lines at the front of the text that end so and stand as they are written, where the reader stands between two lines, and
-/// answers how many bytes they have. What is written for their quads with the labels kept are these bytes without their CRs. With
-/// limits below 64 it passes none.
+/// Passes lines at the front of the text that end so and stand as they are written, where the reader stands between
+/// two lines, and answers how many bytes they have. What is written for their quads with the labels kept are these
+/// bytes without their CRs. With limits below 64 it passes none.
 pub fn pass_lines<A: Allocator + Copy>(
     reader: &mut Reader<LineGrammar<A>, A>,
     text: &str,
@@ -131,10 +131,12 @@ pub(crate) fn end_tokens(ending: LineEnding) -> u64
     }
 }
 
-// The line that the text begins with, if it is one that would be written so, and ends so; with the tokens before its end.
+// The line that the text begins with, if it is one that would be written so, and ends so; with the tokens before
+// its end.
 fn canonical_line(text: &str, ending: LineEnding, rules: Rules) -> Option<Part<'_>>
     requires iri { 64 ≤ rules.iri }
-    ensures { IfSome result (λ p. LineStandsByAnyLimit ending rules.form rules.iri (p.tokens + end_count ending) text.now p.rest.now) }
+    ensures { IfSome result (λ p.
+        LineStandsByAnyLimit ending rules.form rules.iri (p.tokens + end_count ending) text.now p.rest.now) }
 {
     let rest = predicate(subject(text, rules.iri)?, rules.iri)?;
     let object = object(rest, rules.iri)?;

@@ -24,7 +24,8 @@ use std::alloc::{AllocError, Allocator, Global};
 /// How many bytes are looked at for the end of a string.
 const LONGEST: usize = 2048;
 
-/// What the escapes of a line mean: the texts of its subject, its predicate, its object and its graph label. Their memory is used again from line to line.
+/// What the escapes of a line mean: the texts of its subject, its predicate, its object and its graph label. Their
+/// memory is used again from line to line.
 #[derive(Drop)]
 pub(crate) struct Values<A: Allocator = Global> {
     alloc: A,
@@ -124,10 +125,12 @@ impl<A: Allocator + Copy> Values<A> {
     }
 }
 
-/// Passes lines at the front of the text that end so and whose parts stand with one space after each, where the reader stands between two lines, and
-/// appends what is written for their quads with the labels kept. Strings and IRIs may have any escapes. Answers how many bytes they have. After a line
-/// that has as many bytes as what is written for it, it passes no more. It passes none with limits below 64, and none of a text that is longer than a
-/// token may be. Where memory for what a line means or for what is written is refused, some lines may have been passed, and that one was not.
+/// Passes lines at the front of the text that end so and whose parts stand with one space after each, where the
+/// reader stands between two lines, and appends what is written for their quads with the labels kept. Strings and
+/// IRIs may have any escapes. Answers how many bytes they have. After a line that has as many bytes as what is
+/// written for it, it passes no more. It passes none with limits below 64, and none of a text that is longer than a
+/// token may be. Where memory for what a line means or for what is written is refused, some lines may have been
+/// passed, and that one was not.
 pub fn pass_escaped<A: Allocator + Copy>(
     reader: &mut Reader<LineGrammar<A>, A>,
     text: &str,
@@ -176,7 +179,8 @@ pub(crate) fn escaped_line<'a, A: Allocator + Copy>(
     values: &'a mut Values<A>,
 ) -> Result<EscapedLine<'a>, Unpassed>
     requires iri { 64 ≤ rules.iri }
-    ensures spelled { IfOk result (λ l. LineSpelled ending rules.form rules.iri l.tokens (quad_of l.quad) text.now l.rest.now) }
+    ensures spelled { IfOk result (λ l.
+        LineSpelled ending rules.form rules.iri l.tokens (quad_of l.quad) text.now l.rest.now) }
     ensures few { IfOk result (λ l. l.tokens ≤ 7) }
 {
     let alloc = values.alloc;
@@ -430,7 +434,8 @@ fn graph<'a, A: Allocator>(
     rules: Rules,
     value: &'a mut String<A>,
 ) -> Result<GraphPart<'a>, Unpassed>
-    ensures spelled { IfOk result (λ p. GraphSpelled rules.form rules.iri p.tokens (option_map (subject_by chars) p.graph) text.now p.rest.now) }
+    ensures spelled { IfOk result (λ p.
+        GraphSpelled rules.form rules.iri p.tokens (option_map (subject_by chars) p.graph) text.now p.rest.now) }
     ensures few { IfOk result (λ p. p.tokens ≤ 1) }
 {
     match (rules.form, after_byte(text, b'.')) {

@@ -29,7 +29,8 @@ pub enum Style {
 pub enum Escapes {
     /// As they are.
     Plain,
-    /// In strings and IRIs as UCHAR: `\u` and four hex digits up to U+FFFF, `\U` and eight above. Labels have no escapes.
+    /// In strings and IRIs as UCHAR: `\u` and four hex digits up to U+FFFF, `\U` and eight above. Labels have no
+    /// escapes.
     Ascii,
 }
 

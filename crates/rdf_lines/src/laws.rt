@@ -13,7 +13,8 @@ ghost use Rattle.rdf_lines.specs.Laws.{PrefixedTextReadsBack, PrefixedTextIsRead
 /// The bytes written for quads are a document of N-Quads, whose quads are these, renamed, one for one and in
 /// order. Any limit on a token's characters that is not below the text's length serves.
 pub fn written_text_reads_back()
-    ensures { (s : Style) (e : Escapes) (qs : List Quad) (limit : ℕ) → Writable s qs → length (text s e qs) ≤ limit → ReadsBack s e qs limit }
+    ensures { (s : Style) (e : Escapes) (qs : List Quad) (limit : ℕ) → Writable s qs → length (text s e qs) ≤ limit →
+        ReadsBack s e qs limit }
 {}
 
 /// No two nodes are written under one name.
@@ -80,13 +81,14 @@ pub fn written_document_is_read()
     ensures { WrittenDocumentIsRead }
 {}
 
-/// Between two lines, lines that stand as they are written spell tokens that a reader accepts, give their quads, and lead back between
-/// two lines.
+/// Between two lines, lines that stand as they are written spell tokens that a reader accepts, give their quads,
+/// and lead back between two lines.
 pub fn canonical_lines_are_read()
     ensures { CanonicalLinesAreRead }
 {}
 
-/// Lines that stand as they are written are what is written for their quads, but for the CRs of those that end in CR and LF.
+/// Lines that stand as they are written are what is written for their quads, but for the CRs of those that end in
+/// CR and LF.
 pub fn canonical_lines_are_written()
     ensures { CanonicalLinesAreWritten }
 {}
@@ -96,8 +98,8 @@ pub fn ascii_is_written()
     ensures { AsciiIsWritten }
 {}
 
-/// With a word in front of the names too, what is written for quads is a document of N-Quads, whose quads are these with their
-/// nodes named so. Any limit on a token's characters that is not below the text's length serves.
+/// With a word in front of the names too, what is written for quads is a document of N-Quads, whose quads are these
+/// with their nodes named so. Any limit on a token's characters that is not below the text's length serves.
 pub fn prefixed_text_reads_back()
     ensures { PrefixedTextReadsBack }
 {}
@@ -107,8 +109,8 @@ pub fn prefixed_text_is_read()
     ensures { PrefixedTextIsRead }
 {}
 
-/// What is written with a word for a document of a line format is read to its end with the limits of `written_document_is_read`,
-/// and the word's length more for tokens.
+/// What is written with a word for a document of a line format is read to its end with the limits of
+/// `written_document_is_read`, and the word's length more for tokens.
 pub fn prefixed_document_is_read()
     ensures { PrefixedDocumentIsRead }
 {}
@@ -143,14 +145,14 @@ pub fn no_prefix_is_no_change()
     ensures { NoPrefixIsNoChange }
 {}
 
-/// Bytes are a document within the limits exactly where each of their lines is one by itself, and then its quads are those of its
-/// lines, in order.
+/// Bytes are a document within the limits exactly where each of their lines is one by itself, and then its quads
+/// are those of its lines, in order.
 pub fn documents_are_their_lines()
     ensures { DocumentsAreTheirLines }
 {}
 
-/// What is left of some bytes without their bad lines is a document within the limits, and its quads are those of the lines that
-/// are left.
+/// What is left of some bytes without their bad lines is a document within the limits, and its quads are those of
+/// the lines that are left.
 pub fn good_lines_are_read()
     ensures { GoodLinesAreRead }
 {}

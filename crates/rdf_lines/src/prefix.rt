@@ -39,7 +39,8 @@ pub struct NodePrefixView<'a> {
 }
 
 impl<A: Allocator> NodePrefix<A> {
-    /// The word of a text, or None where the text has another character than ASCII letters and digits. It takes no memory.
+    /// The word of a text, or None where the text has another character than ASCII letters and digits. It takes no
+    /// memory.
     pub fn new(word: String<A>) -> Option<NodePrefix<A>>
         ensures word { IfSome result (λ p. p ≡ chars (string_bytes word)) }
         ensures none { (result ≡ None) ↔ ¬ IsNodePrefix (chars (string_bytes word)) }

@@ -21,8 +21,9 @@ use std::marker::Model;
 
 /// Reads N-Triples or N-Quads, in pieces of any lengths, and puts the quads into sinks.
 ///
-/// A quad is put when the dot of its statement is accepted. `feed` accepts all tokens that the bytes so far decide. The first
-/// token that no document can have there is refused, at its place. After an error, and after `finish`, each call answers `Ended`.
+/// A quad is put when the dot of its statement is accepted. `feed` accepts all tokens that the bytes so far decide.
+/// The first token that no document can have there is refused, at its place. After an error, and after `finish`,
+/// each call answers `Ended`.
 #[derive(Drop)]
 pub struct LineReader<A: Allocator + Copy = Global> {
     reader: Reader<LineGrammar<A>, A>,
@@ -89,7 +90,8 @@ impl<A: Allocator + Copy> LineReader<A> {
     pub fn finish<S: QuadSink>(&mut self, sink: &mut S) -> Result<Summary, Fault>
         requires { self.old.done ≡ false → S.has_failed sink.old ≡ false }
         ensures ok { IfOk result (λ s. Finishes line_words S.takes self.old sink.old s sink.new) }
-        ensures err { IfErr result (λ f. FinishFails line_words S.takes S.leaves S.has_failed f.reason (place_of f) self.old sink.old self.new sink.new) }
+        ensures err { IfErr result (λ f. FinishFails line_words S.takes S.leaves S.has_failed f.reason
+            (place_of f) self.old sink.old self.new sink.new) }
         ensures exact { FinishesExactly line_words self.old result }
         ensures place { IfErr result (IsPlacedInRead line_words self.old) }
         ensures found { FindsNoOther result self.new.found }
@@ -123,10 +125,10 @@ impl<A: Allocator + Copy> LineReader<A> {
         self.reader.found()
     }
 
-    /// The bytes of the texts that are held: of the next token, as far as it has come, and of the line that is being read. After each
-    /// call, also one that failed, they are at most what the limits allow (`most` of `new`, `limits` of `feed` and `finish`), and so are
-    /// the bytes of all texts of the reader, which has besides these the text of the last tokens until the next piece comes. Spare capacity
-    /// is not counted. It takes no memory.
+    /// The bytes of the texts that are held: of the next token, as far as it has come, and of the line that is
+    /// being read. After each call, also one that failed, they are at most what the limits allow (`most` of `new`,
+    /// `limits` of `feed` and `finish`), and so are the bytes of all texts of the reader, which has besides these
+    /// the text of the last tokens until the next piece comes. Spare capacity is not counted. It takes no memory.
     pub fn held(&self) -> u64
         ensures sum { result ≡ unread_bytes self.now.scanner + self.now.grammar.held }
         ensures most { result ≤ R.most_held line_words self.now }

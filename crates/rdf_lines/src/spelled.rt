@@ -14,8 +14,8 @@ ghost use Rattle.rdf_lines.specs.Spelled.{IriRefused};
 use rdf_terms::{Dialect, Kind, Reason, has_scheme, put_iri, without_first};
 use std::alloc::Allocator;
 
-/// Puts the IRI of an IRIREF in place of a text. Where it has no scheme, that is `RelativeIri`, and where it has more bytes than the
-/// limit, `IriTooLong`.
+/// Puts the IRI of an IRIREF in place of a text. Where it has no scheme, that is `RelativeIri`, and where it has
+/// more bytes than the limit, `IriTooLong`.
 pub fn set_iri<A: Allocator>(out: &mut String<A>, text: &str, limit: u64) -> Result<(), Reason>
     requires fit { V.is_fit Kind.IriRef (chars text.now) ≡ true }
     ensures ok { OnOk result (chars (string_bytes out.new) ≡ iri_in (chars text.now)) }

@@ -41,8 +41,8 @@ pub enum Mode {
     Finished,
 }
 
-/// What has been read of a line. The texts are cleared when the line's quad was put, and keep their memory, so that a line whose texts are
-/// no longer than those before it takes none.
+/// What has been read of a line. The texts are cleared when the line's quad was put, and keep their memory, so that
+/// a line whose texts are no longer than those before it takes none.
 #[derive(Drop)]
 pub struct State<A: Allocator = Global> {
     pub mode: Mode,
@@ -160,7 +160,8 @@ impl<A: Allocator> State<A> {
 
 // Whether a token of this kind may follow an object that is whole.
 fn may_follow_object(form: LineForm, kind: Kind) -> bool
-    ensures { (s : Subject) (p : List ℕ) (o : Term) (l : Leaf) → result ≡ is_accepted (M.object_then any_iri form s p o kind l) }
+    ensures { (s : Subject) (p : List ℕ) (o : Term) (l : Leaf) →
+        result ≡ is_accepted (M.object_then any_iri form s p o kind l) }
 {
     match (form, kind) {
         (_, Kind::Dot) | (LineForm::NQuads, Kind::IriRef | Kind::LabelNode) => true,

@@ -64,7 +64,8 @@ pub fn write_line<A: Allocator + Copy>(
     escapes: Escapes,
     out: &mut Vec<u8, A>,
 ) -> Result<(), LabelFault>
-    ensures written { OnOk result (out.new.items ≡ out.old.items ++ encode_utf8_all (line style escapes (quad_of quad.now))) }
+    ensures written { OnOk result (out.new.items ≡ out.old.items
+        ++ encode_utf8_all (line style escapes (quad_of quad.now))) }
     ensures unchanged { OnErr result (out.new.items ≡ out.old.items) }
     ensures not_labelled { IsErrOf result LabelFault.NotLabelled ↔ ¬ CanWrite style (quad_of quad.now) }
 {
@@ -72,13 +73,15 @@ pub fn write_line<A: Allocator + Copy>(
     write_line_in(quad, form, out)
 }
 
-/// The same, with a word in front of each node's name, after its `_:`. Without characters it is what `write_line` appends.
+/// The same, with a word in front of each node's name, after its `_:`. Without characters it is what `write_line`
+/// appends.
 pub fn write_line_in<A: Allocator + Copy>(
     quad: &QuadRef<'_>,
     form: WrittenForm<'_>,
     out: &mut Vec<u8, A>,
 ) -> Result<(), LabelFault>
-    ensures written { OnOk result (out.new.items ≡ out.old.items ++ encode_utf8_all (line_in (form_of form.entry) (quad_of quad.now))) }
+    ensures written { OnOk result (out.new.items ≡ out.old.items
+        ++ encode_utf8_all (line_in (form_of form.entry) (quad_of quad.now))) }
     ensures unchanged { OnErr result (out.new.items ≡ out.old.items) }
     ensures not_labelled { IsErrOf result LabelFault.NotLabelled ↔ ¬ CanWrite form.entry.style (quad_of quad.now) }
 {
@@ -95,8 +98,8 @@ pub fn write_line_in<A: Allocator + Copy>(
     }
 }
 
-/// Puts the line of a quad after the first `at` bytes, and answers where it ends; what stands after that is not said. After an error too the
-/// first `at` bytes are as they were.
+/// Puts the line of a quad after the first `at` bytes, and answers where it ends; what stands after that is not
+/// said. After an error too the first `at` bytes are as they were.
 #[inline(always)]
 pub(crate) fn put_quad<C, A: Allocator + Copy>(
     quad: &QuadRef<'_>,
@@ -105,7 +108,8 @@ pub(crate) fn put_quad<C, A: Allocator + Copy>(
     out: &mut Vec<u8, A>,
 ) -> Result<usize, LabelFault>
     requires { at ≤ length out.old.items }
-    ensures written { IfOk result (λ end. WrittenAt out.old.items out.new.items at (line_bytes (form_of form.now) quad.now) end) }
+    ensures written { IfOk result (λ end.
+        WrittenAt out.old.items out.new.items at (line_bytes (form_of form.now) quad.now) end) }
     ensures kept { OnErr result (KeptFront out.old.items out.new.items at) }
     ensures not_labelled { IsErrOf result LabelFault.NotLabelled ↔ ¬ CanWrite form.now.style (quad_of quad.now) }
 {
@@ -119,8 +123,8 @@ pub(crate) fn put_quad<C, A: Allocator + Copy>(
     Ok(end)
 }
 
-// At once where the texts are short, as most are. This is too large for LLVM to take a mark for it, so it stands in its caller only where it is
-// called once: hence an instance for each.
+// At once where the texts are short, as most are. This is too large for LLVM to take a mark for it, so it stands in
+// its caller only where it is called once: hence an instance for each.
 #[inline(always)]
 fn put_plain<C, A: Allocator + Copy>(
     quad: &QuadRef<'_>,
@@ -130,7 +134,8 @@ fn put_plain<C, A: Allocator + Copy>(
 ) -> Result<usize, AllocError>
     requires at { at ≤ length out.old.items }
     requires plain { form.now.escapes ≡ Plain }
-    ensures written { IfOk result (λ end. WrittenAt out.old.items out.new.items at (line_bytes (form_of form.now) quad.now) end) }
+    ensures written { IfOk result (λ end.
+        WrittenAt out.old.items out.new.items at (line_bytes (form_of form.now) quad.now) end) }
     ensures kept { OnErr result (KeptFront out.old.items out.new.items at) }
 {
     match short_room(quad, form.prefix.as_str()) {
@@ -163,7 +168,8 @@ pub(crate) fn put_iris<A: Allocator + Copy>(
     put_apart(&QuadRef::of_iris(subject, predicate, object), form, at, out)
 }
 
-/// What `put_iris` does in the plain form, where each text is short and the bytes have room for any such line. Else it puts nothing. It calls nothing.
+/// What `put_iris` does in the plain form, where each text is short and the bytes have room for any such line. Else
+/// it puts nothing. It calls nothing.
 #[inline(always)]
 pub(crate) fn put_short_iris(
     subject: IriView<'_>,
@@ -192,7 +198,8 @@ fn put_apart<A: Allocator + Copy>(
     out: &mut Vec<u8, A>,
 ) -> Result<usize, AllocError>
     requires { at ≤ length out.old.items }
-    ensures written { IfOk result (λ end. WrittenAt out.old.items out.new.items at (line_bytes (form_of form.now) quad.now) end) }
+    ensures written { IfOk result (λ end.
+        WrittenAt out.old.items out.new.items at (line_bytes (form_of form.now) quad.now) end) }
     ensures kept { OnErr result (KeptFront out.old.items out.new.items at) }
 {
     out.truncate(at);
@@ -206,7 +213,8 @@ pub fn label_text<A: Allocator + Copy>(
     node: NodeRef<'_>,
     style: Style,
 ) -> Result<String<A>, LabelFault>
-    ensures text { IfOk result (λ text. chars (string_bytes text) ≡ node_text (rename_node style (node_of node.entry))) }
+    ensures text { IfOk result (λ text.
+        chars (string_bytes text) ≡ node_text (rename_node style (node_of node.entry))) }
     ensures not_labelled { IsErrOf result LabelFault.NotLabelled ↔ ¬ CanWriteNode style (node_of node.entry) }
 {
     let mut digits = Buffer::new();

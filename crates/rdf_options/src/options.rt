@@ -156,7 +156,8 @@ fn add_action<'a>(
     command: Command<'a>,
     action: Result<Command<'a>, AllocError>,
 ) -> Result<Command<'a>, AllocError>
-    ensures { (a b : App) → app_of command.entry ≡ a → IfOk action.entry (λ c. ReadsAs c b) → IfOk result (λ c. app_of c ≡ with_subcommand a b.top) }
+    ensures { (a b : App) → app_of command.entry ≡ a → IfOk action.entry (λ c. ReadsAs c b) →
+        IfOk result (λ c. app_of c ≡ with_subcommand a b.top) }
 {
     match action {
         Ok(action) => command.subcommand(action),
@@ -215,7 +216,8 @@ fn action_command<'a>(
     formats: &'a [&'a str],
     reads: Arg<'a>,
 ) -> Result<Command<'a>, AllocError>
-    ensures { (r : Rule) → HasRule reads.entry r → IfOk result (λ c. ReadsAs c (action_app (Names formats.entry) r about.entry.name.now)) }
+    ensures { (r : Rule) → HasRule reads.entry r →
+        IfOk result (λ c. ReadsAs c (action_app (Names formats.entry) r about.entry.name.now)) }
 {
     let arguments = vec![in alloc;
         format_option(alloc, formats),
@@ -329,7 +331,8 @@ fn explain_option<'a>(alloc: Global) -> Arg<'a>
 }
 
 fn limit_option<'a>(alloc: Global, limit: Limit<'a>) -> Arg<'a>
-    ensures { HasRule result (limit_rule limit.entry.name.now limit.entry.least limit.entry.most limit.entry.default.now) }
+    ensures { HasRule result (limit_rule limit.entry.name.now limit.entry.least limit.entry.most
+        limit.entry.default.now) }
 {
     Arg::new(alloc, limit.name)
         .long(limit.name)

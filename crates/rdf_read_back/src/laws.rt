@@ -18,7 +18,8 @@ pub fn prefixed_document_is_read()
     ensures { PrefixedDocumentIsRead }
 {}
 
-/// What `convert` has written where it accepts a document, of any format, is read to its end so: its clause `accepted` says all that this takes.
+/// What `convert` has written where it accepts a document, of any format, is read to its end so: its clause
+/// `accepted` says all that this takes.
 pub fn converted_is_read()
     ensures { ConvertedIsRead }
 {}

@@ -11,10 +11,11 @@ ghost use Rattle.rdf_stream.specs.EscapeWalks.{IsInRoom, IsStepInRoom, begun_at,
 
 use rdf_terms::{hex_value, is_iri_char};
 
-/// How many bytes of a token stand before its first escape that stands for no character, or for one that an IRI excludes.
-/// The token begins the text, and more may follow it. Nothing is known of other texts.
+/// How many bytes of a token stand before its first escape that stands for no character, or for one that an IRI
+/// excludes. The token begins the text, and more may follow it. Nothing is known of other texts.
 pub(crate) fn bad_escape_in(text: &str) -> Option<u64>
-    ensures { (d : Dialect) → IsUnfit d (chars text.now) → MatchOption result ⊥ (λ n. HasBadEscape d (chars text.now) n) }
+    ensures { (d : Dialect) → IsUnfit d (chars text.now) →
+        MatchOption result ⊥ (λ n. HasBadEscape d (chars text.now) n) }
 {
     let mut rest = text.chars();
     let is_iri = opens_iri(rest.next());
@@ -30,7 +31,8 @@ fn opens_iri(first: Option<char>) -> bool
     }
 }
 
-// How far an escape has come: it has not begun, its backslash has come, or so many digits are still to come, with the number so far.
+// How far an escape has come: it has not begun, its backslash has come, or so many digits are still to come, with
+// the number so far.
 #[derive(Clone, Copy)]
 enum Stand {
     Outside,
@@ -46,8 +48,8 @@ enum Step {
     Fails,
 }
 
-// How many bytes stand before the first escape that stands for no character, or before a character that may not stand there,
-// with so many in front of the text.
+// How many bytes stand before the first escape that stands for no character, or before a character that may not
+// stand there, with so many in front of the text.
 fn bytes_before(is_iri: bool, text: &str, first: u64) -> Option<u64>
     requires { first + length text.now < 2 ^ 64 }
     ensures { result ≡ stop_from (inside_of is_iri) outside 0 first (chars text.now) }

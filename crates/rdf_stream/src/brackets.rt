@@ -69,8 +69,8 @@ impl<A: Allocator + Copy> Brackets<A> {
         }
     }
 
-    /// The innermost bracket that is open before the token at this place, which the piece decides, or the end behind it. None too where there was
-    /// no memory, or no token stands there.
+    /// The innermost bracket that is open before the token at this place, which the piece decides, or the end
+    /// behind it. None too where there was no memory, or no token stands there.
     pub(crate) fn open_before(
         &mut self,
         piece: &[u8],
@@ -90,7 +90,8 @@ impl<A: Allocator + Copy> Brackets<A> {
     // Passes the tokens up to the one at this place, and answers whether it stands there.
     fn come_to(&mut self, piece: &[u8], is_end: bool, offset: u64) -> Result<bool, Lost>
         requires { IsWaiting self.old.scanner }
-        ensures { IfOk result (λ is_there. is_there ≡ true → (d : Dialect) (limit : ℕ) (bytes : List ℕ) → HasNoted self.old d limit bytes →
+        ensures { IfOk result (λ is_there.
+            is_there ≡ true → (d : Dialect) (limit : ℕ) (bytes : List ℕ) → HasNoted self.old d limit bytes →
             ComesTo (tokens_of d limit (bytes ++ piece.now) is_end) offset self.new.kept.items) }
     {
         if self.pass(piece, offset)? {
@@ -109,7 +110,8 @@ impl<A: Allocator + Copy> Brackets<A> {
         ensures waits { IfOk result (λ is_there. is_there ≡ false → IsWaiting self.new.scanner) }
         ensures passed { IfOk result (λ is_there. is_there ≡ false → (d : Dialect) (limit : ℕ) (bytes : List ℕ) →
             HasNoted self.old d limit bytes → HasNoted self.new d limit (bytes ++ piece.now)) }
-        ensures there { IfOk result (λ is_there. is_there ≡ true → (d : Dialect) (limit : ℕ) (bytes : List ℕ) → HasNoted self.old d limit bytes →
+        ensures there { IfOk result (λ is_there.
+            is_there ≡ true → (d : Dialect) (limit : ℕ) (bytes : List ℕ) → HasNoted self.old d limit bytes →
             (e : Bool) → ComesTo (tokens_of d limit (bytes ++ piece.now) e) until self.new.kept.items) }
     {
         let mut rest = piece;
@@ -131,7 +133,8 @@ impl<A: Allocator + Copy> Brackets<A> {
         ensures waits { IfOk result (λ is_there. is_there ≡ false → IsWaiting self.new.scanner) }
         ensures passed { IfOk result (λ is_there. is_there ≡ false → (d : Dialect) (limit : ℕ) (bytes : List ℕ) →
             HasNoted self.old d limit bytes → HasNoted self.new d limit bytes) }
-        ensures there { IfOk result (λ is_there. is_there ≡ true → (d : Dialect) (limit : ℕ) (bytes : List ℕ) → HasNoted self.old d limit bytes →
+        ensures there { IfOk result (λ is_there.
+            is_there ≡ true → (d : Dialect) (limit : ℕ) (bytes : List ℕ) → HasNoted self.old d limit bytes →
             ComesTo (tokens_of d limit bytes self.old.scanner.ended) until self.new.kept.items) }
     {
         'tokens: loop {

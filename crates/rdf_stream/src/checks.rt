@@ -35,7 +35,8 @@ pub fn check<A: Allocator + Copy, S: Source>(
     requires source { S.has_failed source.old ≡ false }
     ensures accepted { IfOk result (IsAllAccepted (language_of job) (S.remaining source.old)) }
     ensures ended { OnOk result (S.has_ended source.new ≡ true) }
-    ensures stops { IfErr result (λ fault. CheckStops fault (language_of job) (S.remaining source.old) (told S.Source source.new)) }
+    ensures stops { IfErr result (λ fault.
+        CheckStops fault (language_of job) (S.remaining source.old) (told S.Source source.new)) }
     ensures refused { IfErr result IsRefusal }
 {
     let mut details = Details::none();
@@ -43,15 +44,16 @@ pub fn check<A: Allocator + Copy, S: Source>(
     check_expecting(alloc, job, source, &mut details, &mut near)
 }
 
-/// What `check` does, and what is known of a token that was unexpected: its kind, and the kinds of tokens that could
-/// have stood in its place. A kind is in that set exactly if some document begins with the tokens before that place and
-/// then a token of the kind, whatever it spells; limits, and what names and references stand for, are left aside. Where
-/// the document is accepted and where the fault is another one the set is empty, and no kind was found. What the details
-/// were before is dropped.
+/// What `check` does, and what is known of a token that was unexpected: its kind, and the kinds of tokens that
+/// could have stood in its place. A kind is in that set exactly if some document begins with the tokens before that
+/// place and then a token of the kind, whatever it spells; limits, and what names and references stand for, are
+/// left aside. Where the document is accepted and where the fault is another one the set is empty, and no kind was
+/// found. What the details were before is dropped.
 ///
-/// Of each refusal its place in its line is told too, where `near` asks for it (`Nearby`). Then as many bytes as the reader holds are kept beside it,
-/// one piece and 244; where there is no memory for them nothing is told. Of Turtle and TriG the token that is open is kept once more, and the place of
-/// each open bracket; where there is no memory for these, none is told.
+/// Of each refusal its place in its line is told too, where `near` asks for it (`Nearby`). Then as many bytes as
+/// the reader holds are kept beside it, one piece and 244; where there is no memory for them nothing is told. Of
+/// Turtle and TriG the token that is open is kept once more, and the place of each open bracket; where there is no
+/// memory for these, none is told.
 pub fn check_expecting<A: Allocator + Copy, S: Source>(
     alloc: A,
     job: Job<A>,
@@ -63,11 +65,14 @@ pub fn check_expecting<A: Allocator + Copy, S: Source>(
     requires source { S.has_failed source.old ≡ false }
     ensures accepted { IfOk result (IsAllAccepted (language_of job) (S.remaining source.old)) }
     ensures ended { OnOk result (S.has_ended source.new ≡ true) }
-    ensures stops { IfErr result (λ fault. CheckStops fault (language_of job) (S.remaining source.old) (told S.Source source.new)) }
+    ensures stops { IfErr result (λ fault.
+        CheckStops fault (language_of job) (S.remaining source.old) (told S.Source source.new)) }
     ensures refused { IfErr result IsRefusal }
     ensures none { OnOk result (NoDetails details.new) }
-    ensures expected { IfErr result (λ fault. ExpectsFor fault (language_of job) (trees_of job) (S.remaining source.old) (told S.Source source.new) details.new) }
-    ensures near { HandsOut near.old (TellsNear (language_of job).dialect (language_of job).limit result (S.remaining source.old) (told S.Source source.new)) near.new }
+    ensures expected { IfErr result (λ fault. ExpectsFor fault (language_of job) (trees_of job)
+        (S.remaining source.old) (told S.Source source.new) details.new) }
+    ensures near { HandsOut near.old (TellsNear (language_of job).dialect (language_of job).limit result
+        (S.remaining source.old) (told S.Source source.new)) near.new }
 {
     let mut job = job;
     let limits = job.limits();
@@ -117,7 +122,8 @@ fn check_with<A: Allocator + Copy, G: Passes<A>, S: Source>(
     ensures refused { IfErr result IsRefusal }
     ensures expected { RunExpects G.words G.trees (λ x. BeginsToRead G.words x reader) reader.scanner.limit result
         (S.remaining source.old) (told S.Source source.new) details.new }
-    ensures near { HandsOut near.old (TellsNear G.words.dialect reader.scanner.limit result (S.remaining source.old) (told S.Source source.new)) near.new }
+    ensures near { HandsOut near.old (TellsNear G.words.dialect reader.scanner.limit result (S.remaining source.old)
+        (told S.Source source.new)) near.new }
 {
     *details = Details::none();
     let asked = near.ask_again();

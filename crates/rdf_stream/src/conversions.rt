@@ -31,8 +31,8 @@ use std::alloc::Allocator;
 /// Reads a document of the job's format from the source, writes the lines of its quads to the drain with the job's
 /// escapes, its word in front of the names of nodes and its graph, and flushes it, also after a refusal.
 ///
-/// Before it asks the source for more, all lines that are due of the bytes so far have been handed to the drain (`prompt`),
-/// and so they have before a refusal or a failed read is reported.
+/// Before it asks the source for more, all lines that are due of the bytes so far have been handed to the drain
+/// (`prompt`), and so they have before a refusal or a failed read is reported.
 pub fn convert<A: Allocator + Copy, S: Source, D: Drain>(
     alloc: A,
     job: Job<A>,
@@ -42,10 +42,12 @@ pub fn convert<A: Allocator + Copy, S: Source, D: Drain>(
     requires more { S.has_ended source.old ≡ false }
     requires source { S.has_failed source.old ≡ false }
     requires drain { D.has_failed drain.old ≡ false }
-    ensures accepted { IfOk result (AcceptsAll (conversion_of job) (S.remaining source.old) (D.contents drain.old) (D.contents drain.new)) }
+    ensures accepted { IfOk result (AcceptsAll (conversion_of job) (S.remaining source.old) (D.contents drain.old)
+        (D.contents drain.new)) }
     ensures ended { OnOk result (S.has_ended source.new ≡ true) }
     ensures flushed { OnOk result (D.is_flushed drain.new ≡ true) }
-    ensures stops { IfErr result (λ fault. AsTold (StopsFor fault (conversion_of job)) S.Source D.Drain source.old source.new drain.old drain.new) }
+    ensures stops { IfErr result (λ fault.
+        AsTold (StopsFor fault (conversion_of job)) S.Source D.Drain source.old source.new drain.old drain.new) }
     ensures refused { IfErr result IsRefusal }
     ensures sent { IfErr result (λ fault. IsSentOn fault (D.is_flushed drain.new)) }
     ensures prompt { IsPrompt (conversion_of job) (S.remaining source.old) (told S.Source source.new)
@@ -56,7 +58,8 @@ pub fn convert<A: Allocator + Copy, S: Source, D: Drain>(
     convert_expecting(alloc, job, source, drain, &mut details, &mut near)
 }
 
-/// What `convert` does, and what is known of a token that was unexpected, and of the place of a refusal, as `check_expecting` says.
+/// What `convert` does, and what is known of a token that was unexpected, and of the place of a refusal, as
+/// `check_expecting` says.
 pub fn convert_expecting<A: Allocator + Copy, S: Source, D: Drain>(
     alloc: A,
     job: Job<A>,
@@ -68,17 +71,21 @@ pub fn convert_expecting<A: Allocator + Copy, S: Source, D: Drain>(
     requires more { S.has_ended source.old ≡ false }
     requires source { S.has_failed source.old ≡ false }
     requires drain { D.has_failed drain.old ≡ false }
-    ensures accepted { IfOk result (AcceptsAll (conversion_of job) (S.remaining source.old) (D.contents drain.old) (D.contents drain.new)) }
+    ensures accepted { IfOk result (AcceptsAll (conversion_of job) (S.remaining source.old) (D.contents drain.old)
+        (D.contents drain.new)) }
     ensures ended { OnOk result (S.has_ended source.new ≡ true) }
     ensures flushed { OnOk result (D.is_flushed drain.new ≡ true) }
-    ensures stops { IfErr result (λ fault. AsTold (StopsFor fault (conversion_of job)) S.Source D.Drain source.old source.new drain.old drain.new) }
+    ensures stops { IfErr result (λ fault.
+        AsTold (StopsFor fault (conversion_of job)) S.Source D.Drain source.old source.new drain.old drain.new) }
     ensures refused { IfErr result IsRefusal }
     ensures sent { IfErr result (λ fault. IsSentOn fault (D.is_flushed drain.new)) }
     ensures prompt { IsPrompt (conversion_of job) (S.remaining source.old) (told S.Source source.new)
         (D.contents drain.old) (D.contents drain.new) }
     ensures none { OnOk result (NoDetails details.new) }
-    ensures expected { IfErr result (λ fault. ExpectsFor fault (language_of job) (trees_of job) (S.remaining source.old) (told S.Source source.new) details.new) }
-    ensures near { HandsOut near.old (TellsNear (language_of job).dialect (language_of job).limit result (S.remaining source.old) (told S.Source source.new)) near.new }
+    ensures expected { IfErr result (λ fault. ExpectsFor fault (language_of job) (trees_of job)
+        (S.remaining source.old) (told S.Source source.new) details.new) }
+    ensures near { HandsOut near.old (TellsNear (language_of job).dialect (language_of job).limit result
+        (S.remaining source.old) (told S.Source source.new)) near.new }
 {
     let mut job = job;
     let limits = job.limits();
@@ -134,16 +141,21 @@ fn convert_with<A: Allocator + Copy, G: Passes<A>, S: Source, D: Drain>(
     requires more { S.has_ended source.old ≡ false }
     requires source { S.has_failed source.old ≡ false }
     requires drain { D.has_failed drain.old ≡ false }
-    ensures accepted { IfOk result (Converts G.words S.Source D.Drain reader (output_of output.entry) source.old drain.old drain.new) }
+    ensures accepted { IfOk result (Converts G.words S.Source D.Drain reader
+        (output_of output.entry) source.old drain.old drain.new) }
     ensures ended { OnOk result (S.has_ended source.new ≡ true) }
     ensures flushed { OnOk result (D.is_flushed drain.new ≡ true) }
-    ensures stops { IfErr result (ConversionStops G.words S.Source D.Drain reader (output_of output.entry) source.old source.new drain.old drain.new) }
+    ensures stops { IfErr result (ConversionStops G.words S.Source D.Drain reader
+        (output_of output.entry) source.old source.new drain.old drain.new) }
     ensures refused { IfErr result IsRefusal }
     ensures sent { IfErr result (λ fault. IsSentOn fault (D.is_flushed drain.new)) }
-    ensures prompt { KeepsPrompt G.words S.Source D.Drain reader (output_of output.entry) source.old source.new drain.old drain.new }
-    ensures expected { RunExpects G.words G.trees (λ x. Starts G.words x reader output.entry.lines.style) reader.scanner.limit result
+    ensures prompt { KeepsPrompt G.words S.Source D.Drain reader
+        (output_of output.entry) source.old source.new drain.old drain.new }
+    ensures expected { RunExpects G.words G.trees
+        (λ x. Starts G.words x reader output.entry.lines.style) reader.scanner.limit result
         (S.remaining source.old) (told S.Source source.new) details.new }
-    ensures near { HandsOut near.old (TellsNear G.words.dialect reader.scanner.limit result (S.remaining source.old) (told S.Source source.new)) near.new }
+    ensures near { HandsOut near.old (TellsNear G.words.dialect reader.scanner.limit result (S.remaining source.old)
+        (told S.Source source.new)) near.new }
 {
     *details = Details::none();
     let asked = near.ask_again();
@@ -180,8 +192,10 @@ pub(crate) fn convert_whole<A: Allocator + Copy, G: Passes<A>, D: Drain>(
     requires starts { (x : G.Setting) × Starts G.words x reader output.lines.style }
     requires styled { output.lines.style ≡ G.style }
     requires drain { D.has_failed drain.old ≡ false }
-    ensures accepted { IfOk result (ConvertsWhole G.words D.Drain reader (output_of output.entry) bytes.now drain.old drain.new) }
-    ensures stops { IfErr result (WholeStops G.words D.Drain reader (output_of output.entry) bytes.now drain.old drain.new) }
+    ensures accepted { IfOk result (ConvertsWhole G.words D.Drain reader
+        (output_of output.entry) bytes.now drain.old drain.new) }
+    ensures stops { IfErr result (WholeStops G.words D.Drain reader
+        (output_of output.entry) bytes.now drain.old drain.new) }
 {
     let mut reader = reader;
     let mut buffer = LineBuffer::new(alloc);
@@ -191,13 +205,17 @@ pub(crate) fn convert_whole<A: Allocator + Copy, G: Passes<A>, D: Drain>(
 
 impl<'a, A: Allocator + Copy, G: QuadGrammar + Passes<A>, D: Drain> Run<LineOut<'a, D, A>>
     for Reader<G, A> {
-    ghost taken = { λ first bytes now. IsConverting D.contents D.has_failed G.words G.style first.0 first.1 bytes now.0 now.1 };
+    ghost taken = { λ first bytes now.
+        IsConverting D.contents D.has_failed G.words G.style first.0 first.1 bytes now.0 now.1 };
 
-    ghost halts = { λ reported first bytes is_end now. RunHalts D.contents D.has_failed G.words reported first.0 first.1 bytes is_end now.1
+    ghost halts = { λ reported first bytes is_end now.
+        RunHalts D.contents D.has_failed G.words reported first.0 first.1 bytes is_end now.1
         × IsSentOn reported (D.is_flushed now.1.drain.now)
-        × Stands G.words (λ x. Begins D.has_failed G.words x first.0 first.1) first.0.scanner.limit reported bytes is_end now.0 };
+        × Stands G.words (λ x. Begins D.has_failed G.words x first.0 first.1) first.0.scanner.limit reported bytes
+        is_end now.0 };
 
-    ghost ends = { λ summary first bytes now. RunEnds D.contents D.has_failed D.is_flushed G.words summary first.0 first.1 bytes now.1 };
+    ghost ends = { λ summary first bytes now.
+        RunEnds D.contents D.has_failed D.is_flushed G.words summary first.0 first.1 bytes now.1 };
 
     ghost stays = { λ first now. OnlyGrows D.contents first.1 now.1 };
 
@@ -231,11 +249,14 @@ impl<'a, A: Allocator + Copy, G: QuadGrammar + Passes<A>, D: Drain> Run<LineOut<
 }
 
 impl<'a, A: Allocator + Copy, G: Passes<A>, D: Drain> Parts<LineOut<'a, D, A>> for Reader<G, A> {
-    ghost taken = { λ first bytes now. IsPutting D.contents D.has_failed G.words G.style first.0 first.1 bytes now.0 now.1 };
+    ghost taken = { λ first bytes now.
+        IsPutting D.contents D.has_failed G.words G.style first.0 first.1 bytes now.0 now.1 };
 
-    ghost halts = { λ reported first bytes is_end now. RunHalts D.contents D.has_failed G.words reported first.0 first.1 bytes is_end now.1
+    ghost halts = { λ reported first bytes is_end now.
+        RunHalts D.contents D.has_failed G.words reported first.0 first.1 bytes is_end now.1
         × IsSentOn reported (D.is_flushed now.1.drain.now)
-        × Stands G.words (λ x. Begins D.has_failed G.words x first.0 first.1) first.0.scanner.limit reported bytes is_end now.0 };
+        × Stands G.words (λ x. Begins D.has_failed G.words x first.0 first.1) first.0.scanner.limit reported bytes
+        is_end now.0 };
 
     ghost stays = { λ first now. OnlyGrows D.contents first.1 now.1 };
 

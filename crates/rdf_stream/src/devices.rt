@@ -87,7 +87,12 @@ pub struct In<R: Read> {
 impl<R: Read> Model for In<R> {
     ghost Value = { Reading };
 
-    ghost view = { λ s. record { remaining = R.remaining s.reader; last = s.last; has_ended = s.ended; has_failed = is_some s.read_error } };
+    ghost view = { λ s. record {
+      remaining = R.remaining s.reader;
+      last = s.last;
+      has_ended = s.ended;
+      has_failed = is_some s.read_error;
+    } };
 }
 
 impl<R: Read> In<R> {
@@ -160,7 +165,11 @@ pub struct Out<W: Write> {
 impl<W: Write> Model for Out<W> {
     ghost Value = { Written };
 
-    ghost view = { λ s. record { contents = W.contents s.writer; has_failed = is_some s.write_error; is_flushed = s.flushed } };
+    ghost view = { λ s. record {
+      contents = W.contents s.writer;
+      has_failed = is_some s.write_error;
+      is_flushed = s.flushed;
+    } };
 }
 
 impl<W: Write> Out<W> {

@@ -31,11 +31,13 @@ pub struct Evidence<N> {
     pub limits: Limits,
 }
 
-/// The lines that explain the refusal of the document of this name, each with its LF. The first has the form that editors read: the
-/// name, the line and the column of the place, where that is told; why the document is refused; the kind of the token that stands
-/// there, where it was found, and the kinds of tokens that could have stood there, where there are any; the innermost bracket that is open before
-/// an unexpected token, where it is told; where a token stops, its bad escape, or what the name or the reference is; and the limit that is passed. Where the place is told, its line follows with a caret, and what mostly
-/// causes such a refusal, where the bytes there tell it.
+/// The lines that explain the refusal of the document of this name, each with its LF. The first has the form that
+/// editors read: the name, the line and the column of the place, where that is told; why the document is refused;
+/// the kind of the token that stands there, where it was found, and the kinds of tokens that could have stood
+/// there, where there are any; the innermost bracket that is open before an unexpected token, where it is told;
+/// where a token stops, its bad escape, or what the name or the reference is; and the limit that is passed. Where
+/// the place is told, its line follows with a caret, and what mostly causes such a refusal, where the bytes there
+/// tell it.
 pub fn explain<A: Allocator + Copy>(
     alloc: A,
     name: &str,

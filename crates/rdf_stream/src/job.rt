@@ -19,9 +19,9 @@ use std::alloc::{Allocator, Global};
 use std::marker::Model;
 
 /// The format of a document, the base that its references are resolved against first, the prefixes that are bound
-/// before it, the escapes of what is written for it, the word in front of the names of nodes there, the graph that quads
-/// of the default graph get there, and the limits. The line formats have no relative references and no prefixes, so they
-/// do not look at base and bindings.
+/// before it, the escapes of what is written for it, the word in front of the names of nodes there, the graph that
+/// quads of the default graph get there, and the limits. The line formats have no relative references and no
+/// prefixes, so they do not look at base and bindings.
 #[derive(Drop)]
 pub struct Job<A: Allocator = Global> {
     form: Form,
@@ -55,8 +55,8 @@ impl<A: Allocator> Model for Job<A> {
 }
 
 impl<A: Allocator> Job<A> {
-    /// A job without bindings, in plain lines, without a word in front of the names of nodes and without a graph, or None
-    /// where the base has more bytes than the limits allow for an IRI. It takes no memory.
+    /// A job without bindings, in plain lines, without a word in front of the names of nodes and without a graph,
+    /// or None where the base has more bytes than the limits allow for an IRI. It takes no memory.
     pub fn new(form: Form, base: Option<Iri<A>>, limits: Limits) -> Option<Job<A>>
         ensures made { IfSome result (λ job. job ≡ record {
           form = form;
@@ -117,7 +117,8 @@ impl<A: Allocator> Job<A> {
         job
     }
 
-    /// The same, with this word in front of the names of nodes that are written, in place of the one that was. It takes no memory.
+    /// The same, with this word in front of the names of nodes that are written, in place of the one that was. It
+    /// takes no memory.
     pub fn with_node_prefix(self, prefix: NodePrefix<A>) -> Job<A>
         ensures { result ≡ record self { node_prefix = prefix } }
     {
@@ -211,7 +212,8 @@ impl<A: Allocator> Job<A> {
 }
 
 impl<A: Allocator + Copy> Job<A> {
-    /// What a reader of Turtle or TriG is asked for. It has the base and the bindings then, and the job has them no more.
+    /// What a reader of Turtle or TriG is asked for. It has the base and the bindings then, and the job has them no
+    /// more.
     pub(crate) fn options(&mut self, form: DocForm) -> Options<A>
         ensures options { result ≡ tree_job form self.old }
         ensures left { self.new ≡ record self.old { base = None; bindings = [] } }

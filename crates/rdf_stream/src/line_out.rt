@@ -89,8 +89,10 @@ impl<'a, D: Drain, A: Allocator + Copy> LineOut<'a, D, A> {
         requires live { D.has_failed self.old.drain.now ≡ false }
         ensures same { SameOut self.old self.new }
         ensures empty { OnOk result (self.new.buffer.now ≡ []) }
-        ensures ok { OnOk result (Appends (D.contents self.old.drain.now) (D.contents self.new.drain.now) self.old.buffer.now) }
-        ensures err { OnErr result (AppendsFront (D.contents self.old.drain.now) (D.contents self.new.drain.now) self.old.buffer.now) }
+        ensures ok { OnOk result (Appends (D.contents self.old.drain.now)
+            (D.contents self.new.drain.now) self.old.buffer.now) }
+        ensures err { OnErr result (AppendsFront (D.contents self.old.drain.now)
+            (D.contents self.new.drain.now) self.old.buffer.now) }
         ensures failed { D.has_failed self.new.drain.now ≡ is_err result }
     {
         put_all(self.drain, self.buffer.as_slice())?;
@@ -102,9 +104,11 @@ impl<'a, D: Drain, A: Allocator + Copy> LineOut<'a, D, A> {
     pub(crate) fn send(&mut self) -> Result<(), Failed>
         requires live { D.has_failed self.old.drain.now ≡ false }
         ensures same { SameOut self.old self.new }
-        ensures ok { OnOk result (Appends (D.contents self.old.drain.now) (D.contents self.new.drain.now) self.old.buffer.now) }
+        ensures ok { OnOk result (Appends (D.contents self.old.drain.now)
+            (D.contents self.new.drain.now) self.old.buffer.now) }
         ensures flushed { OnOk result (D.is_flushed self.new.drain.now ≡ true) }
-        ensures err { OnErr result (AppendsFront (D.contents self.old.drain.now) (D.contents self.new.drain.now) self.old.buffer.now) }
+        ensures err { OnErr result (AppendsFront (D.contents self.old.drain.now)
+            (D.contents self.new.drain.now) self.old.buffer.now) }
         ensures failed { D.has_failed self.new.drain.now ≡ is_err result }
     {
         self.hand_over()?;
@@ -116,9 +120,11 @@ impl<'a, D: Drain, A: Allocator + Copy> LineOut<'a, D, A> {
         requires live { D.has_failed self.old.drain.now ≡ false }
         ensures same { SameOut self.old self.new }
         ensures writes { OnOk result (Writes D.contents self.old (written_as ending lines.now) self.new) }
-        ensures few { OnOk result (length self.old.buffer.now < most_waiting → length self.new.buffer.now < most_waiting) }
+        ensures few { OnOk result (length self.old.buffer.now < most_waiting →
+            length self.new.buffer.now < most_waiting) }
         ensures live { OnOk result (D.has_failed self.new.drain.now ≡ false) }
-        ensures halts { IfErr result (λ reported. PutHalts D.contents D.has_failed reported self.old (written_as ending lines.now) self.new) }
+        ensures halts { IfErr result (λ reported.
+            PutHalts D.contents D.has_failed reported self.old (written_as ending lines.now) self.new) }
     {
         match ending {
             LineEnding::Lf => self.append_as_is(lines),
@@ -136,8 +142,11 @@ impl<'a, D: Drain, A: Allocator + Copy> LineOut<'a, D, A> {
         ensures within { IfOk result (λ n. n ≤ length text.now) }
         ensures same { SameOut self.old self.new }
         ensures drain { self.new.drain.now ≡ self.old.drain.now }
-        ensures passes { IfOk result (λ n. RewritesText G.words G.style reader.old (take n text.now) reader.new self.old.buffer.now self.new.buffer.now) }
-        ensures refused { OnErr result ((n : ℕ) × RewritesText G.words G.style reader.old (take n text.now) reader.new self.old.buffer.now self.new.buffer.now) }
+        ensures passes { IfOk result (λ n. RewritesText G.words G.style reader.old
+            (take n text.now) reader.new self.old.buffer.now self.new.buffer.now) }
+        ensures refused { OnErr result ((n : ℕ)
+            × RewritesText G.words G.style reader.old
+            (take n text.now) reader.new self.old.buffer.now self.new.buffer.now) }
     {
         G::pass_escaped(reader, text, ending, self.buffer)
     }
@@ -164,9 +173,11 @@ impl<'a, D: Drain, A: Allocator + Copy> LineOut<'a, D, A> {
         requires live { D.has_failed self.old.drain.now ≡ false }
         ensures same { SameOut self.old self.new }
         ensures writes { OnOk result (Writes D.contents self.old (without_crs lines.now) self.new) }
-        ensures few { OnOk result (length self.old.buffer.now < most_waiting → length self.new.buffer.now < most_waiting) }
+        ensures few { OnOk result (length self.old.buffer.now < most_waiting →
+            length self.new.buffer.now < most_waiting) }
         ensures live { OnOk result (D.has_failed self.new.drain.now ≡ false) }
-        ensures halts { IfErr result (λ reported. PutHalts D.contents D.has_failed reported self.old (without_crs lines.now) self.new) }
+        ensures halts { IfErr result (λ reported.
+            PutHalts D.contents D.has_failed reported self.old (without_crs lines.now) self.new) }
     {
         match put_without_crs(lines, self.buffer) {
             Ok(()) => {}
@@ -186,9 +197,11 @@ impl<'a, D: Drain, A: Allocator + Copy> LineOut<'a, D, A> {
         requires live { D.has_failed self.old.drain.now ≡ false }
         ensures same { SameOut self.old self.new }
         ensures writes { OnOk result (Writes D.contents self.old lines.now self.new) }
-        ensures few { OnOk result (length self.old.buffer.now < most_waiting → length self.new.buffer.now < most_waiting) }
+        ensures few { OnOk result (length self.old.buffer.now < most_waiting →
+            length self.new.buffer.now < most_waiting) }
         ensures live { OnOk result (D.has_failed self.new.drain.now ≡ false) }
-        ensures halts { IfErr result (λ reported. PutHalts D.contents D.has_failed reported self.old lines.now self.new) }
+        ensures halts { IfErr result (λ reported.
+            PutHalts D.contents D.has_failed reported self.old lines.now self.new) }
     {
         if lines.len() < COPIED_LEN {
             return self.copy(lines);
@@ -208,9 +221,11 @@ impl<'a, D: Drain, A: Allocator + Copy> LineOut<'a, D, A> {
         requires live { D.has_failed self.old.drain.now ≡ false }
         ensures same { SameOut self.old self.new }
         ensures writes { OnOk result (Writes D.contents self.old lines.now self.new) }
-        ensures few { OnOk result (length self.old.buffer.now < most_waiting → length self.new.buffer.now < most_waiting) }
+        ensures few { OnOk result (length self.old.buffer.now < most_waiting →
+            length self.new.buffer.now < most_waiting) }
         ensures live { OnOk result (D.has_failed self.new.drain.now ≡ false) }
-        ensures halts { IfErr result (λ reported. PutHalts D.contents D.has_failed reported self.old lines.now self.new) }
+        ensures halts { IfErr result (λ reported.
+            PutHalts D.contents D.has_failed reported self.old lines.now self.new) }
     {
         match self.buffer.append(lines) {
             Ok(()) => {}
@@ -230,8 +245,10 @@ impl<'a, D: Drain, A: Allocator + Copy> LineOut<'a, D, A> {
     #[inline(always)]
     fn put_line<C>(&mut self, quad: &QuadRef<'_>) -> Result<(), PutFault>
         requires live { D.has_failed self.old.drain.now ≡ false }
-        ensures taken { OnOk result (TakesBytes D.contents D.has_failed self.old (line_of self.old.form.lines quad.now) self.new) }
-        ensures left { OnErr result (LeavesBytes D.contents D.has_failed self.old (line_of self.old.form.lines quad.now) self.new) }
+        ensures taken { OnOk result (TakesBytes D.contents D.has_failed self.old
+            (line_of self.old.form.lines quad.now) self.new) }
+        ensures left { OnErr result (LeavesBytes D.contents D.has_failed self.old
+            (line_of self.old.form.lines quad.now) self.new) }
         ensures device { (D.has_failed self.new.drain.now ≡ true) ↔ (result ≡ Err PutFault.Device) }
     {
         match self.buffer.put_line_for::<(C, D)>(quad, self.form.lines) {
@@ -253,8 +270,10 @@ impl<'a, D: Drain, A: Allocator + Copy> LineOut<'a, D, A> {
     #[inline(always)]
     fn put_as_it_is(&mut self, quad: &QuadRef<'_>) -> Result<(), PutFault>
         requires live { D.has_failed self.old.drain.now ≡ false }
-        ensures taken { OnOk result (TakesBytes D.contents D.has_failed self.old (line_of self.old.form.lines quad.now) self.new) }
-        ensures left { OnErr result (LeavesBytes D.contents D.has_failed self.old (line_of self.old.form.lines quad.now) self.new) }
+        ensures taken { OnOk result (TakesBytes D.contents D.has_failed self.old
+            (line_of self.old.form.lines quad.now) self.new) }
+        ensures left { OnErr result (LeavesBytes D.contents D.has_failed self.old
+            (line_of self.old.form.lines quad.now) self.new) }
         ensures device { (D.has_failed self.new.drain.now ≡ true) ↔ (result ≡ Err PutFault.Device) }
     {
         if !self.buffer.put_short(quad, self.form.lines) {
@@ -273,8 +292,10 @@ impl<'a, D: Drain, A: Allocator + Copy> LineOut<'a, D, A> {
     #[inline(never)]
     fn put_long(&mut self, quad: &QuadRef<'_>) -> Result<(), PutFault>
         requires live { D.has_failed self.old.drain.now ≡ false }
-        ensures taken { OnOk result (TakesBytes D.contents D.has_failed self.old (line_of self.old.form.lines quad.now) self.new) }
-        ensures left { OnErr result (LeavesBytes D.contents D.has_failed self.old (line_of self.old.form.lines quad.now) self.new) }
+        ensures taken { OnOk result (TakesBytes D.contents D.has_failed self.old
+            (line_of self.old.form.lines quad.now) self.new) }
+        ensures left { OnErr result (LeavesBytes D.contents D.has_failed self.old
+            (line_of self.old.form.lines quad.now) self.new) }
         ensures device { (D.has_failed self.new.drain.now ≡ true) ↔ (result ≡ Err PutFault.Device) }
     {
         self.put_line::<AsItIs>(quad)
@@ -347,8 +368,10 @@ impl<'a, D: Drain, A: Allocator + Copy> LineOut<'a, D, A> {
     #[inline(never)]
     fn put_in_graph(&mut self, quad: &QuadRef<'_>) -> Result<(), PutFault>
         requires live { D.has_failed self.old.drain.now ≡ false }
-        ensures taken { OnOk result (TakesBytes D.contents D.has_failed self.old (line_bytes self.old.form (quad_of quad.now)) self.new) }
-        ensures left { OnErr result (LeavesBytes D.contents D.has_failed self.old (line_bytes self.old.form (quad_of quad.now)) self.new) }
+        ensures taken { OnOk result (TakesBytes D.contents D.has_failed self.old
+            (line_bytes self.old.form (quad_of quad.now)) self.new) }
+        ensures left { OnErr result (LeavesBytes D.contents D.has_failed self.old
+            (line_bytes self.old.form (quad_of quad.now)) self.new) }
         ensures device { (D.has_failed self.new.drain.now ≡ true) ↔ (result ≡ Err PutFault.Device) }
     {
         self.put_line::<InGraph>(&in_graph(quad, self.form.graph))
@@ -409,8 +432,9 @@ impl<'a, D: Drain, A: Allocator + Copy> QuadSink for LineOut<'a, D, A> {
         self.put_in_graph(quad)
     }
 
-    // A call, whose arguments are in registers. What most lines take calls nothing, and no call here is lent a quad, which
-    // would be made up in memory first (`see_quad` is gone once it is compiled). So few registers are saved.
+    // A call, whose arguments are in registers. What most lines take calls nothing, and no call here is lent a
+    // quad, which would be made up in memory first (`see_quad` is gone once it is compiled). So few registers are
+    // saved.
     #[inline(never)]
     fn put_iris(
         &mut self,
@@ -445,7 +469,8 @@ pub(crate) fn handed_over<A: Allocator + Copy, D: Drain>(
     }
 }
 
-/// Hands over what waits, sends it on, and says what is reported of the reader's fault: a failure of the drain comes first.
+/// Hands over what waits, sends it on, and says what is reported of the reader's fault: a failure of the drain
+/// comes first.
 pub(crate) fn stop<A: Allocator + Copy, D: Drain>(
     fault: Fault,
     lines: &mut LineOut<'_, D, A>,

@@ -11,8 +11,8 @@ use crate::pieces::piece_buffer;
 use rdf_iri::{Bindings, Limits, read_bindings};
 use std::alloc::Allocator;
 
-/// The bindings of a file that the source has. All its bytes are kept until its end, so a source without end comes to want
-/// of memory.
+/// The bindings of a file that the source has. All its bytes are kept until its end, so a source without end comes
+/// to want of memory.
 pub fn load_bindings<A: Allocator + Copy, S: Source>(
     alloc: A,
     limits: Limits,

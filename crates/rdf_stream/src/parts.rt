@@ -18,7 +18,8 @@ const FIRST_LEAST: usize = 8;
 /// From so many bytes on they are no more.
 const LAST_LEAST: usize = 4096;
 
-/// After so many tries in a row that passed no line with escapes, no more are made behind lines that were passed, up to the end of the piece.
+/// After so many tries in a row that passed no line with escapes, no more are made behind lines that were passed,
+/// up to the end of the piece.
 const MOST_TRIES: usize = 3;
 
 /// Takes the parts of pieces: passes what it can, and reads the others.
@@ -40,7 +41,8 @@ pub(crate) trait Parts<L> {
     /// Whether it passes text only where that is known to be ASCII.
     fn passes_ascii(&self, out: &L) -> bool;
 
-    /// Passes a front of the text, whose lines end so and which may be known to be ASCII, and answers how many bytes it has: none, or more.
+    /// Passes a front of the text, whose lines end so and which may be known to be ASCII, and answers how many
+    /// bytes it has: none, or more.
     fn pass_front(
         &mut self,
         text: &str,
@@ -53,7 +55,8 @@ pub(crate) trait Parts<L> {
         ensures within { IfOk result (λ n. n ≤ length text.now) }
         ensures takes { IfOk result (λ n. TakesMore taken (self.old, out.old) (take n text.now) (self.new, out.new)) }
         ensures stays { StaysOn stays (self.old, out.old) (self.new, out.new) }
-        ensures halts { IfErr result (λ f. HaltsWithin taken halts f (self.old, out.old) text.now (self.new, out.new)) };
+        ensures halts { IfErr result (λ f.
+            HaltsWithin taken halts f (self.old, out.old) text.now (self.new, out.new)) };
 
     /// The same of text for which other text is put.
     fn pass_escaped(
@@ -66,7 +69,8 @@ pub(crate) trait Parts<L> {
         ensures within { IfOk result (λ n. n ≤ length text.now) }
         ensures takes { IfOk result (λ n. TakesMore taken (self.old, out.old) (take n text.now) (self.new, out.new)) }
         ensures stays { StaysOn stays (self.old, out.old) (self.new, out.new) }
-        ensures halts { IfErr result (λ f. HaltsWithin taken halts f (self.old, out.old) text.now (self.new, out.new)) };
+        ensures halts { IfErr result (λ f.
+            HaltsWithin taken halts f (self.old, out.old) text.now (self.new, out.new)) };
 
     /// Reads a part.
     fn read_part(&mut self, part: &[u8], out: &mut L) -> Result<(), StreamFault>
@@ -74,7 +78,8 @@ pub(crate) trait Parts<L> {
         ensures takes { OnOk result (TakesMore taken (self.old, out.old) part.now (self.new, out.new)) }
         ensures few { OnOk result (count self.new ≤ most_bytes) }
         ensures stays { StaysOn stays (self.old, out.old) (self.new, out.new) }
-        ensures halts { IfErr result (λ f. HaltsWithin taken halts f (self.old, out.old) part.now (self.new, out.new)) };
+        ensures halts { IfErr result (λ f.
+            HaltsWithin taken halts f (self.old, out.old) part.now (self.new, out.new)) };
 }
 
 /// Takes a piece. What it begins with may be the rest of a part or of a character, and is read.
@@ -87,7 +92,8 @@ pub(crate) fn take_parts<L, R: Parts<L>>(
     ensures takes { OnOk result (TakesMore R.taken (run.old, out.old) piece.now (run.new, out.new)) }
     ensures few { OnOk result (R.count run.new ≤ most_bytes) }
     ensures stays { StaysOn R.stays (run.old, out.old) (run.new, out.new) }
-    ensures halts { IfErr result (λ f. HaltsOn R.taken R.halts f (run.old, out.old) (λ bytes. bytes ++ piece.now) false (run.new, out.new)) }
+    ensures halts { IfErr result (λ f.
+        HaltsOn R.taken R.halts f (run.old, out.old) (λ bytes. bytes ++ piece.now) false (run.new, out.new)) }
 {
     let len = run.part_len(piece, 0);
     match run.read_part(&piece[..len], out) {
@@ -108,7 +114,8 @@ fn take_rest<L, R: Parts<L>>(
     ensures takes { OnOk result (TakesMore R.taken (run.old, out.old) rest.now (run.new, out.new)) }
     ensures few { OnOk result (R.count run.new ≤ most_bytes) }
     ensures stays { StaysOn R.stays (run.old, out.old) (run.new, out.new) }
-    ensures halts { IfErr result (λ f. HaltsOn R.taken R.halts f (run.old, out.old) (λ bytes. bytes ++ rest.now) false (run.new, out.new)) }
+    ensures halts { IfErr result (λ f.
+        HaltsOn R.taken R.halts f (run.old, out.old) (λ bytes. bytes ++ rest.now) false (run.new, out.new)) }
 {
     let text = utf8_front(rest);
     let is_ascii = run.passes_ascii(out);
@@ -137,8 +144,9 @@ fn take_rest<L, R: Parts<L>>(
     Ok(())
 }
 
-// Passes a front of the text: in turn lines that stand as they are written and lines with any escapes, up to one that is neither. Where the text
-// begins with none of the former, the latter are tried in any case. Behind lines that were passed, they are tried while tries are left.
+// Passes a front of the text: in turn lines that stand as they are written and lines with any escapes, up to one
+// that is neither. Where the text begins with none of the former, the latter are tried in any case. Behind lines
+// that were passed, they are tried while tries are left.
 fn pass_some<L, R: Parts<L>>(
     run: &mut R,
     text: &str,
@@ -177,7 +185,8 @@ fn pass_some<L, R: Parts<L>>(
     }
 }
 
-// How many tries are left after one that passed so many bytes: one that passed none takes one, and one that passed some gives all back.
+// How many tries are left after one that passed so many bytes: one that passed none takes one, and one that passed
+// some gives all back.
 fn next_tries(tries: usize, passed: usize) -> usize {
     if passed > 0 {
         MOST_TRIES
@@ -195,7 +204,8 @@ fn ending_of(part: &[u8]) -> LineEnding {
     }
 }
 
-// How many bytes are read at least before the next try to pass some, by how many it was before the last one and what that passed.
+// How many bytes are read at least before the next try to pass some, by how many it was before the last one and
+// what that passed.
 fn next_least(least: usize, passed: usize) -> usize {
     if passed > 0 {
         0
@@ -206,7 +216,8 @@ fn next_least(least: usize, passed: usize) -> usize {
     }
 }
 
-// What may be passed from a place on: what is left of the last one, or else all of the text, or its front that is ASCII.
+// What may be passed from a place on: what is left of the last one, or else all of the text, or its front that is
+// ASCII.
 fn front_from<'a>(left: &'a str, text: &'a str, at: usize, is_ascii: bool) -> &'a str
     requires { MayPass text.now at is_ascii left.now }
     ensures { MayPass text.now at is_ascii result.now }

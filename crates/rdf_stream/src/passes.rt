@@ -25,9 +25,11 @@ pub(crate) trait Passes<A: Allocator + Copy>: QuadGrammar + Foresees + Holds + D
     /// Passes a front of the text, whose lines end so and which may be empty, and answers how many bytes it has.
     fn pass(reader: &mut Reader<Self, A>, text: &str, ending: LineEnding) -> usize
         ensures within { result ≤ length text.now }
-        ensures passes { PassesText Self.words style (written_as ending (take result text.now)) reader.old (take result text.now) reader.new };
+        ensures passes { PassesText Self.words style (written_as ending (take result text.now)) reader.old
+            (take result text.now) reader.new };
 
-    /// The same of text with any escapes, for which what is written is appended. Where memory is refused, some of it may have been passed.
+    /// The same of text with any escapes, for which what is written is appended. Where memory is refused, some of
+    /// it may have been passed.
     fn pass_escaped(
         reader: &mut Reader<Self, A>,
         text: &str,
@@ -35,8 +37,10 @@ pub(crate) trait Passes<A: Allocator + Copy>: QuadGrammar + Foresees + Holds + D
         out: &mut LineBuffer<A>,
     ) -> Result<usize, AllocError>
         ensures within { IfOk result (λ n. n ≤ length text.now) }
-        ensures passes { IfOk result (λ n. RewritesText Self.words style reader.old (take n text.now) reader.new out.old out.new) }
-        ensures refused { OnErr result ((n : ℕ) × RewritesText Self.words style reader.old (take n text.now) reader.new out.old out.new) };
+        ensures passes { IfOk result (λ n.
+            RewritesText Self.words style reader.old (take n text.now) reader.new out.old out.new) }
+        ensures refused { OnErr result ((n : ℕ)
+            × RewritesText Self.words style reader.old (take n text.now) reader.new out.old out.new) };
 }
 
 impl<A: Allocator + Copy> Passes<A> for LineGrammar<A> {

@@ -38,7 +38,8 @@ pub(crate) trait Run<L> {
         ensures count { OnOk result (count self.new ≡ count self.old + length piece.now) }
         ensures few { OnOk result (count self.new ≤ most_bytes) }
         ensures stays { StaysOn stays (self.old, out.old) (self.new, out.new) }
-        ensures halts { IfErr result (λ f. HaltsOn taken halts f (self.old, out.old) (λ bytes. bytes ++ piece.now) false (self.new, out.new)) };
+        ensures halts { IfErr result (λ f.
+            HaltsOn taken halts f (self.old, out.old) (λ bytes. bytes ++ piece.now) false (self.new, out.new)) };
 
     /// Of the bytes that were taken a refusal may still stand in so many of the last, or in fewer.
     fn open(&self) -> u64;
@@ -48,7 +49,8 @@ pub(crate) trait Run<L> {
         requires begun { HasBegun taken (self.old, out.old) }
         ensures ends { IfOk result (λ summary. ReadsEnd taken ends summary (self.old, out.old) (self.new, out.new)) }
         ensures stays { StaysOn stays (self.old, out.old) (self.new, out.new) }
-        ensures halts { IfErr result (λ f. HaltsOn taken halts f (self.old, out.old) (λ bytes. bytes) true (self.new, out.new)) };
+        ensures halts { IfErr result (λ f.
+            HaltsOn taken halts f (self.old, out.old) (λ bytes. bytes) true (self.new, out.new)) };
 }
 
 /// Reads the source to its end, and tells of the place of a refusal where that is asked for.
@@ -67,12 +69,16 @@ pub(crate) fn read_pieces<A: Allocator + Copy, S: Source, L, R: Run<L>>(
     requires kept { WatchesAll watching.old [] }
     requires untold { watching.old.near ≡ None }
     ensures stays { R.stays (run.old, out.old) (run.new, out.new) }
-    ensures near { IfSome watching.new.near (TellsNear watching.old.words.dialect watching.old.words.limit result (S.remaining source.old) (told S.Source source.new)) }
+    ensures near { IfSome watching.new.near
+        (TellsNear watching.old.words.dialect watching.old.words.limit result (S.remaining source.old)
+        (told S.Source source.new)) }
     ensures unasked { watching.old.watch ≡ None → watching.new.near ≡ None }
     ensures read { IfOk result (λ summary.
-        ReadsAll R.ends (S.remaining source.old) (told S.Source source.new) summary (run.old, out.old) (run.new, out.new)) }
+        ReadsAll R.ends (S.remaining source.old) (told S.Source source.new) summary (run.old, out.old)
+        (run.new, out.new)) }
     ensures stops { IfErr result (λ f.
-        ReadStops R.taken R.halts f (S.remaining source.old) (told S.Source source.new) (run.old, out.old) (run.new, out.new)) }
+        ReadStops R.taken R.halts f (S.remaining source.old) (told S.Source source.new) (run.old, out.old)
+        (run.new, out.new)) }
     ensures before { TakenBefore R.taken R.stays (S.remaining source.old) (told S.Source source.new)
         (run.old, out.old) (run.new, out.new) }
 {
@@ -107,8 +113,10 @@ pub(crate) fn read_bytes<L, R: Run<L>>(
     out: &mut L,
 ) -> Result<Summary, StreamFault>
     requires begun { R.taken (run.old, out.old) [] (run.old, out.old) }
-    ensures read { IfOk result (λ summary. ReadsAll R.ends (Some bytes.now) (at_end true) summary (run.old, out.old) (run.new, out.new)) }
-    ensures stops { IfErr result (λ f. (ended : Bool) × ReadStops R.taken R.halts f (Some bytes.now) (at_end ended) (run.old, out.old) (run.new, out.new)) }
+    ensures read { IfOk result (λ summary.
+        ReadsAll R.ends (Some bytes.now) (at_end true) summary (run.old, out.old) (run.new, out.new)) }
+    ensures stops { IfErr result (λ f. (ended : Bool)
+        × ReadStops R.taken R.halts f (Some bytes.now) (at_end ended) (run.old, out.old) (run.new, out.new)) }
 {
     match run.take(bytes, out) {
         Ok(()) => run.end(out),

@@ -21,10 +21,12 @@ use rdf_lines::{LineBuffer, Style};
 use rdf_terms::Dialect;
 use std::alloc::Allocator;
 
-/// Reads the tokens of the source in the dialect of the job's format, and writes a line of each but the end to the drain:
-/// where it begins, its number of characters, and the name of its kind. It flushes the drain, also after a refusal. No rule of a grammar is looked at.
+/// Reads the tokens of the source in the dialect of the job's format, and writes a line of each but the end to the
+/// drain: where it begins, its number of characters, and the name of its kind. It flushes the drain, also after a
+/// refusal. No rule of a grammar is looked at.
 ///
-/// The lines are handed over as `convert` does it: before it asks the source for more, and before a refusal or a failed read is reported.
+/// The lines are handed over as `convert` does it: before it asks the source for more, and before a refusal or a
+/// failed read is reported.
 pub fn show<A: Allocator + Copy, S: Source, D: Drain>(
     alloc: A,
     job: Job<A>,
@@ -34,10 +36,12 @@ pub fn show<A: Allocator + Copy, S: Source, D: Drain>(
     requires more { S.has_ended source.old ≡ false }
     requires source { S.has_failed source.old ≡ false }
     requires drain { D.has_failed drain.old ≡ false }
-    ensures accepted { IfOk result (ShowsAll job (S.remaining source.old) (D.contents drain.old) (D.contents drain.new)) }
+    ensures accepted { IfOk result (ShowsAll job (S.remaining source.old) (D.contents drain.old)
+        (D.contents drain.new)) }
     ensures ended { OnOk result (S.has_ended source.new ≡ true) }
     ensures flushed { OnOk result (D.is_flushed drain.new ≡ true) }
-    ensures stops { IfErr result (λ fault. AsTold (ShowStops fault job) S.Source D.Drain source.old source.new drain.old drain.new) }
+    ensures stops { IfErr result (λ fault.
+        AsTold (ShowStops fault job) S.Source D.Drain source.old source.new drain.old drain.new) }
     ensures refused { IfErr result IsRefusal }
     ensures sent { IfErr result (λ fault. IsSentOn fault (D.is_flushed drain.new)) }
 {
@@ -56,13 +60,16 @@ pub fn show_near<A: Allocator + Copy, S: Source, D: Drain>(
     requires more { S.has_ended source.old ≡ false }
     requires source { S.has_failed source.old ≡ false }
     requires drain { D.has_failed drain.old ≡ false }
-    ensures accepted { IfOk result (ShowsAll job (S.remaining source.old) (D.contents drain.old) (D.contents drain.new)) }
+    ensures accepted { IfOk result (ShowsAll job (S.remaining source.old) (D.contents drain.old)
+        (D.contents drain.new)) }
     ensures ended { OnOk result (S.has_ended source.new ≡ true) }
     ensures flushed { OnOk result (D.is_flushed drain.new ≡ true) }
-    ensures stops { IfErr result (λ fault. AsTold (ShowStops fault job) S.Source D.Drain source.old source.new drain.old drain.new) }
+    ensures stops { IfErr result (λ fault.
+        AsTold (ShowStops fault job) S.Source D.Drain source.old source.new drain.old drain.new) }
     ensures refused { IfErr result IsRefusal }
     ensures sent { IfErr result (λ fault. IsSentOn fault (D.is_flushed drain.new)) }
-    ensures near { HandsOut near.old (TellsNear (dialect_of job.form) job.limits.token result (S.remaining source.old) (told S.Source source.new)) near.new }
+    ensures near { HandsOut near.old (TellsNear (dialect_of job.form) job.limits.token result (S.remaining source.old)
+        (told S.Source source.new)) near.new }
 {
     match dialect(job.form()) {
         Dialect::Lines => {
@@ -90,13 +97,16 @@ fn show_in<T: Spoken + Drop, A: Allocator + Copy, S: Source, D: Drain>(
     requires more { S.has_ended source.old ≡ false }
     requires source { S.has_failed source.old ≡ false }
     requires drain { D.has_failed drain.old ≡ false }
-    ensures accepted { IfOk result (ShowsAll job.now (S.remaining source.old) (D.contents drain.old) (D.contents drain.new)) }
+    ensures accepted { IfOk result (ShowsAll job.now (S.remaining source.old) (D.contents drain.old)
+        (D.contents drain.new)) }
     ensures ended { OnOk result (S.has_ended source.new ≡ true) }
     ensures flushed { OnOk result (D.is_flushed drain.new ≡ true) }
-    ensures stops { IfErr result (λ fault. AsTold (ShowStops fault job.now) S.Source D.Drain source.old source.new drain.old drain.new) }
+    ensures stops { IfErr result (λ fault.
+        AsTold (ShowStops fault job.now) S.Source D.Drain source.old source.new drain.old drain.new) }
     ensures refused { IfErr result IsRefusal }
     ensures sent { IfErr result (λ fault. IsSentOn fault (D.is_flushed drain.new)) }
-    ensures near { HandsOut near.old (TellsNear (dialect_of job.now.form) job.now.limits.token result (S.remaining source.old) (told S.Source source.new)) near.new }
+    ensures near { HandsOut near.old (TellsNear (dialect_of job.now.form) job.now.limits.token result
+        (S.remaining source.old) (told S.Source source.new)) near.new }
 {
     let asked = near.ask_again();
     let mut piece = piece_buffer(alloc)?;
@@ -121,10 +131,12 @@ impl<'a, T: Spoken + Drop, D: Drain, A: Allocator + Copy> Run<LineOut<'a, D, A>>
     for Reader<TokenGrammar<T>, A> {
     ghost taken = { λ first bytes now. IsShowing D.contents D.has_failed T.spoken first.0 first.1 bytes now.0 now.1 };
 
-    ghost halts = { λ reported first bytes is_end now. ShowHalts D.contents D.has_failed T.spoken reported first.0 first.1 bytes is_end now.1
+    ghost halts = { λ reported first bytes is_end now.
+        ShowHalts D.contents D.has_failed T.spoken reported first.0 first.1 bytes is_end now.1
         × IsSentOn reported (D.is_flushed now.1.drain.now) };
 
-    ghost ends = { λ summary first bytes now. ShowEnds D.contents D.has_failed D.is_flushed T.spoken summary first.0 first.1 bytes now.1 };
+    ghost ends = { λ summary first bytes now.
+        ShowEnds D.contents D.has_failed D.is_flushed T.spoken summary first.0 first.1 bytes now.1 };
 
     ghost stays = { λ first now. SameOut first.1 now.1 };
 

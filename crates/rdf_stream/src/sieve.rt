@@ -117,8 +117,8 @@ impl<'a, A: Allocator + Copy> Sieve<'a, A> {
         }
     }
 
-    /// Sifts the lines of a block that begins there, if there are some. They are tried at once first, then in groups, and
-    /// the lines of a group in which one is bad one by one: so no line is tried more than three times.
+    /// Sifts the lines of a block that begins there, if there are some. They are tried at once first, then in
+    /// groups, and the lines of a group in which one is bad one by one: so no line is tried more than three times.
     pub(crate) fn sift<D: Drain, B: Drain>(
         &mut self,
         start: LineStart,
@@ -130,8 +130,10 @@ impl<'a, A: Allocator + Copy> Sieve<'a, A> {
         requires room { HasRoom start block.now }
         requires live { D.has_failed drain.old ≡ false }
         requires bad_live { B.has_failed bad.old ≡ false }
-        ensures sifted { IfOk result (λ _. HasSifted D.Drain B.Drain (start_of start) self.old drain.old bad.old (split_lines block.now) self.new drain.new bad.new) }
-        ensures fails { IfErr result (λ f. SiftFails D.Drain B.Drain f (start_of start) self.old drain.old bad.old (split_lines block.now) self.new drain.new bad.new) }
+        ensures sifted { IfOk result (λ _. HasSifted D.Drain B.Drain (start_of start) self.old drain.old bad.old
+            (split_lines block.now) self.new drain.new bad.new) }
+        ensures fails { IfErr result (λ f. SiftFails D.Drain B.Drain f (start_of start) self.old drain.old bad.old
+            (split_lines block.now) self.new drain.new bad.new) }
     {
         if block.is_empty() {
             return Ok(());
@@ -155,8 +157,10 @@ impl<'a, A: Allocator + Copy> Sieve<'a, A> {
         requires room { HasRoom start block.now }
         requires live { D.has_failed drain.old ≡ false }
         requires bad_live { B.has_failed bad.old ≡ false }
-        ensures sifted { IfOk result (λ _. HasSifted D.Drain B.Drain (start_of start) self.old drain.old bad.old (split_lines block.now) self.new drain.new bad.new) }
-        ensures fails { IfErr result (λ f. SiftFails D.Drain B.Drain f (start_of start) self.old drain.old bad.old (split_lines block.now) self.new drain.new bad.new) }
+        ensures sifted { IfOk result (λ _. HasSifted D.Drain B.Drain (start_of start) self.old drain.old bad.old
+            (split_lines block.now) self.new drain.new bad.new) }
+        ensures fails { IfErr result (λ f. SiftFails D.Drain B.Drain f (start_of start) self.old drain.old bad.old
+            (split_lines block.now) self.new drain.new bad.new) }
     {
         let mut place = start;
         let mut rest = block;
@@ -185,8 +189,10 @@ impl<'a, A: Allocator + Copy> Sieve<'a, A> {
         requires room { HasRoom start group.now }
         requires live { D.has_failed drain.old ≡ false }
         requires bad_live { B.has_failed bad.old ≡ false }
-        ensures sifted { IfOk result (λ _. HasSifted D.Drain B.Drain (start_of start) self.old drain.old bad.old (split_lines group.now) self.new drain.new bad.new) }
-        ensures fails { IfErr result (λ f. SiftFails D.Drain B.Drain f (start_of start) self.old drain.old bad.old (split_lines group.now) self.new drain.new bad.new) }
+        ensures sifted { IfOk result (λ _. HasSifted D.Drain B.Drain (start_of start) self.old drain.old bad.old
+            (split_lines group.now) self.new drain.new bad.new) }
+        ensures fails { IfErr result (λ f. SiftFails D.Drain B.Drain f (start_of start) self.old drain.old bad.old
+            (split_lines group.now) self.new drain.new bad.new) }
     {
         match self.put_good(group, drain) {
             Ok(None) => Ok(()),
@@ -207,8 +213,10 @@ impl<'a, A: Allocator + Copy> Sieve<'a, A> {
         requires room { HasRoom start block.now }
         requires live { D.has_failed drain.old ≡ false }
         requires bad_live { B.has_failed bad.old ≡ false }
-        ensures sifted { IfOk result (λ _. HasSifted D.Drain B.Drain (start_of start) self.old drain.old bad.old (split_lines block.now) self.new drain.new bad.new) }
-        ensures fails { IfErr result (λ f. SiftFails D.Drain B.Drain f (start_of start) self.old drain.old bad.old (split_lines block.now) self.new drain.new bad.new) }
+        ensures sifted { IfOk result (λ _. HasSifted D.Drain B.Drain (start_of start) self.old drain.old bad.old
+            (split_lines block.now) self.new drain.new bad.new) }
+        ensures fails { IfErr result (λ f. SiftFails D.Drain B.Drain f (start_of start) self.old drain.old bad.old
+            (split_lines block.now) self.new drain.new bad.new) }
     {
         let mut at = start;
         let mut rest = block;
@@ -236,8 +244,10 @@ impl<'a, A: Allocator + Copy> Sieve<'a, A> {
         requires room { HasRoom start line.now }
         requires live { D.has_failed drain.old ≡ false }
         requires bad_live { B.has_failed bad.old ≡ false }
-        ensures sifted { IfOk result (λ _. HasSifted D.Drain B.Drain (start_of start) self.old drain.old bad.old (line.now ∷ []) self.new drain.new bad.new) }
-        ensures fails { IfErr result (λ f. SiftFails D.Drain B.Drain f (start_of start) self.old drain.old bad.old (line.now ∷ []) self.new drain.new bad.new) }
+        ensures sifted { IfOk result (λ _. HasSifted D.Drain B.Drain (start_of start) self.old drain.old bad.old
+            (line.now ∷ []) self.new drain.new bad.new) }
+        ensures fails { IfErr result (λ f. SiftFails D.Drain B.Drain f (start_of start) self.old drain.old bad.old
+            (line.now ∷ []) self.new drain.new bad.new) }
     {
         match self.put_good(line, drain) {
             Ok(None) => Ok(()),
@@ -246,7 +256,8 @@ impl<'a, A: Allocator + Copy> Sieve<'a, A> {
         }
     }
 
-    // Puts the lines of the quads of a good line, or of lines that are all good. Where they are none, it answers why, and puts nothing.
+    // Puts the lines of the quads of a good line, or of lines that are all good. Where they are none, it answers
+    // why, and puts nothing.
     fn put_good<D: Drain>(
         &mut self,
         bytes: &[u8],
@@ -254,8 +265,10 @@ impl<'a, A: Allocator + Copy> Sieve<'a, A> {
     ) -> Result<Option<Fault>, StreamFault>
         requires styled { self.old.output.lines.style ≡ Style.Kept }
         requires live { D.has_failed drain.old ≡ false }
-        ensures good { IfOk result (λ fault. fault ≡ None → PutsGood D.Drain self.old drain.old bytes.now self.new drain.new) }
-        ensures bad { IfOk result (λ fault. IfSome fault (λ f. PutsNone self.old drain.old bytes.now f self.new drain.new)) }
+        ensures good { IfOk result (λ fault.
+            fault ≡ None → PutsGood D.Drain self.old drain.old bytes.now self.new drain.new) }
+        ensures bad { IfOk result (λ fault.
+            IfSome fault (λ f. PutsNone self.old drain.old bytes.now f self.new drain.new)) }
         ensures fails { IfErr result (λ f. PutGoodFails D.Drain f self.old drain.old bytes.now self.new drain.new) }
     {
         let converted = match self.convert(bytes) {

@@ -23,14 +23,15 @@ pub enum Sight {
     Token(Kind, u64),
     /// No token: one could begin with so many of the bytes, and with no more.
     Stop(u64),
-    /// A token, but for an escape that stands for no character allowed there. So many bytes of the token stand before it.
+    /// A token, but for an escape that stands for no character allowed there. So many bytes of the token stand
+    /// before it.
     BadEscape(u64),
     /// None of these.
     Unknown,
 }
 
-/// What the bytes so far begin with: more bytes decide, a token, no token, one with a bad escape, which begins at this byte
-/// of the scanner's, or none of these.
+/// What the bytes so far begin with: more bytes decide, a token, no token, one with a bad escape, which begins at
+/// this byte of the scanner's, or none of these.
 #[derive(Clone, Copy)]
 enum Seen {
     Open,

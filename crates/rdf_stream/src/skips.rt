@@ -38,10 +38,11 @@ pub struct SkipSummary {
     pub bytes: u64,
 }
 
-/// Reads a document of the job's format, N-Triples or N-Quads, and goes on after bad lines: it writes to the drain what `convert`
-/// writes for the document without them, and puts them into `bad`, in order: in front of each a comment, `# REASON at byte N, line L`,
-/// by the place in the whole document, and the line as it stands. A line is bad where by itself it is no document within the limits.
-/// Both drains are flushed at the end, but not after a fault.
+/// Reads a document of the job's format, N-Triples or N-Quads, and goes on after bad lines: it writes to the drain
+/// what `convert` writes for the document without them, and puts them into `bad`, in order: in front of each a
+/// comment, `# REASON at byte N, line L`, by the place in the whole document, and the line as it stands. A line is
+/// bad where by itself it is no document within the limits. Both drains are flushed at the end, but not after a
+/// fault.
 ///
 /// Of the bytes it keeps one piece of the source and the longest line, and the lines of their quads.
 pub fn convert_skipping<A: Allocator + Copy, S: Source, D: Drain, B: Drain>(
@@ -56,13 +57,16 @@ pub fn convert_skipping<A: Allocator + Copy, S: Source, D: Drain, B: Drain>(
     requires source { S.has_failed source.old ≡ false }
     requires drain { D.has_failed drain.old ≡ false }
     requires bad { B.has_failed bad.old ≡ false }
-    ensures skipped { IfOk result (SkipsAll (conversion_of job) (S.remaining source.old) (D.contents drain.old) (D.contents drain.new)
+    ensures skipped { IfOk result (SkipsAll (conversion_of job) (S.remaining source.old) (D.contents drain.old)
+        (D.contents drain.new)
         (B.contents bad.old) (B.contents bad.new)) }
     ensures ended { OnOk result (S.has_ended source.new ≡ true) }
     ensures flushed { OnOk result (D.is_flushed drain.new ≡ true) }
     ensures bad_flushed { OnOk result (B.is_flushed bad.new ≡ true) }
-    ensures stops { IfErr result (λ fault. SkipStops fault (conversion_of job) (S.remaining source.old) (told S.Source source.new)
-        (D.contents drain.old) (D.contents drain.new) (B.contents bad.old) (B.contents bad.new) (D.has_failed drain.new) (B.has_failed bad.new)) }
+    ensures stops { IfErr result (λ fault.
+        SkipStops fault (conversion_of job) (S.remaining source.old) (told S.Source source.new)
+        (D.contents drain.old) (D.contents drain.new) (B.contents bad.old) (B.contents bad.new)
+        (D.has_failed drain.new) (B.has_failed bad.new)) }
 {
     match job.form().kind() {
         Kind::Line(form) => {
@@ -88,9 +92,11 @@ fn skip_pieces<'a, A: Allocator + Copy, S: Source, D: Drain, B: Drain>(
     requires room { 0 < length piece.old }
     requires styled { held.old.sieve.output.lines.style ≡ Style.Kept }
     requires begun { IsSkipping D.Drain B.Drain (held.old, drain.old, bad.old) [] (held.old, drain.old, bad.old) }
-    ensures read { IfOk result (λ summary. ReadsAll (SkipEnds D.Drain B.Drain) (S.remaining source.old) (told S.Source source.new) summary
+    ensures read { IfOk result (λ summary.
+        ReadsAll (SkipEnds D.Drain B.Drain) (S.remaining source.old) (told S.Source source.new) summary
         (held.old, drain.old, bad.old) (held.new, drain.new, bad.new)) }
-    ensures stops { IfErr result (λ f. ReadStops (IsSkipping D.Drain B.Drain) (SkipHalts D.Drain B.Drain) f (S.remaining source.old) (told S.Source source.new)
+    ensures stops { IfErr result (λ f. ReadStops (IsSkipping D.Drain B.Drain) (SkipHalts D.Drain B.Drain) f
+        (S.remaining source.old) (told S.Source source.new)
         (held.old, drain.old, bad.old) (held.new, drain.new, bad.new)) }
 {
     loop {
@@ -143,11 +149,13 @@ impl<'a, A: Allocator + Copy> Held<'a, A> {
     ) -> Result<(), StreamFault>
         requires styled { self.old.sieve.output.lines.style ≡ Style.Kept }
         requires begun { HasBegun (IsSkipping D.Drain B.Drain) (self.old, drain.old, bad.old) }
-        ensures takes { OnOk result (TakesMore (IsSkipping D.Drain B.Drain) (self.old, drain.old, bad.old) piece.now (self.new, drain.new, bad.new)) }
+        ensures takes { OnOk result (TakesMore (IsSkipping D.Drain B.Drain) (self.old, drain.old, bad.old) piece.now
+            (self.new, drain.new, bad.new)) }
         ensures count { OnOk result (self.new.bytes ≡ self.old.bytes + length piece.now) }
         ensures few { OnOk result (self.new.bytes ≤ most_bytes) }
         ensures styled { OnOk result (self.new.sieve.output ≡ self.old.sieve.output) }
-        ensures halts { IfErr result (λ f. HaltsOn (IsSkipping D.Drain B.Drain) (SkipHalts D.Drain B.Drain) f (self.old, drain.old, bad.old)
+        ensures halts { IfErr result (λ f.
+            HaltsOn (IsSkipping D.Drain B.Drain) (SkipHalts D.Drain B.Drain) f (self.old, drain.old, bad.old)
             (λ bytes. bytes ++ piece.now) false (self.new, drain.new, bad.new)) }
     {
         let start = self.start();
@@ -189,8 +197,10 @@ impl<'a, A: Allocator + Copy> Held<'a, A> {
         requires room { sieves.HasRoom start (self.old.part.items ++ front.now) }
         requires live { D.has_failed drain.old ≡ false }
         requires bad_live { B.has_failed bad.old ≡ false }
-        ensures sifts { IfOk result (λ _. sieves.SiftsFront D.Drain B.Drain (sieves.start_of start) self.old drain.old bad.old front.now self.new drain.new bad.new) }
-        ensures fails { IfErr result (λ f. sieves.SiftFrontFails D.Drain B.Drain f (sieves.start_of start) self.old drain.old bad.old front.now self.new drain.new bad.new) }
+        ensures sifts { IfOk result (λ _. sieves.SiftsFront D.Drain B.Drain
+            (sieves.start_of start) self.old drain.old bad.old front.now self.new drain.new bad.new) }
+        ensures fails { IfErr result (λ f. sieves.SiftFrontFails D.Drain B.Drain f
+            (sieves.start_of start) self.old drain.old bad.old front.now self.new drain.new bad.new) }
     {
         if self.part.as_slice().is_empty() {
             return self.sieve.sift(start, front, drain, bad);
@@ -221,10 +231,15 @@ impl<'a, A: Allocator + Copy> Held<'a, A> {
         requires room { sieves.HasRoom start (self.old.part.items ++ rest.now) }
         requires live { D.has_failed drain.old ≡ false }
         requires bad_live { B.has_failed bad.old ≡ false }
-        ensures sifted { IfOk result (λ _. HasSifted D.Drain B.Drain (sieves.start_of start) self.old.sieve drain.old bad.old (split_lines (self.old.part.items ++ rest.now)) self.new.sieve drain.new bad.new) }
+        ensures sifted { IfOk result (λ _. HasSifted D.Drain B.Drain
+            (sieves.start_of start) self.old.sieve drain.old bad.old (split_lines (self.old.part.items
+            ++ rest.now)) self.new.sieve drain.new bad.new) }
         ensures none { IfOk result (λ _. sieves.HoldsNone self.old self.new) }
-        ensures next { IfOk result (λ next. sieves.start_of next ≡ place_after (sieves.start_of start) (self.old.part.items ++ rest.now)) }
-        ensures fails { IfErr result (λ f. SiftFails D.Drain B.Drain f (sieves.start_of start) self.old.sieve drain.old bad.old (split_lines (self.old.part.items ++ rest.now)) self.new.sieve drain.new bad.new) }
+        ensures next { IfOk result (λ next.
+            sieves.start_of next ≡ place_after (sieves.start_of start) (self.old.part.items ++ rest.now)) }
+        ensures fails { IfErr result (λ f. SiftFails D.Drain B.Drain f
+            (sieves.start_of start) self.old.sieve drain.old bad.old (split_lines (self.old.part.items
+            ++ rest.now)) self.new.sieve drain.new bad.new) }
     {
         match self.part.extend_from_slice(rest) {
             Ok(()) => {}
@@ -255,9 +270,13 @@ impl<'a, A: Allocator + Copy> Held<'a, A> {
     fn count(&mut self, piece: &[u8]) -> Result<(), StreamFault>
         requires few { self.old.bytes ≤ most_bytes }
         requires lines { self.old.line ≤ self.old.bytes + 1 }
-        ensures counts { IfOk result (λ _. self.new ≡ record self.old { bytes = self.old.bytes + length piece.now; line = self.old.line + count_by (λ b. b == 10) piece.now }) }
+        ensures counts { IfOk result (λ _. self.new ≡ record self.old {
+          bytes = self.old.bytes + length piece.now;
+          line = self.old.line + count_by (λ b. b == 10) piece.now;
+        }) }
         ensures few { IfOk result (λ _. self.old.bytes + length piece.now ≤ most_bytes) }
-        ensures refuses { IfErr result (λ f. sieves.RefusesPiece f self.old.bytes self.old.line piece.now × (self.new ≡ self.old)) }
+        ensures refuses { IfErr result (λ f.
+            sieves.RefusesPiece f self.old.bytes self.old.line piece.now × (self.new ≡ self.old)) }
     {
         let room = MOST_BYTES - self.bytes;
         if piece.len() as u64 > room {
@@ -281,8 +300,10 @@ impl<'a, A: Allocator + Copy> Held<'a, A> {
     ) -> Result<SkipSummary, StreamFault>
         requires styled { self.old.sieve.output.lines.style ≡ Style.Kept }
         requires begun { HasBegun (IsSkipping D.Drain B.Drain) (self.old, drain.old, bad.old) }
-        ensures ends { IfOk result (λ summary. ReadsEnd (IsSkipping D.Drain B.Drain) (SkipEnds D.Drain B.Drain) summary (self.old, drain.old, bad.old) (self.new, drain.new, bad.new)) }
-        ensures halts { IfErr result (λ f. HaltsOn (IsSkipping D.Drain B.Drain) (SkipHalts D.Drain B.Drain) f (self.old, drain.old, bad.old)
+        ensures ends { IfOk result (λ summary. ReadsEnd (IsSkipping D.Drain B.Drain)
+            (SkipEnds D.Drain B.Drain) summary (self.old, drain.old, bad.old) (self.new, drain.new, bad.new)) }
+        ensures halts { IfErr result (λ f.
+            HaltsOn (IsSkipping D.Drain B.Drain) (SkipHalts D.Drain B.Drain) f (self.old, drain.old, bad.old)
             (λ bytes. bytes) true (self.new, drain.new, bad.new)) }
     {
         let start = self.start();
@@ -316,9 +337,13 @@ impl<'a, A: Allocator + Copy> Held<'a, A> {
         requires room { sieves.HasRoom start self.old.part.items }
         requires live { D.has_failed drain.old ≡ false }
         requires bad_live { B.has_failed bad.old ≡ false }
-        ensures sifted { IfOk result (λ _. HasSifted D.Drain B.Drain (sieves.start_of start) self.old.sieve drain.old bad.old (split_lines self.old.part.items) self.new.sieve drain.new bad.new) }
+        ensures sifted { IfOk result (λ _. HasSifted D.Drain B.Drain
+            (sieves.start_of start) self.old.sieve drain.old bad.old
+            (split_lines self.old.part.items) self.new.sieve drain.new bad.new) }
         ensures same { IfOk result (λ _. self.new.bytes ≡ self.old.bytes) }
-        ensures fails { IfErr result (λ f. SiftFails D.Drain B.Drain f (sieves.start_of start) self.old.sieve drain.old bad.old (split_lines self.old.part.items) self.new.sieve drain.new bad.new) }
+        ensures fails { IfErr result (λ f. SiftFails D.Drain B.Drain f
+            (sieves.start_of start) self.old.sieve drain.old bad.old
+            (split_lines self.old.part.items) self.new.sieve drain.new bad.new) }
     {
         self.sieve.sift(start, self.part.as_slice(), drain, bad)
     }

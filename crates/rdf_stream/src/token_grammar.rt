@@ -65,7 +65,11 @@ impl Model for TokenItem {
 
     ghost Value = { Token };
 
-    ghost view = { λ t. record { kind = t.kind; text = chars (string_bytes t.text); at = record { offset = t.offset; line = t.line } } };
+    ghost view = { λ t. record {
+      kind = t.kind;
+      text = chars (string_bytes t.text);
+      at = record { offset = t.offset; line = t.line };
+    } };
 }
 
 /// Accepts every token of a dialect, within a limit on its characters.

@@ -28,7 +28,8 @@ const MOST_BYTES: u64 = (1 << 63) - 1;
 /// The place of a refusal in its line, and the bytes near it.
 #[derive(Drop)]
 pub struct Near<A: Allocator = Global> {
-    /// The column, in characters, counted from 1. A byte that is no UTF-8 counts as one, but one that could go on with a character.
+    /// The column, in characters, counted from 1. A byte that is no UTF-8 counts as one, but one that could go on
+    /// with a character.
     pub column: u64,
     /// The bytes of the line in front of the place, the last 244 where it has more.
     pub before: Vec<u8, A>,
@@ -45,7 +46,13 @@ impl<A: Allocator> Model for Near<A> {
 
     ghost Value = { NearRead };
 
-    ghost view = { λ n. record { column = n.column; before = n.before.items; after = n.after.items; sight = n.sight; bracket = n.bracket } };
+    ghost view = { λ n. record {
+      column = n.column;
+      before = n.before.items;
+      after = n.after.items;
+      sight = n.sight;
+      bracket = n.bracket;
+    } };
 }
 
 /// Whether the place of a refusal is asked for, and what is told of it.
@@ -126,7 +133,8 @@ pub(crate) struct Watching<A: Allocator = Global> {
 }
 
 impl<A: Allocator + Copy> Watching<A> {
-    /// Before the first byte. Where the place is not asked for, nothing is kept. `has_grammar` says that a token may be unexpected.
+    /// Before the first byte. Where the place is not asked for, nothing is kept. `has_grammar` says that a token
+    /// may be unexpected.
     pub(crate) fn new(alloc: A, words: Words, asked: bool, has_grammar: bool) -> Watching<A>
         ensures words { result.words ≡ words }
         ensures kept { WatchesAll result [] }
@@ -158,7 +166,8 @@ impl<A: Allocator + Copy> Watching<A> {
         }
     }
 
-    /// A piece was read. The run says in how many of the last bytes a refusal may still stand, and is asked only where something is kept.
+    /// A piece was read. The run says in how many of the last bytes a refusal may still stand, and is asked only
+    /// where something is kept.
     pub(crate) fn go_on<L, R: Run<L>>(&mut self, piece: &[u8], run: &R)
         requires kept { (bytes : List ℕ) × WatchesAll self.old bytes }
         ensures kept { (bytes : List ℕ) → WatchesAll self.old bytes → WatchesAll self.new (bytes ++ piece.now) }
@@ -254,8 +263,8 @@ impl<A: Allocator + Copy> Watch<A> {
         }
     }
 
-    // Takes a piece, and answers whether there was room for it. With what came before it, so many bytes at the end are kept, and some in front
-    // of them.
+    // Takes a piece, and answers whether there was room for it. With what came before it, so many bytes at the end
+    // are kept, and some in front of them.
     fn take(&mut self, piece: &[u8], open: u64) -> bool
         ensures { result ≡ true → (bytes : List ℕ) → Watches self.old bytes → Watches self.new (bytes ++ piece.now) }
     {
@@ -294,7 +303,8 @@ impl<A: Allocator + Copy> Watch<A> {
         self.kept.truncate(rest);
     }
 
-    // What is known of the place of this byte. None where it is not among those that are kept, or too little of its line is.
+    // What is known of the place of this byte. None where it is not among those that are kept, or too little of its
+    // line is.
     fn near(
         &self,
         alloc: A,
@@ -339,7 +349,8 @@ impl<A: Allocator + Copy> Watch<A> {
 
     // The column of this byte, where it is among those that are kept.
     fn column_at(&self, offset: u64) -> Option<u64>
-        ensures { IfSome result (λ n. (bytes : List ℕ) → Watches self.now bytes → n ≡ column_after 1 (take offset bytes)) }
+        ensures { IfSome result (λ n.
+            (bytes : List ℕ) → Watches self.now bytes → n ≡ column_after 1 (take offset bytes)) }
     {
         let at = self.place_of(offset)?;
         Some(column_after(self.column, &self.kept[..at]))

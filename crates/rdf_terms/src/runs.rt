@@ -60,8 +60,8 @@ pub fn run_end(run: Run, bytes: &[u8], from: usize) -> usize
     short_run_end(run, bytes, at)
 }
 
-/// The same of a text that often ends soon, as the inside of a token does. Where fewer than sixteen bytes are left, they
-/// are seen in one load with those before them.
+/// The same of a text that often ends soon, as the inside of a token does. Where fewer than sixteen bytes are left,
+/// they are seen in one load with those before them.
 #[inline(always)]
 pub(crate) fn near_run_end(run: Run, bytes: &[u8], from: usize) -> usize
     requires { from ≤ length bytes.now }
@@ -80,8 +80,8 @@ pub(crate) fn near_run_end(run: Run, bytes: &[u8], from: usize) -> usize
     from + hits.trailing_zeros() as usize
 }
 
-/// The end of the run from a place on, and the end of the run after the byte there, where there is one. Both are seen in one load where
-/// they are near.
+/// The end of the run from a place on, and the end of the run after the byte there, where there is one. Both are
+/// seen in one load where they are near.
 #[inline(always)]
 pub fn two_run_ends(run: Run, bytes: &[u8], from: usize) -> (usize, usize)
     requires { from ≤ length bytes.now }
@@ -234,14 +234,15 @@ fn stops(run: Run, v: u8x16) -> u64
     }
 }
 
-// A class by the halves of a byte, which belongs to the class where they have a bit in common. A lower half has bit k where the byte with it
-// and the upper half k belongs to the class, and an upper half k below 8 has bit k.
+// A class by the halves of a byte, which belongs to the class where they have a bit in common. A lower half has bit
+// k where the byte with it and the upper half k belongs to the class, and an upper half k below 8 has bit k.
 
 const IRI_LOW: [u8; 16] = [
     0xB8, 0xFC, 0xF8, 0xFC, 0xFC, 0xFC, 0xFC, 0xFC, 0xFC, 0xFC, 0xFC, 0x7C, 0x54, 0x7C, 0xD4, 0xFC,
 ];
 
-// All bytes from 128 on belong to it. Their upper halves have bit 4, as each lower half has: no byte from 0x40 to 0x4F is excluded.
+// All bytes from 128 on belong to it. Their upper halves have bit 4, as each lower half has: no byte from 0x40 to
+// 0x4F is excluded.
 const IRI_HIGH: [u8; 16] = [1, 2, 4, 8, 16, 32, 64, 128, 16, 16, 16, 16, 16, 16, 16, 16];
 
 #[inline(always)]
@@ -252,7 +253,8 @@ fn iri_stops(v: u8x16) -> u64
     common.simd_eq(u8x16::splat(0)).to_bitmask()
 }
 
-// Bytes that differ in their lower halves are found by one look-up. Where none has a lower half, its place has a byte with another one.
+// Bytes that differ in their lower halves are found by one look-up. Where none has a lower half, its place has a
+// byte with another one.
 
 const TEXT_STOPS: [u8; 16] = [
     1, 0, b'"', 0, 0, 0, 0, b'\'', 0, 0, b'\n', 0, b'\\', b'\r', 0, 0,

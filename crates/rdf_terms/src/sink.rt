@@ -46,8 +46,8 @@ pub trait QuadSink {
         ensures left { OnErr result (leaves self.old (quad_of quad.now) self.new) }
         ensures device { (has_failed self.new ≡ true) ↔ (result ≡ Err PutFault.Device) };
 
-    /// Takes the quad of three IRIs in the default graph, as `put` takes it. Most quads of many documents are such ones,
-    /// so a sink may have a faster way for them; one that has none need not say anything.
+    /// Takes the quad of three IRIs in the default graph, as `put` takes it. Most quads of many documents are such
+    /// ones, so a sink may have a faster way for them; one that has none need not say anything.
     #[inline(always)]
     fn put_iris(
         &mut self,
@@ -56,8 +56,10 @@ pub trait QuadSink {
         object: IriView<'_>,
     ) -> Result<(), PutFault>
         requires live { has_failed self.old ≡ false }
-        ensures taken { OnOk result (takes self.old (quad_of (iris_quad subject.entry predicate.entry object.entry)) self.new) }
-        ensures left { OnErr result (leaves self.old (quad_of (iris_quad subject.entry predicate.entry object.entry)) self.new) }
+        ensures taken { OnOk result (takes self.old
+            (quad_of (iris_quad subject.entry predicate.entry object.entry)) self.new) }
+        ensures left { OnErr result (leaves self.old
+            (quad_of (iris_quad subject.entry predicate.entry object.entry)) self.new) }
         ensures device { (has_failed self.new ≡ true) ↔ (result ≡ Err PutFault.Device) }
     {
         self.put(&QuadRef::of_iris(subject, predicate, object))

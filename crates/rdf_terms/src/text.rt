@@ -15,8 +15,8 @@ const LEAST_LEN: usize = 64;
 /// A text of so many bytes or fewer is placed without a loop.
 const SHORT: usize = 64;
 
-/// A text. It differs from a `String` in cost alone: its memory stays filled, and the next text is placed over what stands there
-/// by a few wide stores, where a `String` would append it by calls.
+/// A text. It differs from a `String` in cost alone: its memory stays filled, and the next text is placed over what
+/// stands there by a few wide stores, where a `String` would append it by calls.
 #[derive(Drop)]
 pub struct TextBuffer<A: Allocator = Global> {
     bytes: Vec<u8, A>,
@@ -128,8 +128,8 @@ impl<A: Allocator + Copy> TextBuffer<A> {
         Ok(())
     }
 
-    /// What `put_joined` does where each text is short and memory for both is filled. Else it puts nothing. It calls nothing, so that a function that
-    /// does without other calls too saves no registers.
+    /// What `put_joined` does where each text is short and memory for both is filled. Else it puts nothing. It
+    /// calls nothing, so that a function that does without other calls too saves no registers.
     #[inline(always)]
     pub fn put_short_joined(&mut self, front: &str, back: &str) -> bool
         ensures joined { result ≡ true → self.new ≡ front.now ++ back.now }

@@ -19,7 +19,8 @@ use std::alloc::{AllocError, Allocator};
 /// Why a text has no value.
 #[derive(Clone, Copy, PartialEq, Eq, Debug)]
 pub enum ValueFault {
-    /// An escape is unknown or cut or stands for no character allowed there, or an IRI has a character that it excludes.
+    /// An escape is unknown or cut or stands for no character allowed there, or an IRI has a character that it
+    /// excludes.
     BadEscape,
     /// A growth of memory was refused.
     Memory,
@@ -33,7 +34,8 @@ pub fn string_value<A: Allocator>(alloc: A, inside: &str) -> Result<String<A>, V
     value(alloc, Inside::OfString, inside)
 }
 
-/// The characters that the inside of an IRIREF means: each UCHAR stands for one, and each is one of IRIREF (Turtle 6.4).
+/// The characters that the inside of an IRIREF means: each UCHAR stands for one, and each is one of IRIREF (Turtle
+/// 6.4).
 #[tactic(auto, using(crate::proofs::ValuesLemmas::iri_value_characters))]
 pub fn iri_value<A: Allocator>(alloc: A, inside: &str) -> Result<String<A>, ValueFault>
     ensures ok { IfOk result (λ s. iri_value (chars inside.now) ≡ Some (chars (string_bytes s))) }
@@ -43,8 +45,8 @@ pub fn iri_value<A: Allocator>(alloc: A, inside: &str) -> Result<String<A>, Valu
     value(alloc, Inside::OfIri, inside)
 }
 
-/// Puts what the inside of a string token means in place of a text, in the memory that the text has. After an error nothing is known of
-/// the text.
+/// Puts what the inside of a string token means in place of a text, in the memory that the text has. After an error
+/// nothing is known of the text.
 pub fn set_string_value<A: Allocator>(out: &mut String<A>, inside: &str) -> Result<(), ValueFault>
     ensures ok { OnOk result (string_value (chars inside.now) ≡ Some (chars (string_bytes out.new))) }
     ensures bad { (result ≡ Err ValueFault.BadEscape) ↔ (string_value (chars inside.now) ≡ None) }
@@ -199,7 +201,8 @@ fn built<A: Allocator>(
     inside: Inside,
     text: &str,
 ) -> Result<Option<String<A>>, AllocError>
-    ensures { IfOk result (λ s. value (inside_of inside) outside (chars text.now) ≡ option_map (λ t. chars (string_bytes t)) s) }
+    ensures { IfOk result (λ s.
+        value (inside_of inside) outside (chars text.now) ≡ option_map (λ t. chars (string_bytes t)) s) }
 {
     let mut out = String::new(alloc);
     if put_value(&mut out, inside, text)? {
@@ -209,14 +212,16 @@ fn built<A: Allocator>(
     }
 }
 
-/// Puts the characters that the inside means in place of a text, unless an escape of it is bad, and answers whether none is.
+/// Puts the characters that the inside means in place of a text, unless an escape of it is bad, and answers whether
+/// none is.
 #[inline(always)]
 fn put_value<A: Allocator>(
     out: &mut String<A>,
     inside: Inside,
     text: &str,
 ) -> Result<bool, AllocError>
-    ensures { IfOk result (λ fit. value (inside_of inside) outside (chars text.now) ≡ cond fit (Some (chars (string_bytes out.new))) None) }
+    ensures { IfOk result (λ fit.
+        value (inside_of inside) outside (chars text.now) ≡ cond fit (Some (chars (string_bytes out.new))) None) }
 {
     out.clear();
     out.reserve(text.len())?;
@@ -231,7 +236,8 @@ fn put_value<A: Allocator>(
     Ok(true)
 }
 
-/// Puts what the escape at a place means. Where it is a UCHAR of four digits, so are the next ones often, and they are put with it.
+/// Puts what the escape at a place means. Where it is a UCHAR of four digits, so are the next ones often, and they
+/// are put with it.
 #[inline(always)]
 fn put_escapes<A: Allocator>(
     out: &mut String<A>,
@@ -242,7 +248,8 @@ fn put_escapes<A: Allocator>(
     requires within { at < length text.now }
     requires utf8 { IsUtf8 (drop at text.now) }
     requires stopped { goes_over (run_of (inside_of inside)) (get_or text.now at 0) ≡ false }
-    ensures put { IfOk result (λ r. IsPut (inside_of inside) text.now (string_bytes out.old) (string_bytes out.new) at r) }
+    ensures put { IfOk result (λ r.
+        IsPut (inside_of inside) text.now (string_bytes out.old) (string_bytes out.new) at r) }
     ensures on { IfOk result (λ r. IfSome r (λ end. at < end)) }
 {
     match short_uchar(inside, text.as_bytes(), at) {
@@ -264,7 +271,8 @@ fn put_row<A: Allocator>(
 ) -> Result<usize, AllocError>
     requires within { from ≤ length text.now }
     requires utf8 { IsUtf8 (drop from text.now) }
-    ensures { IfOk result (λ end. IsPutUpTo (inside_of inside) text.now (string_bytes out.old) (string_bytes out.new) from end) }
+    ensures { IfOk result (λ end.
+        IsPutUpTo (inside_of inside) text.now (string_bytes out.old) (string_bytes out.new) from end) }
 {
     let mut at = from;
     while let Some((meant, next)) = short_uchar(inside, text.as_bytes(), at) {
@@ -297,7 +305,8 @@ fn put_escape<A: Allocator>(
     requires within { at < length text.now }
     requires utf8 { IsUtf8 (drop at text.now) }
     requires stopped { goes_over (run_of (inside_of inside)) (get_or text.now at 0) ≡ false }
-    ensures put { IfOk result (λ r. IsPut (inside_of inside) text.now (string_bytes out.old) (string_bytes out.new) at r) }
+    ensures put { IfOk result (λ r.
+        IsPut (inside_of inside) text.now (string_bytes out.old) (string_bytes out.new) at r) }
     ensures on { IfOk result (λ r. IfSome r (λ end. at < end)) }
 {
     match escape(inside, text.as_bytes(), at) {
@@ -456,7 +465,8 @@ fn number(inside: Inside, text: &[u8], from: usize, count: usize) -> Option<(cha
 #[inline(always)]
 fn digit_at(text: &[u8], at: usize) -> Option<u32>
     requires { at ≤ length text.now }
-    ensures value { SomeIff result ((at < length text.now) × (has hex_digit (get_or text.now at 0) ≡ true)) (hex_value (get_or text.now at 0)) }
+    ensures value { SomeIff result ((at < length text.now)
+        × (has hex_digit (get_or text.now at 0) ≡ true)) (hex_value (get_or text.now at 0)) }
     ensures small { IfSome result (λ v. v < 16) }
 {
     if at == text.len() {

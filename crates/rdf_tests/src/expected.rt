@@ -1,4 +1,5 @@
-// Which kind of token the readers find to be unexpected, and which they name in its place, and runs beside their faults.
+// Which kind of token the readers find to be unexpected, and which they name in its place, and runs beside their
+// faults.
 
 ghost use Rattle.std.specs.Prelude.{◌≡◌, ◌≤◌, false, length};
 

@@ -57,8 +57,8 @@ static REFERENCES: [(&str, &str); 42] = [
     ("http:g", "http:g"),
 ];
 
-/// What the RFC's examples leave out: bases without a path, an authority or a slash, texts that are not ASCII, dots in a reference that is kept, no
-/// base at all, and limits, which count the result alone.
+/// What the RFC's examples leave out: bases without a path, an authority or a slash, texts that are not ASCII, dots
+/// in a reference that is kept, no base at all, and limits, which count the result alone.
 static OTHERS: [(&str, &str, u64, Answer); 14] = [
     ("http://a", "g", 100, Ok("http://a/g")),
     ("a:b/c", "d", 100, Ok("a:b/d")),
@@ -252,8 +252,8 @@ fn answers(alloc: Global, scope: &mut Scope, call: Call, wanted: Answer) -> bool
     }
 }
 
-/// One binding alone; refusals, which change nothing; a base that grows by paths, and references that cannot be written after it; and bindings at
-/// the start, of which the last of a prefix counts.
+/// One binding alone; refusals, which change nothing; a base that grows by paths, and references that cannot be
+/// written after it; and bindings at the start, of which the last of a prefix counts.
 static CALLS: [(Call, Answer); 52] = [
     (Call::Start(b"", 1, 100), Ok("")),
     (Call::SetBase(BASE), Ok("")),

@@ -19,7 +19,8 @@ struct Row {
     answer: Result<(u64, u64, u64), (Reason, u64, u64)>,
 }
 
-/// Reads a document whose first bytes come in one piece, and the others one by one, with tokens of 18 characters and IRIs of 14 bytes.
+/// Reads a document whose first bytes come in one piece, and the others one by one, with tokens of 18 characters
+/// and IRIs of 14 bytes.
 fn read_cut(
     alloc: Global,
     form: LineForm,

@@ -493,8 +493,8 @@ fn run_after(alloc: Global, task: Task, calls: u64) -> (Result<(), Stop>, bool) 
     (result, memory.has_refused())
 }
 
-/// After how many calls the task does not end as it is to, if it ever does not: well where no growth is refused, and for want of memory wherever
-/// one is.
+/// After how many calls the task does not end as it is to, if it ever does not: well where no growth is refused,
+/// and for want of memory wherever one is.
 fn misreported(alloc: Global, task: Task) -> Option<u64> {
     for calls in 0..MOST {
         let (result, has_refused) = run_after(alloc, task, calls);

@@ -103,7 +103,8 @@ static ROWS: [Row; 9] = [
     },
 ];
 
-/// What a check of the document tells of the place where it is asked, and the offset of the fault. It comes in parts of this length.
+/// What a check of the document tells of the place where it is asked, and the offset of the fault. It comes in
+/// parts of this length.
 fn told(alloc: Global, form: Form, bytes: &[u8], cut: usize) -> Option<(u64, Near)> {
     let mut details = Details::none();
     let mut near = Nearby::Asked;

@@ -1,5 +1,6 @@
-// Documents in pieces, read by the reader of their form. Only here is a reader made and dropped, since its many parts are dear to prove: where a
-// scope ends they are dropped one by one in the function itself, but `drop` is a call, and the parts are proved once.
+// Documents in pieces, read by the reader of their form. Only here is a reader made and dropped, since its many
+// parts are dear to prove: where a scope ends they are dropped one by one in the function itself, but `drop` is a
+// call, and the parts are proved once.
 
 ghost use Rattle.std.specs.Prelude.{◌≡◌, Bool, true, false, OnOk, OnErr};
 

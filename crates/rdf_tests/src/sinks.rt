@@ -20,7 +20,8 @@ pub struct RecordingSink {
 }
 
 impl QuadSink for RecordingSink {
-    ghost takes = { λ before quad after. after.lines.items ≡ before.lines.items ++ encode_utf8_all (line Tagged Plain quad) };
+    ghost takes = { λ before quad after.
+        after.lines.items ≡ before.lines.items ++ encode_utf8_all (line Tagged Plain quad) };
 
     ghost leaves = { λ before quad after. after.lines.items ≡ before.lines.items };
 

@@ -7,7 +7,8 @@ use rdf_terms::Reason;
 use rdf_tokens::{Blanks, Dialect, Kind, Peeked, RunClass, Scanner, plain_run};
 use std::alloc::{AllocError, Global};
 
-// What a call answers: the kind, the offset, the line and the number of bytes of a token; of a plain name the place after its colon too.
+// What a call answers: the kind, the offset, the line and the number of bytes of a token; of a plain name the place
+// after its colon too.
 #[derive(Clone, Copy, PartialEq, Eq)]
 enum Answer {
     Started,
@@ -124,7 +125,8 @@ fn take(alloc: Global, scanner: &mut Scanner, step: Step) -> Answer {
 
 /// What is done with a scanner, and what it answers.
 static STEPS: [(Step, Answer); 301] = [
-    // The longer look sees less frequent tokens too, and those at the end of the text, but none behind more than a space.
+    // The longer look sees less frequent tokens too, and those at the end of the text, but none behind more than a
+    // space.
     (Step::Start(Dialect::Turtle, 64), Answer::Started),
     (
         Step::Push(b"; x:a.b x:\xD1\x8F true -1 'a' x:a\\,b x:c \n;"),
@@ -252,7 +254,8 @@ static STEPS: [(Step, Answer); 301] = [
     (Step::Push(b" ."), Answer::Took(2)),
     (Step::PassBlanks, Answer::Stayed),
     (Step::Next, Answer::Token(Kind::Dot, 1, 1, 1)),
-    // So are carets, and strings with escapes or between three quotes. Of names with letters of other scripts and escapes all is taken.
+    // So are carets, and strings with escapes or between three quotes. Of names with letters of other scripts and
+    // escapes all is taken.
     (Step::Start(Dialect::Turtle, 128), Answer::Started),
     (
         Step::Push(

@@ -37,8 +37,8 @@ fn a_node_is_named_by_its_style(rt: HostRuntime) {
     assert!(rt; is_named(rt.alloc(), cell, Style::Kept, None));
 }
 
-/// A quad of a node and its line. Its subject has this label, its literal this lexical form and the tag `en` or the IRI as its type, which
-/// is also its predicate and its graph.
+/// A quad of a node and its line. Its subject has this label, its literal this lexical form and the tag `en` or the
+/// IRI as its type, which is also its predicate and its graph.
 struct Row {
     escapes: Escapes,
     label: &'static str,
@@ -132,7 +132,8 @@ fn a_line_has_its_escapes_its_tag_or_its_type(rt: HostRuntime) {
     }
 }
 
-/// Whether the line of a quad with a node is appended in one style, and in the other, which has no name for the node, nothing is.
+/// Whether the line of a quad with a node is appended in one style, and in the other, which has no name for the
+/// node, nothing is.
 fn is_whole_or_not_at_all(alloc: Global, iri: IriView<'_>) -> bool {
     let quad = QuadRef {
         subject: SubjectRef::Iri(iri),

@@ -41,7 +41,8 @@ pub(crate) fn blank_run(dialect: Dialect, in_comment: bool, text: &str) -> Blank
     blank_bytes(dialect, in_comment, text.as_bytes())
 }
 
-/// A comment and the white space after it at a time. A byte from 128 on stands in a comment as it is, and is no white space.
+/// A comment and the white space after it at a time. A byte from 128 on stands in a comment as it is, and is no
+/// white space.
 #[inline(always)]
 fn blank_bytes(dialect: Dialect, in_comment: bool, bytes: &[u8]) -> Blank
     ensures len { result.len ≡ blank dialect in_comment bytes.now }
@@ -111,9 +112,11 @@ fn is_hash(bytes: &[u8], at: usize) -> bool
 
 /// Whether an open comment goes over a whole text. Then it has no line feed.
 pub(crate) fn is_in_comment(text: &str) -> bool
-    ensures len { (dialect : Dialect) → result ≡ true → bytes_of (blank dialect true (chars text.now)) (chars text.now) ≡ length text.now }
+    ensures len { (dialect : Dialect) → result ≡ true →
+        bytes_of (blank dialect true (chars text.now)) (chars text.now) ≡ length text.now }
     ensures comment { (dialect : Dialect) → result ≡ true → comment_after dialect true (chars text.now) ≡ true }
-    ensures feeds { (dialect : Dialect) → result ≡ true → count_by (λ c. c == 10) (take (blank dialect true (chars text.now)) (chars text.now)) ≡ 0 }
+    ensures feeds { (dialect : Dialect) → result ≡ true →
+        count_by (λ c. c == 10) (take (blank dialect true (chars text.now)) (chars text.now)) ≡ 0 }
 {
     has_no_line_end(text.as_bytes())
 }
@@ -124,13 +127,15 @@ fn has_no_line_end(bytes: &[u8]) -> bool
     memchr2(b'\n', b'\r', bytes).is_none()
 }
 
-/// Whether this byte of white space stands before a character that is neither white space nor the beginning of a comment.
+/// Whether this byte of white space stands before a character that is neither white space nor the beginning of a
+/// comment.
 #[inline(always)]
 pub(crate) fn is_one(white: u8, dialect: Dialect, text: &str) -> bool
     requires { spaces dialect white ≡ true }
     ensures len { result ≡ true → bytes_of (blank dialect false (chars text.now)) (chars text.now) ≡ 1 }
     ensures comment { result ≡ true → comment_after dialect false (chars text.now) ≡ false }
-    ensures feeds { result ≡ true → count_by (λ c. c == 10) (take (blank dialect false (chars text.now)) (chars text.now)) ≡ cond (white == 10) 1 0 }
+    ensures feeds { result ≡ true → count_by (λ c. c == 10)
+        (take (blank dialect false (chars text.now)) (chars text.now)) ≡ cond (white == 10) 1 0 }
 {
     is_one_byte(white, dialect, text.as_bytes())
 }
@@ -148,12 +153,13 @@ fn is_one_byte(white: u8, dialect: Dialect, bytes: &[u8]) -> bool
     }
 }
 
-/// The white space at the front of a text of Turtle that is one line feed or two, and spaces and tabs after them, where neither more white space nor a
-/// comment comes then. Else it has no bytes.
+/// The white space at the front of a text of Turtle that is one line feed or two, and spaces and tabs after them,
+/// where neither more white space nor a comment comes then. Else it has no bytes.
 pub(crate) fn indented(text: &str) -> Indentation
     ensures len { 0 < result.len → bytes_of (blank Turtle false (chars text.now)) (chars text.now) ≡ result.len }
     ensures comment { 0 < result.len → comment_after Turtle false (chars text.now) ≡ false }
-    ensures feeds { 0 < result.len → count_by (λ c. c == 10) (take (blank Turtle false (chars text.now)) (chars text.now)) ≡ result.feeds }
+    ensures feeds { 0 < result.len → count_by (λ c. c == 10)
+        (take (blank Turtle false (chars text.now)) (chars text.now)) ≡ result.feeds }
 {
     indented_bytes(text.as_bytes())
 }

@@ -16,7 +16,8 @@ use rdf_terms::escapes::{are_four_digits, begins_uchar, letter_meaning};
 use rdf_terms::runs::{Run, run_end};
 use rdf_terms::{hex_value, is_iri_char};
 
-/// The place after the plain bytes and the whole escapes of a string in this quote from a place on. A bad escape is not passed.
+/// The place after the plain bytes and the whole escapes of a string in this quote from a place on. A bad escape is
+/// not passed.
 pub(crate) fn string_end(quote: Quote, bytes: &[u8], from: usize) -> usize
     requires { from ≤ length bytes.now }
     ensures rests { RestsInQuotes quote bytes.now from result }
@@ -54,8 +55,8 @@ pub(crate) fn short_run(quote: Quote) -> Run
     }
 }
 
-/// Where the escape at a place and the run after it end, if all of the escape is there and it is not bad. The run is sought in one place, so that
-/// this stays small enough for its mark.
+/// Where the escape at a place and the run after it end, if all of the escape is there and it is not bad. The run
+/// is sought in one place, so that this stays small enough for its mark.
 #[inline(always)]
 pub(crate) fn escape_end(run: Run, bytes: &[u8], at: usize) -> Option<usize>
     requires within { at ≤ length bytes.now }
@@ -84,7 +85,8 @@ fn whole_escape_end(bytes: &[u8], at: usize) -> Option<usize>
     long_uchar_end(bytes, at)
 }
 
-/// The end of a run in which no backslash stands. Escapes by number often come in a row, and between two of them nothing is looked for.
+/// The end of a run in which no backslash stands. Escapes by number often come in a row, and between two of them
+/// nothing is looked for.
 #[inline(always)]
 fn plain_end(run: Run, bytes: &[u8], from: usize) -> usize
     requires within { from ≤ length bytes.now }
@@ -97,7 +99,8 @@ fn plain_end(run: Run, bytes: &[u8], from: usize) -> usize
     run_end(run, bytes, from)
 }
 
-/// The place after the plain bytes and the whole escapes of an IRI from a place on. An escape of a character that IRIs exclude is not passed.
+/// The place after the plain bytes and the whole escapes of an IRI from a place on. An escape of a character that
+/// IRIs exclude is not passed.
 pub(crate) fn iri_end(bytes: &[u8], from: usize) -> usize
     requires { from ≤ length bytes.now }
     ensures rests { RestsInIri bytes.now from result }
@@ -157,7 +160,8 @@ fn are_two_of_iri_char(first: u8, second: u8) -> bool
 #[inline(always)]
 pub(crate) fn is_echar(bytes: &[u8], at: usize) -> bool
     requires { at ≤ length bytes.now }
-    ensures { result ≡ (nat_le (at + 2) (length bytes.now) && get_or bytes.now at 0 == 92 && is_letter (get_or bytes.now (at + 1) 0)) }
+    ensures { result ≡ (nat_le (at + 2) (length bytes.now) && get_or bytes.now at 0 == 92 && is_letter
+        (get_or bytes.now (at + 1) 0)) }
 {
     bytes.len() - at >= 2 && bytes[at] == b'\\' && is_letter(bytes[at + 1])
 }

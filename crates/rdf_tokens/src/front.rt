@@ -38,7 +38,8 @@ pub(crate) struct Front {
     pub(crate) live: bool,
 }
 
-/// How far the states have come in a token that is open: the state after its bytes so far, and the longest token in them.
+/// How far the states have come in a token that is open: the state after its bytes so far, and the longest token in
+/// them.
 #[derive(Clone, Copy)]
 pub(crate) struct Walk {
     pub(crate) state: State,
@@ -54,9 +55,9 @@ pub(crate) struct Walk {
     pub(crate) fit: Option<Quote>,
 }
 
-/// The end of a text within which names were sought and none was found: the bytes after the end, the state after the whole
-/// text, of each name that would begin there with a letter of ASCII, and how many bytes the text has more than the states go
-/// over characters.
+/// The end of a text within which names were sought and none was found: the bytes after the end, the state after
+/// the whole text, of each name that would begin there with a letter of ASCII, and how many bytes the text has more
+/// than the states go over characters.
 #[derive(Clone, Copy)]
 pub(crate) struct NoNames {
     pub(crate) left: usize,
@@ -64,8 +65,8 @@ pub(crate) struct NoNames {
     pub(crate) out: usize,
 }
 
-/// The longest token at the front of a text. The states go on from where they came in the text's first bytes, and where a
-/// longer token may come, and more text, it is kept how far they came.
+/// The longest token at the front of a text. The states go on from where they came in the text's first bytes, and
+/// where a longer token may come, and more text, it is kept how far they came.
 pub(crate) fn front_of(
     dialect: Dialect,
     text: &str,
@@ -75,7 +76,8 @@ pub(crate) fn front_of(
 ) -> Front
     requires walked { Walked dialect text.now walk.old }
     requires no_names { HasNoNames dialect text.now no_names.old }
-    ensures best { result.best ≡ in_bytes (chars text.now) (longest dialect (chars text.now) (length (chars text.now))) }
+    ensures best { result.best ≡ in_bytes (chars text.now)
+        (longest dialect (chars text.now) (length (chars text.now))) }
     ensures live { result.live ≡ is_live dialect (chars text.now) }
     ensures walked { Walked dialect text.now walk.new }
     ensures no_names { HasNoNames dialect text.now no_names.new }
@@ -91,8 +93,8 @@ pub(crate) fn front_of(
     }
 }
 
-/// The same for the kinds that have states: the length and the kind of the longest, which a loop keeps in registers, and
-/// the state after the whole text where it goes on.
+/// The same for the kinds that have states: the length and the kind of the longest, which a loop keeps in
+/// registers, and the state after the whole text where it goes on.
 #[derive(Drop)]
 struct Shaped {
     len: usize,
@@ -121,7 +123,8 @@ fn moves_on(text: &str, more: bool, walk: &Option<Walk>) -> bool
 /// Keeps how far the states came where they go on and more text may come. After fewer than three bytes quotes may still
 /// turn into those of a long string.
 fn keep(walk: &mut Option<Walk>, text: &str, more: bool, shaped: &Shaped)
-    ensures { walk.new ≡ cond more (walk_kept walk.old (length text.now) shaped.now.len shaped.now.kind shaped.now.state) walk.old }
+    ensures { walk.new ≡ cond more (walk_kept walk.old
+        (length text.now) shaped.now.len shaped.now.kind shaped.now.state) walk.old }
 {
     if !more {
         return;
@@ -157,7 +160,8 @@ fn counted_in(walk: &Option<Walk>) -> (usize, usize)
 /// shorter token stands before it. Of a string with one quote at each end that has no bad escape so far it is kept in
 /// which quote it stands.
 pub(crate) fn walk_to(before: &Option<Walk>, state: State, at: usize, fit: Option<Quote>) -> Walk
-    ensures { (d : Dialect) (bs : List ℕ) → IsUtf8 bs → Walked d bs before.now → counted_bytes before.now ≤ at → 3 ≤ at →
+    ensures { (d : Dialect) (bs : List ℕ) → IsUtf8 bs → Walked d bs before.now → counted_bytes before.now ≤ at →
+        3 ≤ at →
         Reached d bs at state None → IsFitFor d bs at fit → IsWalk d bs result }
 {
     let (counted, count) = counted_in(before);
@@ -242,7 +246,8 @@ fn first_front(dialect: Dialect, text: &str, no_names: &mut Option<NoNames>) -> 
     }
 }
 
-/// The same where a name begins, by the state after its first character. Where no name was found before, none is sought again.
+/// The same where a name begins, by the state after its first character. Where no name was found before, none is
+/// sought again.
 #[inline(always)]
 fn name_front(
     dialect: Dialect,
@@ -251,7 +256,8 @@ fn name_front(
     first: usize,
     no_names: &mut Option<NoNames>,
 ) -> Shaped
-    requires name { Reached dialect text.now first (name begun) (with_length first (kind_here dialect text.now (name begun)) None) }
+    requires name { Reached dialect text.now first (name begun)
+        (with_length first (kind_here dialect text.now (name begun)) None) }
     requires no_names { HasNoNames dialect text.now no_names.old }
     ensures best { IsLongestByStates dialect text.now result.len result.kind }
     ensures state { result.state ≡ open_state dialect (state_of dialect (chars text.now)) }

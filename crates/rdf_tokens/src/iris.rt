@@ -12,8 +12,8 @@ use crate::states::iri::Iri;
 use crate::states::machine::State;
 use rdf_terms::Dialect;
 
-/// The length of the reference that the text begins with, where it stands there whole, and no escape of it is bad. Of one that goes on it is kept how
-/// far it came, and where that was done no reference is looked for.
+/// The length of the reference that the text begins with, where it stands there whole, and no escape of it is bad.
+/// Of one that goes on it is kept how far it came, and where that was done no reference is looked for.
 #[inline(always)]
 pub(crate) fn iri_len(dialect: Dialect, text: &str, walk: &mut Option<Walk>) -> Option<usize>
     requires { Walked dialect text.now walk.old }

@@ -10,8 +10,8 @@ use crate::quick::stands_at;
 use rdf_terms::is_local_escape;
 use rdf_terms::runs::{Run, run_end};
 
-/// The place after what a local part begins with: the run that stands there up to a place and does not begin with `-`, or where there is
-/// none, a letter of another script, a colon or an escape, and the run after it.
+/// The place after what a local part begins with: the run that stands there up to a place and does not begin with
+/// `-`, or where there is none, a letter of another script, a colon or an escape, and the run after it.
 #[inline(always)]
 pub(crate) fn front_end(bytes: &[u8], local: usize, end: usize) -> Option<usize>
     requires { IsRun is_name_byte bytes.now local end }
@@ -39,8 +39,8 @@ pub(crate) fn local_end(bytes: &[u8], from: usize) -> usize
     at
 }
 
-/// The place after what stands at a place within a local part and the run after it: a dot, which has one, or a letter of another script, a
-/// colon or an escape.
+/// The place after what stands at a place within a local part and the run after it: a dot, which has one, or a
+/// letter of another script, a colon or an escape.
 #[inline(always)]
 fn onward_end(bytes: &[u8], at: usize) -> Option<usize>
     requires { at ≤ length bytes.now }
@@ -97,7 +97,8 @@ fn symbol_end(bytes: &[u8], at: usize) -> Option<usize>
     None
 }
 
-/// The place after the letter that stands at a place, where its first two bytes tell, and after such letters that follow it.
+/// The place after the letter that stands at a place, where its first two bytes tell, and after such letters that
+/// follow it.
 #[inline(always)]
 fn letters_end(bytes: &[u8], at: usize) -> Option<usize>
     requires { at ≤ length bytes.now }

@@ -38,8 +38,8 @@ pub(crate) enum Look {
     Token(usize, Kind),
 }
 
-/// What stands at the front of a text, from which white space and comments have been taken off, where that is settled whatever comes after it:
-/// by the first bytes, or since a token is too long.
+/// What stands at the front of a text, from which white space and comments have been taken off, where that is
+/// settled whatever comes after it: by the first bytes, or since a token is too long.
 #[inline(always)]
 pub(crate) fn first_look(
     dialect: Dialect,
@@ -65,8 +65,8 @@ pub(crate) fn first_look(
     None
 }
 
-/// The same of a text within the limit: a string as far as it can be read, and what else there is by the states. What is kept of its token is not
-/// looked at again, and what was seen of it is kept.
+/// The same of a text within the limit: a string as far as it can be read, and what else there is by the states.
+/// What is kept of its token is not looked at again, and what was seen of it is kept.
 pub(crate) fn look_at(
     dialect: Dialect,
     text: &str,

@@ -15,8 +15,8 @@ use crate::states::fixed::is_fixed_over;
 use crate::states::machine::State;
 use rdf_terms::Dialect;
 
-/// Whether a text has more characters than the limit, and its first `limit + 1` are a token or the beginning of one. The characters
-/// over which the states have come are not looked at again.
+/// Whether a text has more characters than the limit, and its first `limit + 1` are a token or the beginning of
+/// one. The characters over which the states have come are not looked at again.
 pub(crate) fn is_over(
     dialect: Dialect,
     text: &str,
@@ -37,7 +37,8 @@ pub(crate) fn is_over(
         || is_fixed_over(dialect, text.as_bytes(), most)
 }
 
-/// The same by the states, which go on from where they came. Where it is known that they end within the limit, they are not asked.
+/// The same by the states, which go on from where they came. Where it is known that they end within the limit, they
+/// are not asked.
 fn is_shaped_over(
     dialect: Dialect,
     text: &str,
@@ -138,7 +139,8 @@ struct Begun {
 
 /// How far the states have come, if it is no further than the limit.
 fn resumed(walk: &Option<Walk>, limit: usize) -> Begun
-    ensures came { (d : Dialect) (bs : List ℕ) → IsUtf8 bs → Walked d bs walk.now → AreCounted walk.now → HasCome d bs result }
+    ensures came { (d : Dialect) (bs : List ℕ) → IsUtf8 bs → Walked d bs walk.now → AreCounted walk.now →
+        HasCome d bs result }
     ensures few { result.count ≤ limit }
 {
     match walk {

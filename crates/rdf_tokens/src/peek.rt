@@ -26,7 +26,8 @@ use rdf_terms::{Dialect, Kind};
 /// A bit for each of `,`, `.`, `;` and `{`, at the number that its last six bits are.
 const MARKS: u64 = 1 << 44 | 1 << 46 | 1 << 59;
 
-/// What is told of a name whose local part goes on after its run of letters, digits, `_` and `-`. It goes back in registers.
+/// What is told of a name whose local part goes on after its run of letters, digits, `_` and `-`. It goes back in
+/// registers.
 #[derive(Clone, Copy)]
 enum FarName {
     /// Nothing.
@@ -61,8 +62,8 @@ pub struct Peeked {
     pub(crate) colon: usize,
 }
 
-/// The token of Turtle that a text begins with, after one space or none, where its first bytes settle it. Only frequent tokens are seen: `None`
-/// tells nothing.
+/// The token of Turtle that a text begins with, after one space or none, where its first bytes settle it. Only
+/// frequent tokens are seen: `None` tells nothing.
 #[inline(always)]
 pub(crate) fn first_seen(text: &str, no_names: &Option<NoNames>) -> Option<Peeked>
     ensures { IfSome result (IsSeen text.now) }
@@ -122,7 +123,8 @@ fn one_space(bytes: &[u8]) -> usize
     if stands_at(b' ', bytes, 0) { 1 } else { 0 }
 }
 
-/// The token at the front of a text, by its first byte. Each answer names its kind, so that in a caller's copy for one kind it is a constant.
+/// The token at the front of a text, by its first byte. Each answer names its kind, so that in a caller's copy for
+/// one kind it is a constant.
 #[inline(always)]
 fn seen(blank: usize, text: &str, no_names: &Option<NoNames>) -> Option<Peeked>
     ensures token { Sees text.now blank result }
@@ -156,9 +158,10 @@ fn seen(blank: usize, text: &str, no_names: &Option<NoNames>) -> Option<Peeked>
     }
 }
 
-/// Whether a byte is a comma, a dot, a semicolon or an opening brace, or has the last six bits of one. This comes before the match over all other
-/// bytes, which LLVM makes a jump through a table, since processors predict a branch better than such a jump. Were the bytes compared with
-/// these, LLVM would make the two one table; so their bits are asked.
+/// Whether a byte is a comma, a dot, a semicolon or an opening brace, or has the last six bits of one. This comes
+/// before the match over all other bytes, which LLVM makes a jump through a table, since processors predict a
+/// branch better than such a jump. Were the bytes compared with these, LLVM would make the two one table; so their
+/// bits are asked.
 #[inline(always)]
 fn is_mark(byte: u8) -> bool {
     MARKS >> (byte & 63) & 1 == 1
@@ -298,7 +301,8 @@ fn seen_far(blank: usize, past: usize, name: FarName) -> Option<Peeked>
     }
 }
 
-/// Whether some bytes stand between two places, of which the first is no hyphen, and after them one with which no name goes on.
+/// Whether some bytes stand between two places, of which the first is no hyphen, and after them one with which no
+/// name goes on.
 #[inline(always)]
 fn is_local(bytes: &[u8], from: usize, end: usize) -> bool
     ensures { result ≡ is_local bytes.now from end }
@@ -370,8 +374,8 @@ fn seen_plain(kind: Kind, blank: usize, len: usize) -> Option<Peeked>
     })
 }
 
-// The lengths of tokens are found by calls, so that the look at the first byte, which every token needs, is inlined. A number goes back
-// in a register.
+// The lengths of tokens are found by calls, so that the look at the first byte, which every token needs, is
+// inlined. A number goes back in a register.
 
 /// The length of a reference in angle brackets without an escape.
 fn iri_len(text: &str) -> Option<usize>
@@ -468,7 +472,8 @@ fn decimal_len(text: &str) -> Option<usize>
     None
 }
 
-/// The length of a name with an empty prefix, and with a local part of letters, digits, `_` and `-` or none. LLVM would inline it.
+/// The length of a name with an empty prefix, and with a local part of letters, digits, `_` and `-` or none. LLVM
+/// would inline it.
 #[inline(never)]
 fn local_len(text: &str) -> Option<usize>
     requires { is_colon text.now 0 ≡ true }
@@ -500,8 +505,8 @@ fn far_local(text: &str) -> FarName
     }
 }
 
-/// What is told of a name with a prefix and such a local part. Its runs are sought once more: were they handed on, LLVM would keep less in
-/// registers, and all names would take 3 % more.
+/// What is told of a name with a prefix and such a local part. Its runs are sought once more: were they handed on,
+/// LLVM would keep less in registers, and all names would take 3 % more.
 #[inline(never)]
 fn far_name(text: &str) -> FarName
     requires some { 0 < length text.now }
@@ -564,8 +569,8 @@ fn signed_number(text: &str) -> Signed
     }
 }
 
-/// The length of the word `true` or `false`, which tells them apart. Its run is sought once more, too. Were it a `bool` that goes back, names
-/// would take 1.3 % more.
+/// The length of the word `true` or `false`, which tells them apart. Its run is sought once more, too. Were it a
+/// `bool` that goes back, names would take 1.3 % more.
 #[inline(never)]
 fn word_len(text: &str) -> Option<usize>
     requires { 0 < length text.now }

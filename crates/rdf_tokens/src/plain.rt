@@ -14,8 +14,8 @@ pub enum RunClass {
     InIri,
 }
 
-/// How many bytes come before the first that is not plain. Bytes from 128 on are plain, whether they are UTF-8 or not. It takes
-/// no memory.
+/// How many bytes come before the first that is not plain. Bytes from 128 on are plain, whether they are UTF-8 or
+/// not. It takes no memory.
 pub fn plain_run(bytes: &[u8], class: RunClass) -> usize
     ensures { IsRun (is_plain class) bytes.now 0 result }
 {

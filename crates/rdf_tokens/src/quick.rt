@@ -29,14 +29,15 @@ pub(crate) struct Quick {
     pub(crate) kind: Option<Kind>,
 }
 
-/// Whoever looks at the next token while taking it: an instance of `quick_front` of its own, which is inlined where nothing else calls it.
+/// Whoever looks at the next token while taking it: an instance of `quick_front` of its own, which is inlined where
+/// nothing else calls it.
 pub(crate) struct ByNext;
 
 /// Whoever looks at a token before taking it, by the longer look: an instance of `quick_front` of its own.
 pub(crate) struct ByPeekFar;
 
-/// The token that a text begins with, where its first bytes settle it: a byte that is one by itself, a plain text up to its delimiter, or a name, a
-/// label or a number of ASCII with the byte after it. `C` names the caller.
+/// The token that a text begins with, where its first bytes settle it: a byte that is one by itself, a plain text
+/// up to its delimiter, or a name, a label or a number of ASCII with the byte after it. `C` names the caller.
 #[inline(always)]
 pub(crate) fn quick_front<C>(dialect: Dialect, text: &str, no_names: &Option<NoNames>) -> Quick
     ensures { IsQuick dialect text.now result.len result.kind }
@@ -244,7 +245,8 @@ fn stands_thrice(quote: Quote, bytes: &[u8], at: usize) -> bool
     stands_at(byte, bytes, at) && stands_at(byte, bytes, at + 1) && stands_at(byte, bytes, at + 2)
 }
 
-/// The place after what stands inside such a string from a place on: plain bytes, whole escapes, and quotes each of which has a plain byte after it.
+/// The place after what stands inside such a string from a place on: plain bytes, whole escapes, and quotes each of
+/// which has a plain byte after it.
 pub(crate) fn long_end(quote: Quote, bytes: &[u8], from: usize) -> usize
     requires { from ≤ length bytes.now }
     ensures rests { RestsInLong quote bytes.now from result }
@@ -435,7 +437,8 @@ fn is_part_byte(byte: u8) -> bool
     is_letter(byte) || is_digit(byte)
 }
 
-/// Whether there is a byte of ASCII that is no hyphen. After a run of letters, or of letters and digits after a hyphen, no tag goes on with it.
+/// Whether there is a byte of ASCII that is no hyphen. After a run of letters, or of letters and digits after a
+/// hyphen, no tag goes on with it.
 #[inline(always)]
 fn is_tag_end(bytes: &[u8], at: usize) -> bool
     ensures { result ≡ is_tag_end bytes.now at }
@@ -482,8 +485,8 @@ pub(crate) fn is_sought(dialect: Dialect, bytes: &[u8], no_names: &Option<NoName
     }
 }
 
-/// A name of Turtle that begins with a letter, and whose other characters are letters, digits, `_` and `-`; or one of the words `a`, `true` and
-/// `false`.
+/// A name of Turtle that begins with a letter, and whose other characters are letters, digits, `_` and `-`; or one
+/// of the words `a`, `true` and `false`.
 #[inline(always)]
 pub(crate) fn quick_name(text: &str) -> Quick
     requires some { 0 < length text.now }
@@ -539,8 +542,8 @@ pub(crate) fn word_at(text: &str, end: usize) -> Option<usize>
     None
 }
 
-/// A name of Turtle, whose prefix ends before the colon at this place, and after it the run of letters, digits, `_` and `-`, which may be
-/// empty, at the other.
+/// A name of Turtle, whose prefix ends before the colon at this place, and after it the run of letters, digits, `_`
+/// and `-`, which may be empty, at the other.
 #[inline(always)]
 pub(crate) fn quick_local(text: &str, colon: usize, end: usize) -> Quick
     requires prefix { IsPrefix text.now colon }
@@ -574,7 +577,8 @@ pub(crate) fn quick_local(text: &str, colon: usize, end: usize) -> Quick
     }
 }
 
-/// How many bytes the name has where its local part goes on after the run: with a dot, a colon, an escape or a letter of another script.
+/// How many bytes the name has where its local part goes on after the run: with a dot, a colon, an escape or a
+/// letter of another script.
 #[inline(never)]
 fn far_len(text: &str, colon: usize, end: usize) -> Option<usize>
     requires prefix { IsPrefix text.now colon }
@@ -592,7 +596,8 @@ fn far_len(text: &str, colon: usize, end: usize) -> Option<usize>
     }
 }
 
-/// Whether a local part ends at a place, where no name goes on with the byte there, or with a dot and the byte after it.
+/// Whether a local part ends at a place, where no name goes on with the byte there, or with a dot and the byte
+/// after it.
 #[inline(always)]
 fn ends_local(bytes: &[u8], at: usize) -> bool
     requires { at ≤ length bytes.now }
@@ -669,7 +674,8 @@ pub(crate) fn quick_number(text: &str, from: usize) -> Quick
     quick_double(text, from, last)
 }
 
-/// A double whose digits, with a dot among or after them or without one, end at a place, up to a byte of ASCII that is no digit.
+/// A double whose digits, with a dot among or after them or without one, end at a place, up to a byte of ASCII that
+/// is no digit.
 #[inline(always)]
 fn quick_double(text: &str, from: usize, at: usize) -> Quick
     requires begins { BeginsNumber text.now from }
@@ -788,7 +794,8 @@ fn ends_number(byte: u8) -> bool
     byte < 128 && !matches!(byte, b'E' | b'e')
 }
 
-/// Whether the text is the word `a`, where its run of letters, digits, `_` and `-` ends at a byte with which no name goes on.
+/// Whether the text is the word `a`, where its run of letters, digits, `_` and `-` ends at a byte with which no
+/// name goes on.
 #[inline(always)]
 pub(crate) fn is_a(bytes: &[u8], end: usize) -> bool
     requires { 0 < length bytes.now }

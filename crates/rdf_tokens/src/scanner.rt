@@ -130,10 +130,11 @@ impl<A: Allocator + Copy> Scanner<A> {
         }
     }
 
-    /// How many bytes are held of which no token was given: of the text, and of a character that has not come whole. After a `next` that
-    /// answered `None` they are the bytes that leave the next token open. Text that was read stays until the next `push`. It is not counted
-    /// here, but with it too the bytes that are held are at most four for each character of the limit and for one more, and three: at all
-    /// times, also after an error. It takes no memory.
+    /// How many bytes are held of which no token was given: of the text, and of a character that has not come
+    /// whole. After a `next` that answered `None` they are the bytes that leave the next token open. Text that was
+    /// read stays until the next `push`. It is not counted here, but with it too the bytes that are held are at
+    /// most four for each character of the limit and for one more, and three: at all times, also after an error. It
+    /// takes no memory.
     pub fn pending(&self) -> u64
         ensures count { result ≡ unread_bytes self.now }
         ensures within { result ≤ self.now.held }
@@ -154,10 +155,10 @@ impl<A: Allocator + Copy> Scanner<A> {
         }
     }
 
-    /// Takes the bytes of the piece that there is room for, and answers how many: at most 65,536 at once, and fewer where the limit is low.
-    /// After a `next` that answered `None` they are at least one of a piece that is not empty. After a stop and after `end` it answers `Ended`.
-    /// A document has at most 2^63 - 1 bytes: for a piece after them it answers `DocumentTooLong`. After that, and after `Memory`, the scanner
-    /// is stopped.
+    /// Takes the bytes of the piece that there is room for, and answers how many: at most 65,536 at once, and fewer
+    /// where the limit is low. After a `next` that answered `None` they are at least one of a piece that is not
+    /// empty. After a stop and after `end` it answers `Ended`. A document has at most 2^63 - 1 bytes: for a piece
+    /// after them it answers `DocumentTooLong`. After that, and after `Memory`, the scanner is stopped.
     pub fn push(&mut self, piece: &[u8]) -> Result<usize, Fault>
         ensures { Pushes self.old piece.now result self.new }
     {
@@ -178,7 +179,8 @@ impl<A: Allocator + Copy> Scanner<A> {
     /// gives `End`, once. A fault stands at the place of the token that is not there; `BadUtf8` after
     /// all of the text. After it, and after `End`, the scanner is stopped and answers `Ended`.
     pub fn next(&mut self) -> Result<Option<Token<'_>>, Fault>
-        ensures* { sem 𝓛 (follows_so (the_row A.row A.Allocator) (the_row A.row A.Allocator) self.entry.ghost_name none (λ _ _. ⊤) (Gives self.old result)) }
+        ensures* { sem 𝓛 (follows_so (the_row A.row A.Allocator)
+            (the_row A.row A.Allocator) self.entry.ghost_name none (λ _ _. ⊤) (Gives self.old result)) }
     {
         if self.stopped {
             return Err(self.fault(Reason::Ended));
@@ -196,9 +198,9 @@ impl<A: Allocator + Copy> Scanner<A> {
         }
     }
 
-    /// Whether `peek` can be asked: tokens of Turtle are given, no comment is open, the text has no more bytes than a token may have characters,
-    /// and the token that it begins with was not looked at before. `false` tells nothing: then `next` is to be asked. While tokens are seen and
-    /// taken it stays `true`. It takes no memory.
+    /// Whether `peek` can be asked: tokens of Turtle are given, no comment is open, the text has no more bytes than
+    /// a token may have characters, and the token that it begins with was not looked at before. `false` tells
+    /// nothing: then `next` is to be asked. While tokens are seen and taken it stays `true`. It takes no memory.
     #[inline(always)]
     pub fn may_peek(&self) -> bool
         ensures { result ≡ true → MayPeek self.now }
@@ -209,8 +211,9 @@ impl<A: Allocator + Copy> Scanner<A> {
         self.walk.is_none() && self.rest().len() as u64 <= self.limit
     }
 
-    /// The next token of Turtle, where its first bytes settle it and it stands at once or after one space. It is asked after `may_peek` has
-    /// answered `true`. Nothing is taken. `None` tells nothing: then `next` is to be asked. It takes no memory.
+    /// The next token of Turtle, where its first bytes settle it and it stands at once or after one space. It is
+    /// asked after `may_peek` has answered `true`. Nothing is taken. `None` tells nothing: then `next` is to be
+    /// asked. It takes no memory.
     #[inline(always)]
     pub fn peek(&self) -> Option<Peeked>
         requires { MayPeek self.now }
@@ -219,8 +222,9 @@ impl<A: Allocator + Copy> Scanner<A> {
         first_seen(self.rest(), &self.no_names)
     }
 
-    /// The same of less frequent tokens too, at more cost: strings in `'` and empty ones, doubles without a sign, prefixes alone, and tokens at the
-    /// end of the text. It is asked where `peek` tells nothing and `pass_blanks` passes nothing.
+    /// The same of less frequent tokens too, at more cost: strings in `'` and empty ones, doubles without a sign,
+    /// prefixes alone, and tokens at the end of the text. It is asked where `peek` tells nothing and `pass_blanks`
+    /// passes nothing.
     #[inline(always)]
     pub fn peek_far(&self) -> Option<Peeked>
         requires { MayPeek self.now }
@@ -233,16 +237,17 @@ impl<A: Allocator + Copy> Scanner<A> {
     #[inline(always)]
     pub fn take(&mut self, peeked: Peeked) -> Token<'_>
         requires { IsPeeked self.old peeked }
-        ensures* { sem 𝓛 (follows_so (the_row A.row A.Allocator) (the_row A.row A.Allocator) self.entry.ghost_name none (λ _ _. ⊤)
+        ensures* { sem 𝓛 (follows_so (the_row A.row A.Allocator)
+            (the_row A.row A.Allocator) self.entry.ghost_name none (λ _ _. ⊤)
             (TakesSeen self.old peeked result)) }
     {
         self.move_on(peeked.blank, 0);
         self.give(peeked.kind, peeked.len, peeked.colon)
     }
 
-    /// Passes a line feed of Turtle that stands next, or two, and the spaces and tabs after them, where `peek` can be asked and neither more white space
-    /// nor a comment comes then. What the next token is, and where it stands, stays as it is: it is only sooner looked for, and `peek` can be asked
-    /// again. It takes no memory.
+    /// Passes a line feed of Turtle that stands next, or two, and the spaces and tabs after them, where `peek` can
+    /// be asked and neither more white space nor a comment comes then. What the next token is, and where it stands,
+    /// stays as it is: it is only sooner looked for, and `peek` can be asked again. It takes no memory.
     #[inline(always)]
     pub fn pass_line_feed(&mut self)
         requires { MayPeek self.old }
@@ -271,8 +276,9 @@ impl<A: Allocator + Copy> Scanner<A> {
         }
     }
 
-    /// Passes the white space and the comments of Turtle that stand next, where `peek` can be asked. It can be asked again but where the text ends in
-    /// a comment. What the next token is, and where it stands, stays as it is: it is only sooner looked for. It takes no memory.
+    /// Passes the white space and the comments of Turtle that stand next, where `peek` can be asked. It can be
+    /// asked again but where the text ends in a comment. What the next token is, and where it stands, stays as it
+    /// is: it is only sooner looked for. It takes no memory.
     pub fn pass_blanks(&mut self) -> Blanks
         requires { MayPeek self.old }
         ensures passes { PassesBlank self.old self.new }
@@ -303,15 +309,16 @@ impl<A: Allocator + Copy> Scanner<A> {
         self.dialect == Dialect::Turtle && self.begun && !self.stopped && !self.comment
     }
 
-    /// Whether so many bytes can be passed: the scanner stands between two tokens, and the document does not become too long.
+    /// Whether so many bytes can be passed: the scanner stands between two tokens, and the document does not become
+    /// too long.
     pub fn can_pass(&self, len: usize) -> bool
         ensures { result ≡ (is_idle self.now && nat_le (self.now.taken.offset + len) most_bytes) }
     {
         self.is_idle() && len as u64 <= MOST_BYTES - self.taken
     }
 
-    /// Moves on over bytes between two tokens, as if they had come and been read. What they are is the caller's to know. It takes no
-    /// memory.
+    /// Moves on over bytes between two tokens, as if they had come and been read. What they are is the caller's to
+    /// know. It takes no memory.
     pub fn pass(&mut self, bytes: &[u8])
         requires idle { is_idle self.old ≡ true }
         requires room { self.old.taken.offset + length bytes.now ≤ most_bytes }
@@ -325,8 +332,8 @@ impl<A: Allocator + Copy> Scanner<A> {
         self.last_line += feeds;
     }
 
-    /// Gives memory back that the text of given tokens took, as after a long one. What is to be read stays as it is: where a smaller block
-    /// is refused, the greater one stays.
+    /// Gives memory back that the text of given tokens took, as after a long one. What is to be read stays as it
+    /// is: where a smaller block is refused, the greater one stays.
     pub fn shrink(&mut self)
         ensures same { SameButHeld self.old self.new }
         ensures less { self.new.held ≤ self.old.held }
@@ -360,7 +367,8 @@ impl<A: Allocator + Copy> Scanner<A> {
     }
 
     fn look(&mut self) -> Look
-        ensures look { IsLook result (step self.new.dialect self.new.limit (tail_now self.new) self.new.text) self.new.text }
+        ensures look { IsLook result (step self.new.dialect self.new.limit
+            (tail_now self.new) self.new.text) self.new.text }
         ensures same { self.new ≡ self.old }
     {
         let rest = &self.text.as_str()[self.start..];
@@ -391,7 +399,8 @@ impl<A: Allocator + Copy> Scanner<A> {
     }
 
     fn give_end(&mut self) -> Token<'_>
-        ensures* { sem 𝓛 (follows_so (the_row A.row A.Allocator) (the_row A.row A.Allocator) self.entry.ghost_name none (λ _ _. ⊤)
+        ensures* { sem 𝓛 (follows_so (the_row A.row A.Allocator)
+            (the_row A.row A.Allocator) self.entry.ghost_name none (λ _ _. ⊤)
             (GivesEnd self.old result)) }
     {
         self.stopped = true;
@@ -406,9 +415,11 @@ impl<A: Allocator + Copy> Scanner<A> {
 
     #[inline(always)]
     fn give(&mut self, kind: Kind, len: usize, colon: usize) -> Token<'_>
-        requires bytes { (n : ℕ) × (len ≡ bytes_of n self.old.text) × (is_flat kind ≡ true → count_by (λ c. c == 10) (take n self.old.text) ≡ 0) }
+        requires bytes { (n : ℕ) × (len ≡ bytes_of n self.old.text)
+            × (is_flat kind ≡ true → count_by (λ c. c == 10) (take n self.old.text) ≡ 0) }
         requires colon { KnowsColon (take len (encode_utf8_all self.old.text)) colon }
-        ensures* { sem 𝓛 (follows_so (the_row A.row A.Allocator) (the_row A.row A.Allocator) self.entry.ghost_name none (λ _ _. ⊤)
+        ensures* { sem 𝓛 (follows_so (the_row A.row A.Allocator)
+            (the_row A.row A.Allocator) self.entry.ghost_name none (λ _ _. ⊤)
             (GivesWithColon self.old kind len result)) }
     {
         let start = self.start;
@@ -462,8 +473,8 @@ impl<A: Allocator + Copy> Scanner<A> {
         len.min(left.min(free) as usize)
     }
 
-    // Where a growth is refused, nothing of what is to be read changes. It is called once for each piece, and what it counts is a loop over all
-    // bytes: inlined, that loop took two instructions more for sixteen bytes.
+    // Where a growth is refused, nothing of what is to be read changes. It is called once for each piece, and what
+    // it counts is a loop over all bytes: inlined, that loop took two instructions more for sixteen bytes.
     #[inline(never)]
     fn take_in(&mut self, piece: &[u8]) -> Result<(), AllocError>
         requires most { self.old.taken.offset + length piece.now ≤ most_bytes }
@@ -549,7 +560,8 @@ impl<A: Allocator + Copy> Scanner<A> {
     // The same where it is known how many line feeds they are.
     #[inline(always)]
     fn move_on(&mut self, len: usize, feeds: usize)
-        requires { (n : ℕ) × (len ≡ bytes_of n self.old.text) × (feeds ≡ count_by (λ c. c == 10) (take n self.old.text)) }
+        requires { (n : ℕ) × (len ≡ bytes_of n self.old.text)
+            × (feeds ≡ count_by (λ c. c == 10) (take n self.old.text)) }
         ensures { MovesBytes self.old len self.new }
     {
         self.line += feeds as u64;
@@ -559,7 +571,11 @@ impl<A: Allocator + Copy> Scanner<A> {
     }
 
     fn stop(&mut self, reason: Reason) -> Fault
-        ensures fault { result ≡ record { reason = reason; offset = self.old.taken.offset; line = self.old.taken.line } }
+        ensures fault { result ≡ record {
+          reason = reason;
+          offset = self.old.taken.offset;
+          line = self.old.taken.line;
+        } }
         ensures stopped { self.new ≡ record self.old { stopped = true } }
     {
         self.stopped = true;
@@ -577,15 +593,16 @@ impl<A: Allocator + Copy> Scanner<A> {
     }
 }
 
-/// The most bytes of a piece that are taken at once. Most tokens are recognized at once only in a text that has no more bytes than the limit
-/// on their characters, so half of them are taken, or 512.
+/// The most bytes of a piece that are taken at once. Most tokens are recognized at once only in a text that has no
+/// more bytes than the limit on their characters, so half of them are taken, or 512.
 fn at_once(limit: u64) -> usize
     ensures { result ≡ at_once limit }
 {
     (limit / 2).min(MOST_AT_ONCE).max(LEAST_AT_ONCE) as usize
 }
 
-/// The most bytes of which no token was given. Above a quarter of what a document has at most, the limit makes no difference.
+/// The most bytes of which no token was given. Above a quarter of what a document has at most, the limit makes no
+/// difference.
 fn most_unread(limit: u64) -> u64
     ensures { result ≡ most_unread (min limit (most_bytes / 4)) }
 {
@@ -644,10 +661,13 @@ fn add_piece<A: Allocator + Copy>(
     pending: &mut Vec<u8, A>,
     piece: &[u8],
 ) -> Result<bool, AllocError>
-    ensures text { OnOk result (string_bytes text.new ≡ string_bytes text.old ++ good_bytes (pending.old.items ++ piece.now)) }
+    ensures text { OnOk result (string_bytes text.new ≡ string_bytes text.old
+        ++ good_bytes (pending.old.items ++ piece.now)) }
     ensures broken { IfOk result (λ broken. broken ≡ is_broken (pending.old.items ++ piece.now)) }
-    ensures pending { IfOk result (λ broken. pending.new.items ≡ cond broken [] (rest_of_bytes (pending.old.items ++ piece.now))) }
-    ensures err { OnErr result ((string_bytes text.new ≡ string_bytes text.old) × (pending.new.items ≡ pending.old.items)) }
+    ensures pending { IfOk result (λ broken.
+        pending.new.items ≡ cond broken [] (rest_of_bytes (pending.old.items ++ piece.now))) }
+    ensures err { OnErr result ((string_bytes text.new ≡ string_bytes text.old)
+        × (pending.new.items ≡ pending.old.items)) }
 {
     if pending.is_empty() {
         return add_good(text, pending, piece);

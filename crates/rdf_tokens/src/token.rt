@@ -13,8 +13,9 @@ pub struct Token<'a> {
     pub offset: u64,
     /// One plus the number of LF bytes before it.
     pub line: u64,
-    /// How many bytes stand before the local part of a name, which are its prefix and the colon, where it is known that the
-    /// name has no escape and its prefix no more than letters, digits, `_` and `-` of ASCII. Else 0, which tells nothing.
+    /// How many bytes stand before the local part of a name, which are its prefix and the colon, where it is known
+    /// that the name has no escape and its prefix no more than letters, digits, `_` and `-` of ASCII. Else 0, which
+    /// tells nothing.
     pub colon: usize,
 }
 

@@ -137,13 +137,15 @@ impl<A: Allocator + Copy> State<A> {
         requires most { rules.now.limits.depth ≡ scope.old.limits.depth }
         requires keeps { Keeps rules.now.form scope.old.limits self.old }
         requires live { S.has_failed sink.old ≡ false }
-        ensures ok { OnOk result (AcceptsAll S.takes rules.now.form scope.old self.old token.now sink.old self.new scope.new sink.new) }
+        ensures ok { OnOk result (AcceptsAll S.takes rules.now.form scope.old self.old token.now sink.old self.new
+            scope.new sink.new) }
         ensures count { IfOk result (Counts rules.now.form self.old token.now) }
         ensures limits { OnOk result (scope.new.limits ≡ scope.old.limits) }
         ensures keeps { OnOk result (Keeps rules.now.form scope.old.limits self.new) }
         ensures live { OnOk result (S.has_failed sink.new ≡ false) }
         ensures stays { IfErr result (λ r. r ≡ StepFault.Unexpected → (self.new ≡ self.old) × (scope.new ≡ scope.old)) }
-        ensures err { IfErr result (FailsAll S.takes S.leaves S.has_failed rules.now.form scope.old self.old token.now sink.old sink.new) }
+        ensures err { IfErr result (FailsAll S.takes S.leaves S.has_failed rules.now.form scope.old self.old token.now
+            sink.old sink.new) }
     {
         // Read once, before the token is lent: where the caller knows the kind, so does all that follows.
         let kind = token.kind;

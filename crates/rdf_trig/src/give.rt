@@ -33,7 +33,8 @@ pub fn give<A: Allocator, S: QuadSink>(
     sink: &mut S,
 ) -> Result<u64, StepFault>
     requires live { S.has_failed sink.old ≡ false }
-    ensures ok { OnOk result ((form : DocForm) (s : InForce) → Appends S.takes sink.old (given form s state.now token.now) sink.new) }
+    ensures ok { OnOk result ((form : DocForm) (s : InForce) →
+        Appends S.takes sink.old (given form s state.now token.now) sink.new) }
     ensures count { IfOk result (λ n. (form : DocForm) (s : InForce) → n ≡ length (given form s state.now token.now)) }
     ensures live { OnOk result (S.has_failed sink.new ≡ false) }
     ensures err { IfErr result (λ r. (form : DocForm) (s : InForce) →
@@ -72,7 +73,8 @@ fn give_listed<A: Allocator, S: QuadSink>(
 ) -> Result<u64, StepFault>
     requires after { IsAfterObject state.now }
     requires live { S.has_failed sink.old ≡ false }
-    ensures ok { OnOk result ((form : DocForm) (s : InForce) → Appends S.takes sink.old (given form s state.now token.now) sink.new) }
+    ensures ok { OnOk result ((form : DocForm) (s : InForce) →
+        Appends S.takes sink.old (given form s state.now token.now) sink.new) }
     ensures count { IfOk result (λ n. (form : DocForm) (s : InForce) → n ≡ length (given form s state.now token.now)) }
     ensures live { OnOk result (S.has_failed sink.new ≡ false) }
     ensures err { IfErr result (λ r. (form : DocForm) (s : InForce) →
@@ -101,8 +103,10 @@ fn give_iri<A: Allocator, S: QuadSink>(
     requires held { state.now.held ≡ Held.Resource }
     requires object { Some (term.Iri (iri_chars object)) ≡ state.now.object.term }
     requires live { S.has_failed sink.old ≡ false }
-    ensures ok { OnOk result ((form : DocForm) (s : InForce) (t : Given) → Appends S.takes sink.old (given form s state.now t) sink.new) }
-    ensures count { IfOk result (λ n. (form : DocForm) (s : InForce) (t : Given) → n ≡ length (given form s state.now t)) }
+    ensures ok { OnOk result ((form : DocForm) (s : InForce) (t : Given) →
+        Appends S.takes sink.old (given form s state.now t) sink.new) }
+    ensures count { IfOk result (λ n.
+        (form : DocForm) (s : InForce) (t : Given) → n ≡ length (given form s state.now t)) }
     ensures live { OnOk result (S.has_failed sink.new ≡ false) }
     ensures err { IfErr result (λ r. (form : DocForm) (s : InForce) (t : Given) →
         GaveUp S.takes S.leaves S.has_failed r (given form s state.now t) sink.old sink.new) }
@@ -154,7 +158,8 @@ fn give_all<A: Allocator, S: QuadSink>(
     sink: &mut S,
 ) -> Result<u64, StepFault>
     requires live { S.has_failed sink.old ≡ false }
-    ensures ok { OnOk result ((form : DocForm) (s : InForce) → Appends S.takes sink.old (given form s state.now token.now) sink.new) }
+    ensures ok { OnOk result ((form : DocForm) (s : InForce) →
+        Appends S.takes sink.old (given form s state.now token.now) sink.new) }
     ensures count { IfOk result (λ n. (form : DocForm) (s : InForce) → n ≡ length (given form s state.now token.now)) }
     ensures live { OnOk result (S.has_failed sink.new ≡ false) }
     ensures err { IfErr result (λ r. (form : DocForm) (s : InForce) →
@@ -214,7 +219,8 @@ fn due_quad<'a, A: Allocator>(
     graph: Option<SubjectRef<'a>>,
     token: &Token<'_>,
 ) -> Option<QuadRef<'a>>
-    ensures { (form : DocForm) → option_map quad_of result ≡ due_quad (option_map (subject_by chars) graph.entry) (mode_in form state.now)
+    ensures { (form : DocForm) → option_map quad_of result ≡ due_quad (option_map (subject_by chars) graph.entry)
+        (mode_in form state.now)
         (due_term state.now state.now.mode token.now) }
 {
     let object = match due_object(state, token) {
@@ -274,7 +280,8 @@ fn object<A: Allocator>(state: &State<A>) -> Option<TermRef<'_>>
 // The quad between a cell and what comes after it.
 #[inline(always)]
 fn cells<'a>(cell: u64, next: SubjectRef<'a>, graph: Option<SubjectRef<'a>>) -> QuadRef<'a>
-    ensures { Some (quad_of result) ≡ cells_quad (option_map (subject_by chars) graph.entry) cell (subject_by chars next.entry) }
+    ensures { Some (quad_of result) ≡ cells_quad (option_map (subject_by chars) graph.entry) cell
+        (subject_by chars next.entry) }
 {
     QuadRef {
         subject: SubjectRef::Node(NodeRef::Cell(cell)),
@@ -292,7 +299,8 @@ fn put<S: QuadSink>(quad: Option<QuadRef<'_>>, sink: &mut S) -> Result<u64, Step
     ensures count { IfOk result (λ n. n ≡ length (kept (option_map quad_of quad.entry) [])) }
     ensures most { IfOk result (λ n. n ≤ 1) }
     ensures live { OnOk result (S.has_failed sink.new ≡ false) }
-    ensures err { IfErr result (λ r. GaveUp S.takes S.leaves S.has_failed r (kept (option_map quad_of quad.entry) []) sink.old sink.new) }
+    ensures err { IfErr result (λ r.
+        GaveUp S.takes S.leaves S.has_failed r (kept (option_map quad_of quad.entry) []) sink.old sink.new) }
 {
     let Some(quad) = quad else {
         return Ok(0);
@@ -313,11 +321,13 @@ fn put_iris<S: QuadSink>(
     sink: &mut S,
 ) -> Result<u64, StepFault>
     requires live { S.has_failed sink.old ≡ false }
-    ensures ok { OnOk result (Appends S.takes sink.old (quad_of (iris_quad subject.entry predicate.entry object.entry) ∷ []) sink.new) }
+    ensures ok { OnOk result (Appends S.takes sink.old
+        (quad_of (iris_quad subject.entry predicate.entry object.entry) ∷ []) sink.new) }
     ensures count { IfOk result (λ n. n ≡ 1) }
     ensures live { OnOk result (S.has_failed sink.new ≡ false) }
     ensures err { IfErr result (λ r.
-        GaveUp S.takes S.leaves S.has_failed r (quad_of (iris_quad subject.entry predicate.entry object.entry) ∷ []) sink.old sink.new) }
+        GaveUp S.takes S.leaves S.has_failed r
+        (quad_of (iris_quad subject.entry predicate.entry object.entry) ∷ []) sink.old sink.new) }
 {
     match sink.put_iris(subject, predicate, object) {
         Ok(()) => Ok(1),
@@ -351,7 +361,8 @@ fn quad_at<'a, A: Allocator>(
     object: TermRef<'a>,
     graph: Option<SubjectRef<'a>>,
 ) -> QuadRef<'a>
-    ensures { IsQuadAt frame.now (option_map (subject_by chars) graph.entry) (term_by chars object.entry) (Some (quad_of result)) }
+    ensures { IsQuadAt frame.now (option_map (subject_by chars) graph.entry) (term_by chars object.entry)
+        (Some (quad_of result)) }
 {
     match frame.container {
         Container::List(_) => QuadRef {
@@ -373,7 +384,8 @@ fn quad_at<'a, A: Allocator>(
 #[inline(always)]
 fn quad_listed<'a, A: Allocator>(state: &'a State<A>, object: TermRef<'a>) -> QuadRef<'a>
     requires { IsListed state.now.frame.container }
-    ensures { IsQuadAt state.now.frame (graph_of state.now.level state.now.graph) (term_by chars object.entry) (Some (quad_of result)) }
+    ensures { IsQuadAt state.now.frame (graph_of state.now.level state.now.graph) (term_by chars object.entry)
+        (Some (quad_of result)) }
 {
     let graph = match state.level {
         Level::Block(Block::Named) => Some(state.graph.view()),

@@ -72,8 +72,9 @@ impl<A: Allocator + Copy> TreeGrammar<A> {
 }
 
 // What is left after a step that failed. It leaves any state, so state and scope begin anew; but a token that is
-// unexpected has changed nothing. It is a call, so that the step itself stays as short as it was. The rules are lent: for
-// limits that are handed over the step would have a place in memory, and fill it with zeros for each token.
+// unexpected has changed nothing. It is a call, so that the step itself stays as short as it was. The rules are
+// lent: for limits that are handed over the step would have a place in memory, and fill it with zeros for each
+// token.
 #[inline(never)]
 fn begin_anew<A: Allocator + Copy>(
     fault: StepFault,
@@ -83,7 +84,8 @@ fn begin_anew<A: Allocator + Copy>(
     scope: &mut Scope<A>,
 )
     ensures stays { fault ≡ StepFault.Unexpected → (state.new ≡ state.old) × (scope.new ≡ scope.old) }
-    ensures anew { fault ≢ StepFault.Unexpected → ((form : DocForm) (sizes : Sizes) → Keeps form sizes state.new) × (scope.new.limits ≡ rules.now.limits) }
+    ensures anew { fault ≢ StepFault.Unexpected → ((form : DocForm) (sizes : Sizes) → Keeps form sizes state.new)
+        × (scope.new.limits ≡ rules.now.limits) }
 {
     match fault {
         StepFault::Unexpected => {}

@@ -23,8 +23,8 @@ pub fn tokens_settle_what_is_due()
     ensures { TokensSettleWhatIsDue }
 {}
 
-/// Something is owed after tokens that begin a document, with whatever is counted of the scope there, and it is the same in each document that
-/// begins with them.
+/// Something is owed after tokens that begin a document, with whatever is counted of the scope there, and it is the
+/// same in each document that begins with them.
 pub fn tokens_settle_what_is_owed()
     ensures { TokensSettleWhatIsOwed }
 {}

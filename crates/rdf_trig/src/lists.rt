@@ -83,9 +83,14 @@ impl<A: Allocator + Copy> State<A> {
     // The mode after a collection, whose first cell is the subject of the frame in hand.
     #[tactic(auto, using(crate::proofs::code::FrameStack::stack_steps, crate::proofs::code::HoldingLemmas::frames_popped))]
     fn collection_closed(&mut self) -> Mode
-        ensures mode { (form : DocForm) → mode_at form self.new result ≡ M.collection_closed (up_in self.old) self.old.frame.subject }
+        ensures mode { (form : DocForm) →
+            mode_at form self.new result ≡ M.collection_closed (up_in self.old) self.old.frame.subject }
         ensures graph { graph_at self.new result ≡ graph_of self.old.level self.old.graph }
-        ensures same { self.new ≡ record self.old { frame = self.new.frame; frames = self.new.frames; spares = self.new.spares } }
+        ensures same { self.new ≡ record self.old {
+          frame = self.new.frame;
+          frames = self.new.frames;
+          spares = self.new.spares;
+        } }
         ensures stack { length self.new.frames.items ≤ length self.old.frames.items - 1 }
         ensures fits { StillFits self.old self.new }
     {
@@ -104,9 +109,14 @@ impl<A: Allocator + Copy> State<A> {
     // The mode after a property list.
     #[tactic(auto, using(crate::proofs::code::FrameStack::stack_steps, crate::proofs::code::HoldingLemmas::frames_popped))]
     fn brackets_closed(&mut self) -> Mode
-        ensures mode { (form : DocForm) → mode_at form self.new result ≡ M.property_list_closed (up_in self.old) self.old.frame.subject }
+        ensures mode { (form : DocForm) →
+            mode_at form self.new result ≡ M.property_list_closed (up_in self.old) self.old.frame.subject }
         ensures graph { graph_at self.new result ≡ graph_of self.old.level self.old.graph }
-        ensures same { self.new ≡ record self.old { frame = self.new.frame; frames = self.new.frames; spares = self.new.spares } }
+        ensures same { self.new ≡ record self.old {
+          frame = self.new.frame;
+          frames = self.new.frames;
+          spares = self.new.spares;
+        } }
         ensures stack { length self.new.frames.items ≤ length self.old.frames.items - 1 }
         ensures fits { StillFits self.old self.new }
     {

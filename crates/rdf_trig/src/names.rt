@@ -371,8 +371,10 @@ fn look_up_prefix<A: Allocator + Copy>(
 ) -> Result<(), StepFault>
     requires token { IsTurtleToken token.now }
     requires short { byte_len (chars (string_bytes prefix.now)) ≤ 4 * scope.old.limits.token }
-    ensures ok { OnOk result (FindsIri (λ w. M.WantPrefixIri w (chars (string_bytes prefix.now))) scope.old token.now scope.new) }
-    ensures err { IfErr result (FindsNoIri (λ w. M.WantPrefixIri w (chars (string_bytes prefix.now))) scope.old token.now) }
+    ensures ok { OnOk result (FindsIri (λ w. M.WantPrefixIri w
+        (chars (string_bytes prefix.now))) scope.old token.now scope.new) }
+    ensures err { IfErr result (FindsNoIri
+        (λ w. M.WantPrefixIri w (chars (string_bytes prefix.now))) scope.old token.now) }
 {
     match token.kind {
         Kind::IriRef => bind(alloc, scope, prefix, token),

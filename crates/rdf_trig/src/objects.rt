@@ -112,8 +112,13 @@ impl<A: Allocator + Copy> State<A> {
     // A bracket opens in the frame in hand.
     #[tactic(auto, using(crate::proofs::code::FrameStack::stack_steps, crate::proofs::code::HoldingLemmas::frames_pushed))]
     fn open(&mut self) -> Result<(), StepFault>
-        ensures up { OnOk result ((v : M.Level) → up_of v self.new.frames.items ≡ M.At (place_of v self.old.frame (up_of v self.old.frames.items))) }
-        ensures same { OnOk result (self.new ≡ record self.old { frame = self.new.frame; frames = self.new.frames; spares = self.new.spares }) }
+        ensures up { OnOk result ((v : M.Level) →
+            up_of v self.new.frames.items ≡ M.At (place_of v self.old.frame (up_of v self.old.frames.items))) }
+        ensures same { OnOk result (self.new ≡ record self.old {
+          frame = self.new.frame;
+          frames = self.new.frames;
+          spares = self.new.spares;
+        }) }
         ensures depth { self.new.depth ≡ self.old.depth }
         ensures stack { OnOk result (length self.new.frames.items ≡ length self.old.frames.items + 1) }
         ensures fits { OnOk result (StillFits self.old self.new) }
@@ -157,7 +162,13 @@ impl<A: Allocator + Copy> State<A> {
     // A number or a boolean.
     #[inline(always)]
     fn known_literal(&mut self, rest: Rest, lexical: &str, datatype: Known) -> Result<(), StepFault>
-        ensures ok { OnOk result (self.new ≡ record self.old { object = self.new.object; text = self.new.text; rest = rest; held = Held.OfKnown datatype; mode = Mode.After }) }
+        ensures ok { OnOk result (self.new ≡ record self.old {
+          object = self.new.object;
+          text = self.new.text;
+          rest = rest;
+          held = Held.OfKnown datatype;
+          mode = Mode.After;
+        }) }
         ensures object { OnOk result (self.new.object.size ≡ 0) }
         ensures text { OnOk result (text_in self.new ≡ chars lexical.now) }
         ensures fits { OnOk result (text_bytes self.new ≤ 4 * length (chars lexical.now)) }
@@ -173,7 +184,12 @@ impl<A: Allocator + Copy> State<A> {
     // The reader stands after an IRI or a node, whose quad is held. The text is in no use, and emptied.
     #[inline(always)]
     fn hold_object(&mut self, rest: Rest)
-        ensures same { self.new ≡ record self.old { text = self.new.text; rest = rest; held = Held.Resource; mode = Mode.After } }
+        ensures same { self.new ≡ record self.old {
+          text = self.new.text;
+          rest = rest;
+          held = Held.Resource;
+          mode = Mode.After;
+        } }
         ensures text { string_bytes self.new.text ≡ [] }
     {
         self.text.clear();

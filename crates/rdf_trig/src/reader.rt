@@ -39,7 +39,10 @@ impl<A: Allocator> Model for Options<A> {
 
     ghost Value = { Chosen };
 
-    ghost view = { λ o. record { form = o.form; start = record { base = o.base; bindings = handed_in o.bindings; limits = o.limits } } };
+    ghost view = { λ o. record {
+      form = o.form;
+      start = record { base = o.base; bindings = handed_in o.bindings; limits = o.limits };
+    } };
 
     ghost invariant = { λ o. BaseFits o.base o.limits × IfSome o.bindings (λ b. b.limits ≡ o.limits) };
 }
@@ -56,8 +59,8 @@ fn base_fits<A: Allocator>(base: &Option<Iri<A>>, limits: Limits) -> bool
 }
 
 impl<A: Allocator> Options<A> {
-    /// Documents of the form, with this base or none and no prefix bound, within the limits. None where the base has more
-    /// bytes than an IRI may have; it is dropped then.
+    /// Documents of the form, with this base or none and no prefix bound, within the limits. None where the base
+    /// has more bytes than an IRI may have; it is dropped then.
     pub fn new(form: DocForm, base: Option<Iri<A>>, limits: Limits) -> Option<Options<A>>
         ensures { SomeIff result (BaseFits base limits) (chosen_alone form base limits) }
     {
@@ -191,7 +194,8 @@ impl<A: Allocator + Copy> TrigReader<A> {
     pub fn finish<S: QuadSink>(&mut self, sink: &mut S) -> Result<Summary, Fault>
         requires { self.old.done ≡ false → S.has_failed sink.old ≡ false }
         ensures ok { IfOk result (λ s. Finishes tree_words S.takes self.old sink.old s sink.new) }
-        ensures err { IfErr result (λ f. FinishFails tree_words S.takes S.leaves S.has_failed f.reason (place_of f) self.old sink.old self.new sink.new) }
+        ensures err { IfErr result (λ f. FinishFails tree_words S.takes S.leaves S.has_failed f.reason
+            (place_of f) self.old sink.old self.new sink.new) }
         ensures exact { FinishesExactly tree_words self.old result }
         ensures place { IfErr result (IsPlacedInRead tree_words self.old) }
         ensures found { FindsNoOther result self.new.found }
@@ -212,7 +216,8 @@ impl<A: Allocator + Copy> TrigReader<A> {
 
     /// The kinds of which a token can come next, as `may_come` says of each.
     pub fn expected(&self) -> Kinds
-        ensures exact { (k : Kind) → KnowsNext tree_words (λ x. trees x.form x.start) self.now.grammar k (has result k) }
+        ensures exact { (k : Kind) → KnowsNext tree_words (λ x. trees x.form x.start) self.now.grammar k
+            (has result k) }
     {
         self.reader.expected()
     }
@@ -225,12 +230,13 @@ impl<A: Allocator + Copy> TrigReader<A> {
         self.reader.found()
     }
 
-    /// How many bytes of text are held: those of which no token was given, and all texts of the grammar, those of the open frames and of the
-    /// quad in hand, the base, and the prefixes with their IRIs. After each call, also one that failed, they are at most what the limits
-    /// allow (`most` of `new`, `limits` of `feed` and `finish`), and until one fails or finishes at least what is owed after the tokens so
-    /// far, with the base and the prefixes (`least`; `owed` says it of the document). The text that the scanner has read stays until more
-    /// comes. It is not counted here, but the bytes of all texts of the reader, with it too, are at most what the limits allow (`all`). Spare
-    /// capacity is not counted. It takes no memory.
+    /// How many bytes of text are held: those of which no token was given, and all texts of the grammar, those of
+    /// the open frames and of the quad in hand, the base, and the prefixes with their IRIs. After each call, also
+    /// one that failed, they are at most what the limits allow (`most` of `new`, `limits` of `feed` and `finish`),
+    /// and until one fails or finishes at least what is owed after the tokens so far, with the base and the
+    /// prefixes (`least`; `owed` says it of the document). The text that the scanner has read stays until more
+    /// comes. It is not counted here, but the bytes of all texts of the reader, with it too, are at most what the
+    /// limits allow (`all`). Spare capacity is not counted. It takes no memory.
     pub fn held(&self) -> u64
         ensures sum { result ≡ unread_bytes self.now.scanner + self.now.grammar.held }
         ensures most { result ≤ R.most_held tree_words self.now }

@@ -47,7 +47,8 @@ pub enum Container {
     Cells { first: u64, cell: u64 },
 }
 
-/// What is open round an object, with its texts: the subject of a predicate list, and its last verb, where no IRI is `a`.
+/// What is open round an object, with its texts: the subject of a predicate list, and its last verb, where no IRI
+/// is `a`.
 #[derive(Drop)]
 pub struct Frame<A: Allocator = Global> {
     pub container: Container,
@@ -84,8 +85,8 @@ pub enum Outer {
     WantBrace,
 }
 
-/// Where the reader stands. The texts that belong to it are in the state: the subject that has come is that of the frame in hand, a string
-/// is the state's text.
+/// Where the reader stands. The texts that belong to it are in the state: the subject that has come is that of the
+/// frame in hand, a string is the state's text.
 #[derive(Clone, Copy)]
 pub enum Mode {
     Outer(Outer),
@@ -120,14 +121,16 @@ pub enum Held {
     Nil(u64),
 }
 
-/// What has been read, as far as it matters for what may come. Its texts are used again, so a statement like those before it takes no
-/// memory. A name is empty again when its token was taken, one of object and text is empty, and so is one of datatype and tag.
+/// What has been read, as far as it matters for what may come. Its texts are used again, so a statement like those
+/// before it takes no memory. A name is empty again when its token was taken, one of object and text is empty, and
+/// so is one of datatype and tag.
 #[derive(Drop)]
 pub struct State<A: Allocator = Global> {
     pub alloc: A,
     /// Where the reader stands.
     pub mode: Mode,
-    /// The predicate list or collection in hand, in the modes that belong to one. It stays where it is from token to token.
+    /// The predicate list or collection in hand, in the modes that belong to one. It stays where it is from token
+    /// to token.
     pub frame: Frame<A>,
     /// Where the statement stands that is being read.
     pub level: Level,

@@ -43,7 +43,8 @@ impl<A: Allocator> State<A> {
 
     /// Whether a token of this kind may stand here by the grammar, whatever it spells.
     pub fn may_come(&self, form: DocForm, kind: Kind) -> bool
-        ensures { (s : InForce) (l : Leaf) → result ≡ is_go (M.step form (setting s (graph_in self.now)) (mode_in form self.now) kind l) }
+        ensures { (s : InForce) (l : Leaf) →
+            result ≡ is_go (M.step form (setting s (graph_in self.now)) (mode_in form self.now) kind l) }
     {
         self.turn(form, kind).is_some()
     }

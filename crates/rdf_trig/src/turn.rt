@@ -43,8 +43,8 @@ pub enum ObjectStart {
 /// What a token does. It has nothing that the state has, as the offset of a bracket that has come.
 #[derive(Clone, Copy)]
 pub enum Turn {
-    /// It leads outside of statements, to a mode whose texts are there: of a directive all but its prefix, GRAPH, what opens and closes
-    /// a block, the end of a statement, the end of the document.
+    /// It leads outside of statements, to a mode whose texts are there: of a directive all but its prefix, GRAPH,
+    /// what opens and closes a block, the end of a statement, the end of the document.
     Lead(Outer),
     /// The prefix of a directive.
     Prefix(Spelling),

@@ -1,5 +1,5 @@
-//! An allocator for tests. It refuses one of the calls for memory and passes all others on, so a test can have each growth
-//! of a run refused in turn, and can tell whether one was refused.
+//! An allocator for tests. It refuses one of the calls for memory and passes all others on, so a test can have each
+//! growth of a run refused in turn, and can tell whether one was refused.
 #![tactic(auto)]
 
 use std::alloc::{AllocError, Allocator};

@@ -1,4 +1,5 @@
-//! Copies standard input to standard output while it is UTF-8: what a reader of text has to do at least, to measure readers beside.
+//! Copies standard input to standard output while it is UTF-8: what a reader of text has to do at least, to measure
+//! readers beside.
 #![tactic(auto)]
 
 ghost use Rattle.std.specs.Prelude.{◌≤◌, length};

@@ -36,15 +36,16 @@ pub fn put_at_once<C, A: Allocator + Copy>(
     requires plain { form.now.escapes ≡ Plain }
     requires room { line_room (length form.now.prefix.word.now) quad.now ≤ room }
     requires short { room ≤ 32768 }
-    ensures written { IfOk result (λ end. WrittenAt out.old.items out.new.items at (line_bytes (form_of form.now) quad.now) end) }
+    ensures written { IfOk result (λ end.
+        WrittenAt out.old.items out.new.items at (line_bytes (form_of form.now) quad.now) end) }
     ensures unchanged { OnErr result (out.new.items ≡ out.old.items) }
 {
     make_room(out, at, room)?;
     Ok(place_line::<C>(out.as_mut_slice(), at, quad, form))
 }
 
-/// Puts the line of three IRIs in the default graph, which takes so many bytes at most, in the same way. Nothing is asked
-/// of the terms.
+/// Puts the line of three IRIs in the default graph, which takes so many bytes at most, in the same way. Nothing is
+/// asked of the terms.
 #[inline(always)]
 pub fn put_iris_at_once<A: Allocator + Copy>(
     subject: IriView<'_>,
@@ -57,15 +58,16 @@ pub fn put_iris_at_once<A: Allocator + Copy>(
     requires at { at ≤ length out.old.items }
     requires room { iris_room subject predicate object ≤ room }
     requires short { room ≤ 32768 }
-    ensures written { IfOk result (λ end. WrittenAt out.old.items out.new.items at (iris_bytes subject.entry predicate.entry object.entry) end) }
+    ensures written { IfOk result (λ end.
+        WrittenAt out.old.items out.new.items at (iris_bytes subject.entry predicate.entry object.entry) end) }
     ensures unchanged { OnErr result (out.new.items ≡ out.old.items) }
 {
     make_room(out, at, room)?;
     Ok(place_iris(out.as_mut_slice(), at, subject, predicate, object))
 }
 
-/// The same of three IRIs of few bytes, where there is room for any such line; else it places nothing. It calls nothing, so that a function that does
-/// without other calls too saves no registers.
+/// The same of three IRIs of few bytes, where there is room for any such line; else it places nothing. It calls
+/// nothing, so that a function that does without other calls too saves no registers.
 #[inline(always)]
 pub fn put_few_at_once(
     subject: IriView<'_>,
@@ -75,7 +77,8 @@ pub fn put_few_at_once(
     slot: &mut [u8],
 ) -> Option<usize>
     requires { at ≤ length slot.old }
-    ensures written { IfSome result (λ end. WrittenAt slot.old slot.new at (iris_bytes subject.entry predicate.entry object.entry) end) }
+    ensures written { IfSome result (λ end.
+        WrittenAt slot.old slot.new at (iris_bytes subject.entry predicate.entry object.entry) end) }
     ensures unchanged { result ≡ None → slot.new ≡ slot.old }
 {
     if !are_few(subject, predicate, object) || slot.len() - at < FEW_ROOM {
@@ -209,7 +212,8 @@ fn place_node(slot: &mut [u8], at: usize, node: &NodeRef<'_>, form: &WrittenForm
 #[inline(never)]
 fn place_label(slot: &mut [u8], at: usize, label: LabelView<'_>, form: &WrittenForm<'_>) -> usize
     requires { at + (length label.text.now + length form.now.prefix.word.now + 3) ≤ length slot.old }
-    ensures placed { Placed slot.old slot.new at (label_bytes form.now.style form.now.prefix.word.now label.entry.text.now) result }
+    ensures placed { Placed slot.old slot.new at
+        (label_bytes form.now.style form.now.prefix.word.now label.entry.text.now) result }
     ensures within { result ≤ at + (length label.entry.text.now + length form.now.prefix.word.now + 3) }
 {
     let begin = place_start(slot, at, form.prefix.as_str());
@@ -232,7 +236,8 @@ fn place_number(
     form: &WrittenForm<'_>,
 ) -> usize
     requires { at + (length form.now.prefix.word.now + 23) ≤ length slot.old }
-    ensures placed { Placed slot.old slot.new at (number_bytes form.now.style form.now.prefix.word.now letter offset) result }
+    ensures placed { Placed slot.old slot.new at
+        (number_bytes form.now.style form.now.prefix.word.now letter offset) result }
     ensures within { result ≤ at + (length form.now.prefix.word.now + 23) }
 {
     match form.style {
@@ -326,7 +331,8 @@ fn place_tag(slot: &mut [u8], at: usize, tag: TagView<'_>) -> usize
 #[inline(always)]
 fn place_type(slot: &mut [u8], at: usize, plain: bool, datatype: IriView<'_>) -> usize
     requires { at + (length datatype.text.now + 4) ≤ length slot.old }
-    ensures placed { Placed slot.old slot.new at (encode_utf8_all (type_text Plain plain (iri_chars datatype.entry))) result }
+    ensures placed { Placed slot.old slot.new at
+        (encode_utf8_all (type_text Plain plain (iri_chars datatype.entry))) result }
     ensures within { result ≤ at + (length datatype.entry.text.now + 4) }
 {
     if plain {

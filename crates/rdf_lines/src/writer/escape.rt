@@ -32,7 +32,8 @@ fn four_digits(n: u32) -> [u8; 6]
 }
 
 fn eight_digits(n: u32) -> [u8; 10]
-    ensures { result ≡ 92 ∷ 85 ∷ hex_digits (0x10000000 ∷ 0x1000000 ∷ 0x100000 ∷ 0x10000 ∷ 0x1000 ∷ 0x100 ∷ 0x10 ∷ 1 ∷ []) n }
+    ensures { result ≡ 92 ∷ 85 ∷ hex_digits
+        (0x10000000 ∷ 0x1000000 ∷ 0x100000 ∷ 0x10000 ∷ 0x1000 ∷ 0x100 ∷ 0x10 ∷ 1 ∷ []) n }
 {
     [
         b'\\',

@@ -51,7 +51,8 @@ fn put_subject<A: Allocator + Copy>(
     form: WrittenForm<'_>,
     out: &mut Vec<u8, A>,
 ) -> Result<(), AllocError>
-    ensures written { OnOk result (out.new.items ≡ out.old.items ++ (subject_bytes (form_of form.entry) subject.entry ++ space)) }
+    ensures written { OnOk result (out.new.items ≡ out.old.items
+        ++ (subject_bytes (form_of form.entry) subject.entry ++ space)) }
     ensures grown { OnErr result (BeginsWith out.old.items out.new.items) }
 {
     put_name(subject, form, out)?;
@@ -75,7 +76,8 @@ fn put_object<A: Allocator + Copy>(
     form: WrittenForm<'_>,
     out: &mut Vec<u8, A>,
 ) -> Result<(), AllocError>
-    ensures written { OnOk result (out.new.items ≡ out.old.items ++ (term_bytes (form_of form.entry) object.entry ++ space)) }
+    ensures written { OnOk result (out.new.items ≡ out.old.items
+        ++ (term_bytes (form_of form.entry) object.entry ++ space)) }
     ensures grown { OnErr result (BeginsWith out.old.items out.new.items) }
 {
     put_term(object, form, out)?;
@@ -87,7 +89,8 @@ fn put_end<A: Allocator + Copy>(
     form: WrittenForm<'_>,
     out: &mut Vec<u8, A>,
 ) -> Result<(), AllocError>
-    ensures written { OnOk result (out.new.items ≡ out.old.items ++ (graph_bytes (form_of form.entry) graph.entry ++ (46 ∷ []) ++ (10 ∷ []))) }
+    ensures written { OnOk result (out.new.items ≡ out.old.items
+        ++ (graph_bytes (form_of form.entry) graph.entry ++ (46 ∷ []) ++ (10 ∷ []))) }
     ensures grown { OnErr result (BeginsWith out.old.items out.new.items) }
 {
     put_graph(graph, form, out)?;

@@ -17,7 +17,8 @@ const FEW: usize = 64;
 /// The most bytes of the line of three of them.
 pub const FEW_ROOM: usize = 3 * FEW + 11;
 
-/// The most bytes of the line of a quad, where an escape may stand for each byte of its object, with a word of so many bytes in front of each name, or None where a text is long.
+/// The most bytes of the line of a quad, where an escape may stand for each byte of its object, with a word of so
+/// many bytes in front of each name, or None where a text is long.
 #[inline(always)]
 pub fn short_room(quad: &QuadRef<'_>, word: &str) -> Option<usize>
     ensures room { IfSome result (λ room. line_room (length word.now) quad.now ≤ room) }

@@ -19,13 +19,15 @@ use rdf_terms::{LabelView, LiteralRef, NodeRef, QuadRef, SubjectRef, TermRef};
 /// The most bytes of a text that is placed without a loop.
 const SHORT: usize = 64;
 
-/// The most bytes of a line of five such texts: those of a literal with its datatype, in a graph. An escape may stand for each byte of the literal's.
+/// The most bytes of a line of five such texts: those of a literal with its datatype, in a graph. An escape may
+/// stand for each byte of the literal's.
 const SHORT_LINE: usize = 7 * SHORT + 22;
 
 /// Offsets of a short line are below this one.
 const MOST: u64 = 1_000_000_000_000;
 
-/// Puts the line of a quad in the plain form, where its texts are short, nodes have no word in front of their names, and there is room for any such line; else it puts nothing.
+/// Puts the line of a quad in the plain form, where its texts are short, nodes have no word in front of their
+/// names, and there is room for any such line; else it puts nothing.
 #[inline(always)]
 pub fn put_short(
     quad: &QuadRef<'_>,
@@ -34,7 +36,8 @@ pub fn put_short(
     slot: &mut [u8],
 ) -> Option<usize>
     requires { at ≤ length slot.old }
-    ensures written { IfSome result (λ end. WrittenAt slot.old slot.new at (line_bytes (form_of form.now) quad.now) end) }
+    ensures written { IfSome result (λ end.
+        WrittenAt slot.old slot.new at (line_bytes (form_of form.now) quad.now) end) }
     ensures unchanged { result ≡ None → slot.new ≡ slot.old }
 {
     if !is_short(quad, form) || slot.len() - at < SHORT_LINE {
@@ -122,9 +125,10 @@ fn is_short_graph(graph: &Option<SubjectRef<'_>>) -> bool
     }
 }
 
-// Each part and a space, then the dot and LF: where the line ends. The parts are those of the form without a word and without escapes,
-// which this one is wherever a part depends on it. A call, in which the object's kinds are told: a function as large as this one keeps no mark, and what it calls
-// is small enough to keep its own, so that all of it stands here.
+// Each part and a space, then the dot and LF: where the line ends. The parts are those of the form without a word
+// and without escapes, which this one is wherever a part depends on it. A call, in which the object's kinds are
+// told: a function as large as this one keeps no mark, and what it calls is small enough to keep its own, so that
+// all of it stands here.
 #[inline(never)]
 fn place_line(slot: &mut [u8], at: usize, quad: &QuadRef<'_>, form: &WrittenForm<'_>) -> usize
     requires short { IsShort form.now quad.now }

@@ -35,7 +35,8 @@ pub fn put_characters<A: Allocator + Copy>(
     escapes: Escapes,
     out: &mut Vec<u8, A>,
 ) -> Result<(), AllocError>
-    ensures written { OnOk result (out.new.items ≡ out.old.items ++ encode_utf8_all (flat_map (written escapes) (iri_chars iri.entry))) }
+    ensures written { OnOk result (out.new.items ≡ out.old.items
+        ++ encode_utf8_all (flat_map (written escapes) (iri_chars iri.entry))) }
     ensures grown { OnErr result (BeginsWith out.old.items out.new.items) }
 {
     match escapes {
@@ -44,14 +45,16 @@ pub fn put_characters<A: Allocator + Copy>(
     }
 }
 
-// The same in ASCII. An IRI of ASCII stands as it is. Apart, so that `put_characters` is small enough to stand where it is called.
+// The same in ASCII. An IRI of ASCII stands as it is. Apart, so that `put_characters` is small enough to stand
+// where it is called.
 #[inline(never)]
 #[tactic(auto, using(crate::proofs::EscapedRuns::ascii_iri, crate::proofs::EscapedRuns::escaped_iri))]
 fn put_in_ascii<A: Allocator + Copy>(
     iri: IriView<'_>,
     out: &mut Vec<u8, A>,
 ) -> Result<(), AllocError>
-    ensures written { OnOk result (out.new.items ≡ out.old.items ++ encode_utf8_all (flat_map (written Ascii) (iri_chars iri.entry))) }
+    ensures written { OnOk result (out.new.items ≡ out.old.items
+        ++ encode_utf8_all (flat_map (written Ascii) (iri_chars iri.entry))) }
     ensures grown { OnErr result (BeginsWith out.old.items out.new.items) }
 {
     if is_run(Run::Ascii, iri.as_bytes()) {
@@ -86,7 +89,8 @@ fn put_run<'a, A: Allocator + Copy>(
     escapes: Escapes,
     out: &mut Vec<u8, A>,
 ) -> Result<&'a str, AllocError>
-    ensures written { IfOk result (λ rest. out.new.items ++ escaped_bytes escapes rest.now ≡ out.old.items ++ escaped_bytes escapes text.now) }
+    ensures written { IfOk result (λ rest.
+        out.new.items ++ escaped_bytes escapes rest.now ≡ out.old.items ++ escaped_bytes escapes text.now) }
     ensures progress { IfOk result (λ rest. 0 < length text.now → length rest.now < length text.now) }
     ensures grown { BeginsWith out.old.items out.new.items }
 {
@@ -105,7 +109,8 @@ fn put_first<'a, A: Allocator + Copy>(
     escapes: Escapes,
     out: &mut Vec<u8, A>,
 ) -> Result<&'a str, AllocError>
-    ensures written { IfOk result (λ rest. out.new.items ++ escaped_bytes escapes rest.now ≡ out.old.items ++ escaped_bytes escapes text.now) }
+    ensures written { IfOk result (λ rest.
+        out.new.items ++ escaped_bytes escapes rest.now ≡ out.old.items ++ escaped_bytes escapes text.now) }
     ensures progress { IfOk result (λ rest. 0 < length text.now → length rest.now < length text.now) }
     ensures within { IfOk result (λ rest. length rest.now ≤ length text.now) }
     ensures grown { BeginsWith out.old.items out.new.items }

@@ -180,7 +180,8 @@ fn put_type<A: Allocator + Copy>(
     escapes: Escapes,
     out: &mut Vec<u8, A>,
 ) -> Result<(), AllocError>
-    ensures written { OnOk result (out.new.items ≡ out.old.items ++ encode_utf8_all (type_text escapes plain (iri_chars datatype.entry))) }
+    ensures written { OnOk result (out.new.items ≡ out.old.items
+        ++ encode_utf8_all (type_text escapes plain (iri_chars datatype.entry))) }
     ensures grown { OnErr result (BeginsWith out.old.items out.new.items) }
 {
     if plain {

@@ -269,7 +269,8 @@ pub(crate) static TASKS: [Asked; 6] = [
     },
 ];
 
-/// The words that the program is started with, and what comes of it. Its standard input and its files are `INPUT` and `FILES`.
+/// The words that the program is started with, and what comes of it. Its standard input and its files are `INPUT`
+/// and `FILES`.
 pub(crate) struct Started {
     /// The words, with a space between each two.
     pub(crate) line: &'static str,

@@ -5,7 +5,8 @@ ghost use Rattle.std.specs.Prelude.{Some, ◌≡◌, [], false};
 use rdf_stream::{Drain, Failed, Source};
 use std::alloc::Global;
 
-/// Gives its bytes in parts: the first of one length, the others of another. It fails once a number of calls has been made.
+/// Gives its bytes in parts: the first of one length, the others of another. It fails once a number of calls has
+/// been made.
 #[derive(Drop)]
 pub(crate) struct Parts<'a> {
     bytes: &'a [u8],

@@ -1,4 +1,5 @@
-// Documents of several pieces, and long texts: they are read in few calls, and where there is memory none is reported as refused.
+// Documents of several pieces, and long texts: they are read in few calls, and where there is memory none is
+// reported as refused.
 
 use super::runs::{Asked, End, Task, has_text, run};
 use rdf_lines::Fault;

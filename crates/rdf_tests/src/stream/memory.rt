@@ -1,4 +1,5 @@
-// Runs of which each growth is refused in turn, and each call of a device fails; and the other calls that can report want of memory.
+// Runs of which each growth is refused in turn, and each call of a device fails; and the other calls that can
+// report want of memory.
 
 use super::devices::parts_of;
 use super::large::text_of;
@@ -59,7 +60,8 @@ const LINES_OF_GRAPHS: &str =
     "<a:s> <a:p> \"\\t\\b\\n\\r\\f\\\"\\'\\\\\\u00e9\\U0001F600\"@en-GB <a:\\u0067> .\n_:x <a:p> _:y _:g .
 <a:s> <a:p> \"x\"^^<a:t> <a:g> .\n<a:s> <a:p> <a:o> .";
 
-/// Directives of both spellings, a base and a prefix given anew, and each kind of term, string, escape, number and bracket of Turtle.
+/// Directives of both spellings, a base and a prefix given anew, and each kind of term, string, escape, number and
+/// bracket of Turtle.
 const STATEMENTS: &str = "@base <http://h/b/c> .\nBASE <../d/>\n@prefix : <#> .\nPREFIX x: <e?q#f>
 :s a x:b%20\\~c, <s\\u0061>, _:l.x ; x:p 'a\\'\\t\\b\\n\\r\\f\\\"\\\\\\u00e9\\U0001F600'@en-GB, \"b\"^^x:t, \"c\", '''a'
 \"\\\"b''\\n''', \"\"\" \"\" \\u0041\"\"\"^^<t>, 1, -1.5, +.5e-3, true, false ; ; .
@@ -106,8 +108,9 @@ fn run_that_meets(alloc: Global, asked: &Asked<'_>, met: Met, calls: u64) -> (Ou
     (outcome, has_failed)
 }
 
-/// Whether the run ended for what it met, after a beginning of what it writes where it meets nothing: whole lines of it where the drain
-/// did not fail, and else so many bytes. Lines that were written before a growth was refused were flushed.
+/// Whether the run ended for what it met, after a beginning of what it writes where it meets nothing: whole lines
+/// of it where the drain did not fail, and else so many bytes. Lines that were written before a growth was refused
+/// were flushed.
 fn is_stopped(stopped: &Outcome, met: Met, calls: u64, whole: &Outcome) -> bool {
     let Some(written) = stopped.text.as_slice().get(..stopped.len) else {
         return false;

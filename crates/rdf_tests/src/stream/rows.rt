@@ -1,4 +1,5 @@
-// Documents, and what a run writes and reports of them: its lines, and after them the line of the fault, if there is one.
+// Documents, and what a run writes and reports of them: its lines, and after them the line of the fault, if there
+// is one.
 
 use super::runs::Task;
 use rdf_stream::Form;
@@ -401,8 +402,8 @@ pub(crate) static FORMS: [(Task, Form, &str, &str); 4] = [
     ),
 ];
 
-/// A document that comes a byte a call, limits of open brackets and of an IRI, the calls after which its source and its drain fail, and what is
-/// written and reported then.
+/// A document that comes a byte a call, limits of open brackets and of an IRI, the calls after which its source and
+/// its drain fail, and what is written and reported then.
 pub(crate) struct Failing {
     pub(crate) task: Task,
     pub(crate) form: Form,
@@ -413,8 +414,9 @@ pub(crate) struct Failing {
     pub(crate) text: &'static str,
 }
 
-/// The source fails in the middle, or where nothing but the end is left to be read, which alone would refuse the document; or what was read is
-/// refused before it fails, and before any line comes to a drain that takes one call alone: that of the flush.
+/// The source fails in the middle, or where nothing but the end is left to be read, which alone would refuse the
+/// document; or what was read is refused before it fails, and before any line comes to a drain that takes one call
+/// alone: that of the flush.
 pub(crate) static FAILING: [Failing; 27] = [
     Failing {
         task: Task::Convert,

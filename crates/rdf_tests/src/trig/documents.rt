@@ -122,7 +122,8 @@ fn is_read_at_once(alloc: Global, options: Options, row: &Row) -> bool {
     }
 }
 
-/// Whether a document puts its lines and reports what it is to, at once and wherever the bytes begin to come one by one.
+/// Whether a document puts its lines and reports what it is to, at once and wherever the bytes begin to come one by
+/// one.
 fn is_read(alloc: Global, form: DocForm, row: &Row) -> Option<bool> {
     for cut in 0..=row.bytes.len() {
         if !is_read_cut(alloc, options(alloc, row.under, form)?, row, cut) {

@@ -8,8 +8,8 @@ use rdf_terms::Reason;
 use rdf_trig::DocForm;
 use std::alloc::Global;
 
-/// A document of pieces, each of which comes some times over: how many brackets may be open, how many quads are put, and why it is refused, at
-/// which byte, if it is.
+/// A document of pieces, each of which comes some times over: how many brackets may be open, how many quads are
+/// put, and why it is refused, at which byte, if it is.
 struct Nested {
     depth: u64,
     pieces: &'static [Piece<'static>],
@@ -147,7 +147,8 @@ fn held_after(alloc: Global, limits: [u64; 4], piece: &str) -> Option<u64> {
     Some(report.held)
 }
 
-/// Limits, a piece, and how many bytes are held after it. The prefix of a directive is held until another text takes its place.
+/// Limits, a piece, and how many bytes are held after it. The prefix of a directive is held until another text
+/// takes its place.
 static HELD: [([u64; 4], &str, u64); 3] = [
     (
         [16, 2, 1, 64],

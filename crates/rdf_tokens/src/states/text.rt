@@ -122,7 +122,8 @@ fn opened(dialect: Dialect, sort: Sort) -> Text
     }
 }
 
-// The state after a backslash and this character: inside the string again, or before the hex digits of a small or a big U.
+// The state after a backslash and this character: inside the string again, or before the hex digits of a small or a
+// big U.
 #[inline(always)]
 fn escaped(sort: Sort, inside: Text, small: Text, big: Text) -> Text
     ensures { (hex : ℕ → Text) → small ≡ hex 3 → big ≡ hex 7 → result ≡ escaped hex inside sort }

@@ -19,7 +19,8 @@ impl<A: Allocator> State<A> {
     // After a subject, which outside of a block may be a graph's label in TriG.
     #[inline(always)]
     pub fn after_subject(&self, form: DocForm, kind: Kind) -> Option<Turn>
-        ensures means { Means form self.now kind result (λ s. M.step form (setting_in s self.now) (mode_at form self.now Mode.AfterSubject) kind) }
+        ensures means { Means form self.now kind result (λ s.
+            M.step form (setting_in s self.now) (mode_at form self.now Mode.AfterSubject) kind) }
         ensures suits { IfSome result (IsSuited kind) }
         ensures frames { IfSome result (KeepsFrames kind) }
     {
@@ -35,7 +36,8 @@ impl<A: Allocator> State<A> {
     #[inline(always)]
     fn after_label(&self, kind: Kind) -> Option<Turn>
         requires level { self.now.level ≡ Level.Top }
-        ensures means { (form : DocForm) → Means form self.now kind result (λ s. M.after_label (setting s None) self.now.frame.subject kind) }
+        ensures means { (form : DocForm) →
+            Means form self.now kind result (λ s. M.after_label (setting s None) self.now.frame.subject kind) }
         ensures suits { IfSome result (IsSuited kind) }
         ensures frames { IfSome result (KeepsFrames kind) }
     {
@@ -60,7 +62,9 @@ impl<A: Allocator> State<A> {
     #[tactic(auto, using(crate::proofs::machine::Fallbacks::fallbacks))]
     #[inline(always)]
     pub fn property_list_start(&self, kind: Kind) -> Option<Turn>
-        ensures means { (form : DocForm) → Means form self.now kind result (λ s. M.property_list_start form (setting_in s self.now) self.now.bracket (up_in self.now) kind) }
+        ensures means { (form : DocForm) →
+            Means form self.now kind result (λ s.
+            M.property_list_start form (setting_in s self.now) self.now.bracket (up_in self.now) kind) }
         ensures suits { IfSome result (IsSuited kind) }
         ensures frames { IfSome result (KeepsFrames kind) }
     {
@@ -86,7 +90,9 @@ impl<A: Allocator> State<A> {
 
     #[inline(always)]
     pub fn after_semicolon(&self, kind: Kind) -> Option<Turn>
-        ensures means { (form : DocForm) → Means form self.now kind result (λ s. M.step form (setting_in s self.now) (after_semicolon_at (place_in self.now)) kind) }
+        ensures means { (form : DocForm) →
+            Means form self.now kind result (λ s.
+            M.step form (setting_in s self.now) (after_semicolon_at (place_in self.now)) kind) }
         ensures suits { IfSome result (IsSuited kind) }
         ensures frames { IfSome result (KeepsFrames kind) }
     {
@@ -99,7 +105,8 @@ impl<A: Allocator> State<A> {
     #[inline(always)]
     fn after_verb(&self, around: Around, kind: Kind) -> Option<Turn>
         requires listed { self.now.frame.container ≡ Container.List around }
-        ensures means { MeansHere self.now kind result (λ c p. M.after_semicolon c self.now.frame.subject (around_in self.now around) kind) }
+        ensures means { MeansHere self.now kind result (λ c p.
+            M.after_semicolon c self.now.frame.subject (around_in self.now around) kind) }
         ensures suits { IfSome result (IsSuited kind) }
         ensures frames { IfSome result (KeepsFrames kind) }
     {
@@ -115,7 +122,8 @@ impl<A: Allocator> State<A> {
     // After a property list that is a subject.
     #[inline(always)]
     pub fn after_property_list(&self, kind: Kind) -> Option<Turn>
-        ensures means { MeansHere self.now kind result (λ c p. M.after_property_list c self.now.frame.subject (level_of self.now.level) kind) }
+        ensures means { MeansHere self.now kind result (λ c p.
+            M.after_property_list c self.now.frame.subject (level_of self.now.level) kind) }
         ensures suits { IfSome result (IsSuited kind) }
         ensures frames { IfSome result (KeepsFrames kind) }
     {
@@ -127,7 +135,8 @@ impl<A: Allocator> State<A> {
 
     #[inline(always)]
     fn predicate_list_end(&self, around: Around, kind: Kind) -> Option<Turn>
-        ensures means { MeansHere self.now kind result (λ c p. M.predicate_list_end c self.now.frame.subject (around_in self.now around) kind) }
+        ensures means { MeansHere self.now kind result (λ c p.
+            M.predicate_list_end c self.now.frame.subject (around_in self.now around) kind) }
         ensures suits { IfSome result (IsSuited kind) }
         ensures frames { IfSome result (KeepsFrames kind) }
     {
@@ -142,7 +151,8 @@ impl<A: Allocator> State<A> {
 
     #[inline(always)]
     fn statement_end(&self, kind: Kind) -> Option<Turn>
-        ensures means { (x : M.Topic) → MeansHere self.now kind result (λ c p. M.predicate_list_end c x (M.Statement (level_of self.now.level)) kind) }
+        ensures means { (x : M.Topic) → MeansHere self.now kind result (λ c p.
+            M.predicate_list_end c x (M.Statement (level_of self.now.level)) kind) }
         ensures suits { IfSome result (IsSuited kind) }
         ensures frames { IfSome result (KeepsFrames kind) }
     {

@@ -53,7 +53,8 @@ impl<A: Allocator> State<A> {
     // Between statements, in a block.
     #[inline(always)]
     fn inside(&self, block: Block, kind: Kind) -> Option<Turn>
-        ensures means { (form : DocForm) → Means form self.now kind result (λ s. M.inside form (setting s (block_graph block self.now.graph)) kind) }
+        ensures means { (form : DocForm) →
+            Means form self.now kind result (λ s. M.inside form (setting s (block_graph block self.now.graph)) kind) }
         ensures suits { IfSome result (IsSuited kind) }
         ensures frames { IfSome result (KeepsFrames kind) }
     {
@@ -86,7 +87,8 @@ impl<A: Allocator> State<A> {
 
     #[inline(always)]
     fn want_iri(&self, spelling: Spelling, kind: Kind) -> Option<Turn>
-        ensures prefix { (form : DocForm) → Decides form self.now (Mode.Outer (Outer.WantPrefixIri spelling)) kind result }
+        ensures prefix { (form : DocForm) →
+            Decides form self.now (Mode.Outer (Outer.WantPrefixIri spelling)) kind result }
         ensures base { (form : DocForm) → Decides form self.now (Mode.Outer (Outer.WantBaseIri spelling)) kind result }
         ensures suits { IfSome result (SuitsAny kind) }
         ensures frames { IfSome result (KeepsFrames kind) }
@@ -125,7 +127,8 @@ impl<A: Allocator> State<A> {
 
     #[inline(always)]
     fn graph_bracket(&self, kind: Kind) -> Option<Turn>
-        ensures means { (form : DocForm) → Means form self.now kind result (λ s. M.graph_bracket (setting s None) self.now.bracket kind) }
+        ensures means { (form : DocForm) →
+            Means form self.now kind result (λ s. M.graph_bracket (setting s None) self.now.bracket kind) }
         ensures suits { IfSome result (IsSuited kind) }
         ensures frames { IfSome result (KeepsFrames kind) }
     {
@@ -137,7 +140,8 @@ impl<A: Allocator> State<A> {
 
     #[inline(always)]
     fn want_brace(&self, kind: Kind) -> Option<Turn>
-        ensures means { (form : DocForm) → Means form self.now kind result (λ s. M.want_brace (setting s None) self.now.graph.term kind) }
+        ensures means { (form : DocForm) →
+            Means form self.now kind result (λ s. M.want_brace (setting s None) self.now.graph.term kind) }
         ensures suits { IfSome result (IsSuited kind) }
         ensures frames { IfSome result (KeepsFrames kind) }
     {
