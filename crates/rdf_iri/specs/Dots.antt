@@ -1,4 +1,5 @@
 -- Removal of dot segments as a function. That it gives the one result of the rules is a law.
+use Prim.Native.Char.{code}
 use Rattle.std.specs.Prelude.{ℕ, zero, suc, Bool, cond, List, [], ◌∷◌, ◌++◌, ◌||◌, take, drop, length, codes}
 use Rattle.rdf_iri.specs.Cuts.{begins, before, from}
 use Rattle.rdf_iri.specs.Texts.{equal}
@@ -8,12 +9,12 @@ pub use Rattle.rdf_iri.specs.DotSegments.{Walk, LastSegmentRemoved, RuleA, Repla
 -- the first segment, with the '/' before it, and what follows
 abbrev pub first_segment : List ℕ → List ℕ
 first_segment [] = []
-first_segment (c ∷ w) = c ∷ before 47 w
+first_segment (c ∷ w) = c ∷ before (code "/") w
 
 -- the path from the '/' that ends its first segment, or nothing where the segment is the last
 abbrev pub after_segment : List ℕ → List ℕ
 after_segment [] = []
-after_segment (c ∷ w) = from 47 w
+after_segment (c ∷ w) = from (code "/") w
 
 -- a state of the removal: the path still to read, and the result so far
 abbrev pub walk : List ℕ → List ℕ → Walk
@@ -24,8 +25,8 @@ walk input output = record { input = input; output = output }
 unfoldable pub step : Walk → Walk
 step s =
     cond (begins (codes "../") s.input || begins (codes "./") s.input) (walk (cond (begins (codes "../") s.input) (drop 3 s.input) (drop 2 s.input)) s.output)
-    (cond (begins (codes "/./") s.input || equal s.input (codes "/.")) (walk (47 ∷ drop 3 s.input) s.output)
-    (cond (begins (codes "/../") s.input || equal s.input (codes "/..")) (walk (47 ∷ drop 4 s.input) (parent s.output))
+    (cond (begins (codes "/./") s.input || equal s.input (codes "/.")) (walk (code "/" ∷ drop 3 s.input) s.output)
+    (cond (begins (codes "/../") s.input || equal s.input (codes "/..")) (walk (code "/" ∷ drop 4 s.input) (parent s.output))
     (cond (equal s.input (codes ".") || equal s.input (codes "..")) (walk [] s.output) (walk (after_segment s.input) (s.output ++ first_segment s.input)))))
 
 -- the state after so many steps
@@ -56,7 +57,7 @@ fits_B w = begins (codes "/./") w || equal w (codes "/.")
 
 -- the input after rule B: "/./", or a last "/.", has become "/"
 abbrev pub by_B : Walk → Walk
-by_B s = walk (47 ∷ drop 3 s.input) s.output
+by_B s = walk (code "/" ∷ drop 3 s.input) s.output
 
 -- rule C fits: the input begins with "/../" or is "/.."
 abbrev pub fits_C : List ℕ → Bool
@@ -64,7 +65,7 @@ fits_C w = begins (codes "/../") w || equal w (codes "/..")
 
 -- the state after rule C: "/../", or a last "/..", has become "/", and the output has lost its last segment
 abbrev pub by_C : Walk → Walk
-by_C s = walk (47 ∷ drop 4 s.input) (parent s.output)
+by_C s = walk (code "/" ∷ drop 4 s.input) (parent s.output)
 
 -- rule D fits: the input is "." or ".."
 abbrev pub fits_D : List ℕ → Bool
@@ -84,11 +85,11 @@ skip n s = walk (drop n s.input) s.output
 
 -- rule B, with n bytes dropped and the next one, a '/' or a final '.', replaced by '/'
 abbrev pub slash : ℕ → Walk → Walk
-slash n s = walk (47 ∷ drop (suc n) s.input) s.output
+slash n s = walk (code "/" ∷ drop (suc n) s.input) s.output
 
 -- rule C, by the same count of bytes, and the last segment of the output is removed
 abbrev pub up : ℕ → Walk → Walk
-up n s = walk (47 ∷ drop (suc n) s.input) (parent s.output)
+up n s = walk (code "/" ∷ drop (suc n) s.input) (parent s.output)
 
 -- rule E, with the n bytes of the first segment moved to the output
 abbrev pub keep : ℕ → Walk → Walk

@@ -1,5 +1,5 @@
 -- Resolution as a function. That it gives the one result of the relation is a law.
-use Rattle.std.specs.Prelude.{ℕ, cond, List, [], ◌∷◌, Option, Some, None}
+use Rattle.std.specs.Prelude.{codes, ℕ, cond, List, [], ◌∷◌, Option, Some, None}
 use Rattle.rdf_iri.specs.Cuts.{begins}
 use Rattle.rdf_iri.specs.Dots.{remove_dots}
 use Rattle.rdf_iri.specs.Parts.{Parts, recompose, parts_of}
@@ -8,12 +8,12 @@ pub use Rattle.rdf_iri.specs.Resolution.{directory, merge_onto, or_else, joined,
 
 -- what merge puts before the reference's path
 abbrev pub base_front : Option (List ℕ) → List ℕ → List ℕ
-base_front (Some a) [] = 47 ∷ []
+base_front (Some a) [] = codes "/"
 base_front authority base_path = directory base_path
 
 -- what stands before the reference's path in the target: nothing if that begins with '/', otherwise what merge puts there
 abbrev pub merged_front : Option (List ℕ) → List ℕ → List ℕ → List ℕ
-merged_front authority base_path path = cond (begins (47 ∷ []) path) [] (base_front authority base_path)
+merged_front authority base_path path = cond (begins (codes "/") path) [] (base_front authority base_path)
 
 -- the target's parts
 abbrev pub path_target : Parts → Parts → List ℕ → Parts

@@ -33,7 +33,7 @@ pub record Form : Type 0 where
 abbrev pub unprefixed : Style → Escapes → Form
 unprefixed s e = record { style = s; escapes = e; prefix = [] }
 
--- a quad with its nodes named so
+-- a quad with its nodes named as the form says
 abbrev pub named : Form → Quad → Quad
 named f q = put_prefix f.prefix (rename f.style q)
 

@@ -1,5 +1,6 @@
 -- The text that is written for a quad, and how labels are renamed in it.
-use Rattle.std.specs.Prelude.{ℕ, ◌+◌, ◌/◌, ◌%◌, ◌<◌, Bool, true, false, cond, nat_le, nat_lt, List, [], ◌∷◌, ◌++◌, ◌==◌, map, flat_map, decimal, bytes_eq, Option, Some, None, option_map}
+use Prim.Native.Char.{code}
+use Rattle.std.specs.Prelude.{codes, ℕ, ◌+◌, ◌/◌, ◌%◌, ◌<◌, Bool, true, false, cond, nat_le, nat_lt, List, [], ◌∷◌, ◌++◌, ◌==◌, map, flat_map, decimal, bytes_eq, Option, Some, None, option_map}
 use Rattle.rdf_terms.specs.Terms.{Node, Label, Anon, Cell, Tail, Lang, Typed, Subject, Iri, Blank, Term, Resource, Literal, Quad, xsd_string, IsQuad}
 use Rattle.std.specs.List.{AllByRecursion}
 use Rattle.rdf_lines.specs.declared.form.Escapes.{Escapes}
@@ -10,9 +11,9 @@ use Rattle.rdf_lines.specs.declared.form.Style.TheVariants.{Kept, Tagged}
 -- Label(x) becomes n and x, Anon(n) becomes a and n in decimal, Cell(n) becomes c and n in decimal
 abbrev pub rename_node : Style → Node → Node
 rename_node Kept n = n
-rename_node Tagged (Label x) = Label (110 ∷ x)
-rename_node Tagged (Anon n) = Label (97 ∷ decimal n)
-rename_node Tagged (Cell n) = Label (99 ∷ decimal n)
+rename_node Tagged (Label x) = Label (code "n" ∷ x)
+rename_node Tagged (Anon n) = Label (code "a" ∷ decimal n)
+rename_node Tagged (Cell n) = Label (code "c" ∷ decimal n)
 
 -- a quad with its nodes changed: a subject or a graph label,
 abbrev pub map_subject : (Node → Node) → Subject → Subject
@@ -74,8 +75,8 @@ hex_digits places n = map (λ place. hex_character (n / place % 16)) places
 
 -- UCHAR: \u and four digits up to U+FFFF, \U and eight above
 abbrev pub uchar : ℕ → List ℕ
-uchar c = cond (nat_le c 0xFFFF) (92 ∷ 117 ∷ hex_digits (0x1000 ∷ 0x100 ∷ 0x10 ∷ 1 ∷ []) c)
-    (92 ∷ 85 ∷ hex_digits (0x10000000 ∷ 0x1000000 ∷ 0x100000 ∷ 0x10000 ∷ 0x1000 ∷ 0x100 ∷ 0x10 ∷ 1 ∷ []) c)
+uchar c = cond (nat_le c 0xFFFF) (code "\\" ∷ code "u" ∷ hex_digits (0x1000 ∷ 0x100 ∷ 0x10 ∷ 1 ∷ []) c)
+    (code "\\" ∷ code "U" ∷ hex_digits (0x10000000 ∷ 0x1000000 ∷ 0x100000 ∷ 0x10000 ∷ 0x1000 ∷ 0x100 ∷ 0x10 ∷ 1 ∷ []) c)
 
 -- a character as it stands in a written IRI: the two forms differ here alone
 abbrev pub written : Escapes → ℕ → List ℕ
@@ -84,15 +85,15 @@ written Ascii c = cond (nat_le c 0x7F) (c ∷ []) (uchar c)
 
 -- a character as it stands in a written string: " \ LF CR are escaped
 abbrev pub escaped : Escapes → ℕ → List ℕ
-escaped e c = cond (c == 34) (92 ∷ 34 ∷ []) (cond (c == 92) (92 ∷ 92 ∷ []) (cond (c == 10) (92 ∷ 110 ∷ []) (cond (c == 13) (92 ∷ 114 ∷ []) (written e c))))
+escaped e c = cond (c == code "\"") (codes "\\\"") (cond (c == code "\\") (codes "\\\\") (cond (c == code "\n") (codes "\\n") (cond (c == code "\r") (codes "\\r") (written e c))))
 
 -- an IRI in its brackets
 abbrev pub iri_text : Escapes → List ℕ → List ℕ
-iri_text e i = 60 ∷ flat_map (written e) i ++ 62 ∷ []
+iri_text e i = code "<" ∷ flat_map (written e) i ++ code ">" ∷ []
 
 -- a node without a label has no text of its own: it is written renamed; a label has no escapes
 abbrev pub node_text : Node → List ℕ
-node_text (Label x) = 95 ∷ 58 ∷ x
+node_text (Label x) = code "_" ∷ code ":" ∷ x
 node_text n = []
 
 -- an IRI or a node as it is written
@@ -102,16 +103,16 @@ subject_text e (Blank n) = node_text n
 
 -- a string in its quotes
 abbrev pub string_text : Escapes → List ℕ → List ℕ
-string_text e w = 34 ∷ flat_map (escaped e) w ++ 34 ∷ []
+string_text e w = code "\"" ∷ flat_map (escaped e) w ++ code "\"" ∷ []
 
 -- the type of a plain string is not written
 abbrev pub type_text : Escapes → Bool → List ℕ → List ℕ
 type_text e true i = []
-type_text e false i = 94 ∷ 94 ∷ iri_text e i
+type_text e false i = code "^" ∷ code "^" ∷ iri_text e i
 
 -- what follows a string: its tag, or its type
 abbrev pub tail_text : Escapes → Tail → List ℕ
-tail_text e (Lang t) = 64 ∷ t
+tail_text e (Lang t) = code "@" ∷ t
 tail_text e (Typed i) = type_text e (bytes_eq i xsd_string) i
 
 -- an object as it is written
@@ -121,7 +122,7 @@ term_text e (Literal w t) = string_text e w ++ tail_text e t
 
 -- one space
 abbrev pub space : List ℕ
-space = 32 ∷ []
+space = code " " ∷ []
 
 -- a graph label with its space, or nothing
 abbrev pub graph_text : Escapes → Option Subject → List ℕ
@@ -132,7 +133,7 @@ graph_text e (Some g) = subject_text e g ++ space
 abbrev pub quad_text : Escapes → Quad → List ℕ
 quad_text e q =
     (subject_text e q.subject ++ space) ++ (iri_text e q.predicate ++ space) ++ (term_text e q.object ++ space)
-    ++ graph_text e q.graph ++ (46 ∷ []) ++ (10 ∷ [])
+    ++ graph_text e q.graph ++ (code "." ∷ []) ++ (code "\n" ∷ [])
 
 -- the line of a quad in a style and a form
 abbrev pub line : Style → Escapes → Quad → List ℕ

@@ -1,5 +1,6 @@
 -- The line of a document near a place, as it is shown, with a caret under the place.
-use Rattle.std.specs.Prelude.{ℕ, ◌-◌, Bool, cond, not, ◌&&◌, ◌||◌, ◌==◌, nat_eq, nat_lt, List, [], ◌∷◌, ◌++◌, map, length, take, drop, encode_utf8_all}
+use Prim.Native.Char.{code}
+use Rattle.std.specs.Prelude.{codes, ℕ, ◌-◌, Bool, cond, not, ◌&&◌, ◌||◌, ◌==◌, nat_eq, nat_lt, List, [], ◌∷◌, ◌++◌, map, length, take, drop, encode_utf8_all}
 use Rattle.std.specs.Char.{is_control}
 use Rattle.std.specs.Int.{is_in_range}
 use Rattle.std.specs.List.{ends_with}
@@ -36,11 +37,11 @@ first_60 cs = cond (nat_lt 60 (length cs)) (take 60 cs ++ 0x2026 ∷ []) cs
 
 -- bytes without a CR at their end
 abbrev pub without_cr : List ℕ → List ℕ
-without_cr bytes = cond (ends_with nat_eq bytes (13 ∷ [])) (take (length bytes - 1) bytes) bytes
+without_cr bytes = cond (ends_with nat_eq bytes (codes "\r")) (take (length bytes - 1) bytes) bytes
 
 -- two lines: what is shown in front of the place and after it, and the caret (94) under the place
 abbrev pub with_caret : List ℕ → List ℕ → List ℕ
-with_caret front back = front ++ (back ++ (10 ∷ (map under front ++ (94 ∷ 10 ∷ []))))
+with_caret front back = front ++ (back ++ (code "\n" ∷ (map under front ++ codes "^\n")))
 
 -- The text of these lines, where a document's line has some bytes before the place and some from there on.
 abbrev pub excerpt_text : List ℕ → List ℕ → List ℕ

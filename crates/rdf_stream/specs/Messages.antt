@@ -37,4 +37,4 @@ fault_text Memory = codes "out of memory"
 
 -- the line, with its LF
 abbrev pub report_text : StreamFault → List ℕ
-report_text f = codes "rdfconv: " ++ fault_text f ++ 10 ∷ []
+report_text f = codes "rdfconv: " ++ fault_text f ++ codes "\n"

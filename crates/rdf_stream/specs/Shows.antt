@@ -66,7 +66,7 @@ kind_name kind.End = []
 
 -- where the token begins, how many characters it has, and its kind; with a LF
 abbrev pub token_line : Token → List ℕ
-token_line t = decimal t.at.offset ++ codes " " ++ decimal (length t.text) ++ codes " " ++ kind_name t.kind ++ 10 ∷ []
+token_line t = decimal t.at.offset ++ codes " " ++ decimal (length t.text) ++ codes " " ++ kind_name t.kind ++ codes "\n"
 
 -- the line of a token, none of the end
 abbrev pub shown : Token → List ℕ

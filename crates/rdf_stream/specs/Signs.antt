@@ -153,7 +153,7 @@ is_escape bytes =
 abbrev pub has_bad_escape : Bool → List ℕ → Bool
 has_bad_escape is_after [] = false
 has_bad_escape true (b ∷ bytes) = not (is_escape (b ∷ bytes)) || has_bad_escape false bytes
-has_bad_escape false (b ∷ bytes) = not (b == 34) && has_bad_escape (b == 92) bytes
+has_bad_escape false (b ∷ bytes) = not (b == code "\"") && has_bad_escape (b == code "\\") bytes
 
 -- a string begins here that has such a backslash
 abbrev pub is_badly_escaped : List ℕ → Bool

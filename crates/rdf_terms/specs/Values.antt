@@ -1,4 +1,5 @@
 -- The characters that a token's inside means, computed from left to right. That this is what its pieces mean is a law.
+use Prim.Native.Char.{code}
 use Rattle.std.specs.Prelude.{ℕ, zero, suc, ◌+◌, ◌*◌, Bool, true, false, cond, List, [], ◌∷◌, ◌==◌, Option, Some, None, is_some, option_map}
 use Rattle.rdf_terms.specs.Classes.{has, scalar}
 use Rattle.rdf_terms.specs.Classes.Class.{hex_digit, iri_char, local_escape}
@@ -20,8 +21,8 @@ pub data Move : Type 0 where
 
 -- ECHAR: t b n r f " ' \
 abbrev pub letter_move : ℕ → Move
-letter_move c = cond (c == 116) (means 9) (cond (c == 98) (means 8) (cond (c == 110) (means 10) (cond (c == 114) (means 13)
-    (cond (c == 102) (means 12) (cond (c == 34) (means 34) (cond (c == 39) (means 39) (cond (c == 92) (means 92) fails)))))))
+letter_move c = cond (c == code "t") (means (code "\t")) (cond (c == code "b") (means 0x08) (cond (c == code "n") (means (code "\n")) (cond (c == code "r") (means (code "\r"))
+    (cond (c == code "f") (means 0x0C) (cond (c == code "\"") (means (code "\"")) (cond (c == code "'") (means (code "'")) (cond (c == code "\\") (means (code "\\")) fails)))))))
 
 -- an IRI has IRI characters alone, written as they are or by UCHAR
 abbrev pub allowed : Inside → ℕ → Move
@@ -40,8 +41,8 @@ digit_move i (suc k) n = leads (digits (suc k) n)
 
 -- what the next character does at this place inside a string or an IRI; a UCHAR has 4 digits after 'u' and 8 after 'U' (Turtle 6.4)
 abbrev pub move : Inside → EscapeState → ℕ → Move
-move i outside c = cond (c == 92) (leads slash) (allowed i c)
-move i slash c = cond (c == 117) (leads (digits 4 0)) (cond (c == 85) (leads (digits 8 0)) (echar_move i c))
+move i outside c = cond (c == code "\\") (leads slash) (allowed i c)
+move i slash c = cond (c == code "u") (leads (digits 4 0)) (cond (c == code "U") (leads (digits 8 0)) (echar_move i c))
 move i (digits zero n) c = fails
 move i (digits (suc k) n) c = cond (has hex_digit c) (digit_move i k (16 * n + hex_value c)) fails
 
@@ -71,7 +72,7 @@ abbrev pub local_from : Bool → List ℕ → Option (List ℕ)
 local_from true [] = None
 local_from false [] = Some []
 local_from true (c ∷ w) = cond (has local_escape c) (option_map (λ v. c ∷ v) (local_from false w)) None
-local_from false (c ∷ w) = cond (c == 92) (local_from true w) (cond (has iri_char c) (option_map (λ v. c ∷ v) (local_from false w)) None)
+local_from false (c ∷ w) = cond (c == code "\\") (local_from true w) (cond (has iri_char c) (option_map (λ v. c ∷ v) (local_from false w)) None)
 
 -- the characters that a local part means, or none where a backslash begins no PN_LOCAL_ESC or a character may not stand in an IRI
 abbrev pub local_value : List ℕ → Option (List ℕ)

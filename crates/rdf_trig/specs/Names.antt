@@ -1,4 +1,5 @@
 -- What references and prefixed names stand for in a scope, and how directives change the scope (Turtle 2.4 and 6.3).
+use Prim.Native.Char.{code}
 use Rattle.std.specs.Prelude.{◌≡◌, ℕ, Bool, cond, List, [], ◌∷◌, ◌++◌, ◌&&◌, length, nat_le, not, is_some, Option, Some, None, option_map, unwrap_or}
 use Rattle.rdf_terms.specs.Values.{local_value}
 use Rattle.rdf_iri.specs.Texts.{before, after, equal}
@@ -13,11 +14,11 @@ reference_in s l = resolved s.base (iri_of l)
 
 -- what stands before the first ':' of a name, and the characters that what stands after it means; these are there, since each token is fit
 abbrev pub prefix_of : Leaf → List ℕ
-prefix_of l = before 58 l.text
+prefix_of l = before (code ":") l.text
 
 -- the local part of a name with its escapes replaced (PN_LOCAL_ESC), a %-escape kept as it is written (Turtle 6.4); empty for a PNAME_NS
 abbrev pub local_of : Leaf → List ℕ
-local_of l = unwrap_or (local_value (unwrap_or (after 58 l.text) [])) []
+local_of l = unwrap_or (local_value (unwrap_or (after (code ":") l.text) [])) []
 
 -- a prefixed name: the IRI that its prefix is bound to, with the local part after it; none where the prefix is not bound
 unfoldable pub name_in : InForce → Leaf → Option (List ℕ)
