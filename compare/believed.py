@@ -38,23 +38,27 @@ class File:
 
     def __init__(self, path):
         self.lines, self.words, self.names, self.modules = collections.Counter(), collections.defaultdict(set), {}, {}
-        name, depth = None, 0
+        name, depth, is_head = None, 0, False
         for line in code(path):
             text = line.strip()
             indent = len(line) - len(line.lstrip())
             if text.startswith(('use ', 'pub use ')):
                 self.bring(text)
                 continue
-            if text.startswith(('module ', 'mutual', 'abbrev mutual')):
+            if text.startswith('module ') or is_head:
+                name, depth, is_head = None, 2, not text.endswith('where')
+                continue
+            if text.startswith(('mutual', 'abbrev mutual')):
                 name, depth = None, indent + 2
                 continue
             if indent < depth:
                 depth = 0
             if indent == depth and not text.startswith(KEYWORDS):
                 name = BEGINS.match(text)[1]
-            if name:
-                self.lines[name] += 1
-                self.words[name].update(WORD.findall(text))
+            if not name:
+                sys.exit('%s: no definition is known that this line belongs to: %s' % (path, text))
+            self.lines[name] += 1
+            self.words[name].update(WORD.findall(text))
 
     def bring(self, text):
         found = re.match(r'(?:pub )?use (?:Rattle\.)?([\w.]+?)(?:\.\{(.*)\}| as (\w+))?$', text)
