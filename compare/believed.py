@@ -6,7 +6,9 @@
     compare/believed.py --groups     what a public contract cites and specs/Lib.antt does not list as to be believed, and the reverse
 
 A line is one of code: comments, imports and lines with nothing are not counted. A definition is counted once, with its type and all its
-clauses. What stands in std's libraries, and the types of the code (`declared`), are not counted.
+clauses; what cites a constructor cites its type. A name that a file hands on (`pub use`) is that of the file which defines it. What
+stands in std's libraries, and the types of the code (`declared`), are not counted. The two groups are those of specs/Lib.antt: the
+second has functions that compute what a relation of the first determines, and is counted apart.
 """
 import collections
 import glob
@@ -17,7 +19,9 @@ import sys
 TOP = os.path.join(os.path.dirname(os.path.abspath(__file__)), os.pardir)
 WORD = re.compile(r"[^\s(){}\[\];,.λ:→×≡≤<+]+(?:\.[^\s(){}\[\];,.λ:→×≡≤<+]+)*")
 BEGINS = re.compile(r'(?:(?:abbrev|opaque|unfoldable|private|irreducible|pub|record|data|type|mutual|axiom|structure|inductive) +)*([^\s:({]+)')
-KEYWORDS = ('use ', 'module ', 'mod ', 'pub mod ', 'pub use ', 'mutual', '--', '#')
+IMPORTS = ('use ', 'pub use ', 'unfoldable pub use ')
+KEYWORDS = IMPORTS + ('module ', 'mod ', 'pub mod ', 'mutual', 'infix', '--', '#')
+MEMBER = re.compile(r'(?:pub )?([^\s:({]+) :')
 
 
 def read(path):
@@ -38,11 +42,12 @@ class File:
 
     def __init__(self, path):
         self.lines, self.words, self.names, self.modules = collections.Counter(), collections.defaultdict(set), {}, {}
-        name, depth, is_head = None, 0, False
+        self.owners = {}
+        name, depth, is_head, is_type = None, 0, False, False
         for line in code(path):
             text = line.strip()
             indent = len(line) - len(line.lstrip())
-            if text.startswith(('use ', 'pub use ')):
+            if text.startswith(IMPORTS):
                 self.bring(text)
                 continue
             if text.startswith('module ') or is_head:
@@ -53,15 +58,20 @@ class File:
                 continue
             if indent < depth:
                 depth = 0
-            if indent == depth and not text.startswith(KEYWORDS):
+            if text.startswith('infix'):
+                continue
+            if indent == depth and not text.startswith(KEYWORDS + ('}', ')')):
                 name = BEGINS.match(text)[1]
+                is_type = re.match(r'(?:pub )?(?:data|record) ', text)
+            elif is_type and MEMBER.match(text):
+                self.owners[MEMBER.match(text)[1]] = name
             if not name:
                 sys.exit('%s: no definition is known that this line belongs to: %s' % (path, text))
             self.lines[name] += 1
             self.words[name].update(WORD.findall(text))
 
     def bring(self, text):
-        found = re.match(r'(?:pub )?use (?:Rattle\.)?([\w.]+?)(?:\.\{(.*)\}| as (\w+))?$', text)
+        found = re.match(r'(?:unfoldable )?(?:pub )?use (?:Rattle\.)?([\w.]+?)(?:\.\{(.*)\}| as (\w+))?$', text)
         if not found:
             return
         module, names, known_as = found.groups()
@@ -88,15 +98,29 @@ def meant(scope, word):
         module, name = scope.names[parts[0]]
     else:
         return None
-    return (module, name) if module in FILES and name in FILES[module].lines else None
+    return defined(module, name)
 
 
-def closure(begun, followed=None):
-    """These definitions, and all that they cite; with followed, those of its files alone."""
+def defined(module, name):
+    """The definition that a module has under a name, its own or one that it hands on, or None."""
+    if module not in FILES:
+        module, _, name = module.rpartition('.')
+        if module not in FILES:
+            return None
+    file = FILES[module]
+    if name in file.lines:
+        return module, name
+    if name in file.owners:
+        return module, file.owners[name]
+    return defined(*file.names[name]) if name in file.names else None
+
+
+def closure(begun):
+    """These definitions, and all that they cite."""
     found, left = set(), list(begun)
     while left:
         it = left.pop()
-        if it in found or (followed and it[0] not in followed):
+        if it in found:
             continue
         found.add(it)
         file = FILES[it[0]]
@@ -104,6 +128,8 @@ def closure(begun, followed=None):
             first = word.split('.')[0]
             if first in file.lines:
                 left.append((it[0], first))
+            elif first in file.owners:
+                left.append((it[0], file.owners[first]))
             other = meant(file, word)
             if other:
                 left.append(other)
@@ -167,6 +193,13 @@ def size(definitions):
     return sum(FILES[module].lines[name] for module, name in definitions)
 
 
+def split(definitions):
+    """Those of the first group, and those of the second."""
+    believed = listed()
+    first = {it for it in definitions if it[0] in believed}
+    return first, definitions - first
+
+
 def by_crate(definitions):
     found = collections.Counter()
     for module, name in definitions:
@@ -188,8 +221,8 @@ def listed():
 
 
 def cited():
-    """What `convert` cites, with all that its definitions cite; and of what all public calls cite, that which is listed as to be believed."""
-    return closure(cited_by('convert')), closure(cited_by(), listed())
+    """What `convert` cites, with all that its definitions cite, and what all public calls cite."""
+    return closure(cited_by('convert')), closure(cited_by())
 
 
 def main():
@@ -199,7 +232,7 @@ def main():
             print('%-9s %4d  %s %s' % ('convert' if it in headline else '', size([it]), *it))
     elif '--groups' in sys.argv:
         believed = listed()
-        for it in sorted(headline | cited_by()):
+        for it in sorted(cited_by()):
             if it[0] not in believed:
                 print('cited, and not listed: %s.%s, %d lines%s' % (*it, size([it]), ', by convert' if it in headline else ''))
         for module in sorted(believed):
@@ -208,10 +241,10 @@ def main():
                     print('listed, and not cited: %s.%s, %d lines' % (module, name, size([(module, name)])))
     else:
         print('| Crate | `convert` | All public calls |\n|---|---|---|')
-        first, second = by_crate(headline), by_crate(everything)
-        for crate in sorted(second):
-            print('| %s | %d | %d |' % (crate, first[crate], second[crate]))
-        print('| in all | %d | %d |' % (size(headline), size(everything)))
+        columns = [[by_crate(group) for group in split(found)] for found in (headline, everything)]
+        for crate in sorted(set().union(*columns[1])):
+            print('| %s | %s |' % (crate, ' | '.join('%d and %d' % tuple(group[crate] for group in groups) for groups in columns)))
+        print('| in all | %s |' % ' | '.join('%d and %d' % tuple(size(group) for group in split(found)) for found in (headline, everything)))
 
 
 if __name__ == '__main__':

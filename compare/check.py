@@ -93,9 +93,11 @@ def compare_counts(counts):
         counts.expect('docs/DEFINITIONS.md counts the lines of ' + crate, int(lines) == sum(found.values()))
         counts.expect('docs/DEFINITIONS.md lists the files of ' + crate, files == ', '.join('%s %d' % it for it in found.items()))
     counts.expect('docs/DEFINITIONS.md adds them up', 'That is {:,} lines in all.'.format(total) in page)
-    headline, everything = (by_definition.size(it) for it in by_definition.cited())
-    counts.expect('docs/DEFINITIONS.md counts them by definition', '`convert` cites {:,} lines, with'.format(headline) in page
-                  and 'Of the first group all public calls cite {:,} lines'.format(everything) in page)
+    headline, everything = ([by_definition.size(group) for group in by_definition.split(it)] for it in by_definition.cited())
+    counts.expect('docs/DEFINITIONS.md counts them by definition',
+                  '`convert` cites {:,} lines of the first group'.format(headline[0]) in page
+                  and 'and {:,} of the second'.format(headline[1]) in page
+                  and 'All public calls cite {:,} lines of the first group'.format(everything[0]) in page)
 
 
 def compare(counts):
