@@ -1,8 +1,8 @@
 -- What a call tells of an unexpected token.
 use Rattle.std.specs.Prelude.{◌≡◌, ◌≢◌, ℕ, Bool, true, false, List, [], ◌++◌, MatchOption, Result, Err}
 use Rattle.rdf_driver.specs.declared.summary.Summary.{Summary}
-use Rattle.rdf_stream.specs.declared.sight.Sight.{Sight}
-use Rattle.rdf_stream.specs.declared.sight.Sight.TheVariants.{Token, Stop, BadEscape, Unknown}
+use Rattle.rdf_diagnostics.specs.declared.sight.Sight.{Sight}
+use Rattle.rdf_diagnostics.specs.declared.sight.Sight.TheVariants.{Token, Stop, BadEscape, Unknown}
 use Rattle.rdf_stream.specs.declared.watch.Nearby.{Nearby}
 use Rattle.rdf_stream.specs.declared.watch.Nearby.TheVariants.{Asked, Told}
 use Rattle.rdf_stream.specs.Places.{HandsOut, IsNear, NearRead}

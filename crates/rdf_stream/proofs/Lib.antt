@@ -12,13 +12,6 @@ pub mod ConvertsLemmas
 pub mod DocumentLemmas
 pub mod ExpectedLemmas
 pub mod ExplainsLemmas
-pub mod ExcerptsLemmas
-pub mod SignsLemmas
-pub mod CausesLemmas
-pub mod EscapeWalksLemmas
-pub mod BadEscapesLemmas
-pub mod SightLemmas
-pub mod SightPlaces
 pub mod BracketLemmas
 pub mod ChecksLemmas
 pub mod TokenWordsLemmas

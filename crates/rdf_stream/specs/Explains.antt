@@ -11,14 +11,14 @@ use Rattle.rdf_terms.specs.declared.kind.Kind.TheVariants.{AtBase, Prefix, Base,
 use Rattle.rdf_tokens.specs.declared.token.Fault.{Fault}
 use Rattle.rdf_driver.specs.Kinds.{has}
 use Rattle.rdf_stream.specs.declared.brackets.Opened.{Opened}
-use Rattle.rdf_stream.specs.declared.causes.Cause.{Cause}
+use Rattle.rdf_diagnostics.specs.declared.causes.Cause.{Cause}
 use Rattle.rdf_stream.specs.declared.explains.Evidence.{Evidence}
-use Rattle.rdf_stream.specs.declared.sight.Sight.{Sight}
-use Rattle.rdf_stream.specs.declared.sight.Sight.TheVariants.{Token, Stop, BadEscape}
+use Rattle.rdf_diagnostics.specs.declared.sight.Sight.{Sight}
+use Rattle.rdf_diagnostics.specs.declared.sight.Sight.TheVariants.{Token, Stop, BadEscape}
 use Rattle.rdf_stream.specs.declared.watch.Nearby.{Nearby}
 use Rattle.rdf_stream.specs.declared.watch.Nearby.TheVariants.{Told}
-use Rattle.rdf_stream.specs.Causes.{advice_text, cause_of}
-use Rattle.rdf_stream.specs.Excerpts.{excerpt_text}
+use Rattle.rdf_diagnostics.specs.Causes.{advice_text, cause_of}
+use Rattle.rdf_diagnostics.specs.Excerpts.{excerpt_text}
 use Rattle.rdf_stream.specs.Messages.{reason_text}
 use Rattle.rdf_stream.specs.Places.{NearRead}
 

@@ -13,11 +13,6 @@ pub mod Checks
 pub mod Expected
 pub mod Places
 pub mod Explains
-pub mod Excerpts
-pub mod Signs
-pub mod Causes
-pub mod BadEscapes
-pub mod Sights
 pub mod Brackets
 pub mod Shows
 pub mod Loads
@@ -26,7 +21,6 @@ pub mod ExplainTexts
 pub mod RunFaults
 pub mod LoadFaults
 pub mod ExpectedRuns
-pub mod SightRuns
 pub mod CheckRuns
 pub mod GraphTexts
 pub mod WrittenForms
@@ -35,7 +29,6 @@ pub mod LineOut
 pub mod Kept
 pub mod Opening
 pub mod Watches
-pub mod EscapeWalks
 pub mod Pieces
 pub mod Parts
 pub mod Passes

@@ -7,8 +7,8 @@ use Rattle.rdf_driver.specs.declared.summary.Summary.{Summary}
 use Rattle.rdf_stream.specs.Devices.{HasGiven, Reading}
 use Rattle.rdf_stream.specs.declared.fault.StreamFault.{StreamFault}
 use Rattle.rdf_stream.specs.declared.fault.StreamFault.TheVariants.{Refused}
-use Rattle.rdf_stream.specs.declared.sight.Sight.{Sight}
-use Rattle.rdf_stream.specs.Sights.{IsSight}
+use Rattle.rdf_diagnostics.specs.declared.sight.Sight.{Sight}
+use Rattle.rdf_diagnostics.specs.Sights.{IsSight}
 use Rattle.rdf_stream.specs.Brackets.{IsOpenBefore}
 use Rattle.rdf_stream.specs.declared.brackets.Opened.{Opened}
 use Rattle.rdf_stream.specs.declared.brackets.TokenPlace.{TokenPlace}

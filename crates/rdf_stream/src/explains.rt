@@ -8,12 +8,10 @@ ghost use Rattle.rdf_stream.specs.Explains.{only_said, open_text, opened_text, q
 ghost use Rattle.rdf_stream.specs.ExplainTexts.{texts_of};
 
 use crate::brackets::Opened;
-use crate::causes::{Cause, advice, cause_of};
-use crate::excerpt::put_excerpt;
 use crate::expected::Details;
 use crate::messages::{put_number, words};
-use crate::sight::Sight;
 use crate::watch::{Near, Nearby};
+use rdf_diagnostics::{Cause, Sight, advice, cause_of, put_excerpt};
 use rdf_driver::Kinds;
 use rdf_iri::Limits;
 use rdf_terms::{Kind, Reason};

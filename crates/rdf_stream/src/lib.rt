@@ -1,13 +1,10 @@
 //! From a source of bytes to a drain of bytes: a document is read, and its quads are written as lines of N-Quads.
 #![tactic(auto)]
 
-mod bad_escape;
 mod brackets;
-mod causes;
 mod checks;
 mod conversions;
 mod devices;
-mod excerpt;
 mod expected;
 mod explains;
 mod fault;
@@ -24,8 +21,6 @@ mod pieces;
 mod put;
 mod shows;
 mod sieve;
-mod sight;
-mod signs;
 mod skips;
 mod token_grammar;
 mod token_line;
@@ -34,7 +29,6 @@ mod watch;
 mod without_crs;
 
 pub use brackets::Opened;
-pub use causes::{Cause, advice, cause_of};
 pub use checks::{check, check_expecting};
 pub use conversions::{convert, convert_expecting};
 pub use devices::{Drain, Failed, In, Out, Source};
@@ -46,11 +40,11 @@ pub use job::Job;
 pub use loads::{bindings_in, load_bindings, read_whole};
 pub use messages::{out_of_memory, read_failed, report, write_failed};
 pub use put::put_all;
+pub use rdf_diagnostics::{Cause, Sight, advice, cause_of, sight_of};
 pub use rdf_driver::{Fault, Kinds, Summary};
 pub use rdf_iri::{BindingFault, BindingReason, Bindings, Limits};
 pub use rdf_lines::{Escapes, NodePrefix};
 pub use rdf_terms::{Iri, TermFault};
 pub use shows::{show, show_near};
-pub use sight::{Sight, sight_of};
 pub use skips::{SkipSummary, convert_skipping};
 pub use watch::{Near, Nearby};

@@ -1,6 +1,6 @@
 // Reading a piece part by part.
 
-ghost use Rattle.std.specs.Prelude.{◌≡◌, ◌≤◌, ◌<◌, ◌++◌, ℕ, List, Bool, true, false, length, take, drop, IsUtf8, OnOk, IfOk, IfErr};
+ghost use Rattle.std.specs.Prelude.{◌≡◌, ◌≤◌, ◌<◌, ◌++◌, ℕ, List, Bool, true, false, length, take, drop, OnOk, IfOk, IfErr};
 ghost use Rattle.std.specs.Str.Lossy.{utf8_valid_len};
 ghost use Rattle.rdf_tokens.specs.Scans.{most_bytes};
 ghost use Rattle.rdf_stream.specs.declared.fault.StreamFault.{StreamFault};
@@ -8,9 +8,9 @@ ghost use Rattle.rdf_stream.specs.Parts.{HaltsWithin, IsAsciiText, MayPass};
 ghost use Rattle.rdf_stream.specs.Pieces.{HaltsOn, HasBegun, StaysOn, TakesMore};
 
 use crate::fault::StreamFault;
+use rdf_diagnostics::utf8_front;
 use rdf_lines::LineEnding;
 use rdf_terms::runs::{Run, run_end};
-use simdutf8::compat::from_utf8;
 
 /// At least so many bytes are read after a try that passed none, and more after each further one in a row.
 const FIRST_LEAST: usize = 8;
@@ -244,25 +244,5 @@ fn text_from(text: &str, at: usize) -> &str
     match text.split_at_checked(at) {
         Some((_, rest)) => rest,
         None => "",
-    }
-}
-
-// The longest front of the bytes that is UTF-8.
-pub(crate) fn utf8_front(bytes: &[u8]) -> &str
-    ensures { result.now ≡ take (utf8_valid_len bytes.now) bytes.now }
-{
-    match from_utf8(bytes) {
-        Ok(text) => text,
-        Err(e) => whole_text(&bytes[..e.valid_up_to()]),
-    }
-}
-
-fn whole_text(bytes: &[u8]) -> &str
-    requires { IsUtf8 bytes.now }
-    ensures { result.now ≡ bytes.now }
-{
-    match from_utf8(bytes) {
-        Ok(text) => text,
-        Err(_) => unreachable!(),
     }
 }

@@ -12,15 +12,18 @@ ghost use Rattle.rdf_stream.specs.Kept.{Watches};
 ghost use Rattle.rdf_stream.specs.Watches.{IsNearFault, IsToldOf, WatchesAll};
 
 use crate::brackets::{Brackets, Opened, TokenPlace};
-use crate::excerpt::REACH;
 use crate::fault::StreamFault;
 use crate::pieces::Run;
-use crate::sight::{Sight, sight_of};
 use memchr::memrchr;
+use rdf_diagnostics::{Sight, sight_of};
 use rdf_terms::{Dialect, Reason};
 use rdf_tokens::Fault;
 use std::alloc::{AllocError, Allocator, Global};
 use std::marker::Model;
+
+/// How many bytes of a line are told of at most, in front of a place and from it on: with more nothing else would be
+/// shown by `put_excerpt`.
+const REACH: usize = 244;
 
 /// The number of bytes that a document has at most.
 const MOST_BYTES: u64 = (1 << 63) - 1;

@@ -1,0 +1,7 @@
+mod ExcerptsLemmas
+mod SignsLemmas
+mod CausesLemmas
+mod EscapeWalksLemmas
+mod BadEscapesLemmas
+mod SightLemmas
+mod SightPlaces

@@ -1,0 +1,14 @@
+use Rattle.std.proofs.Common.{◌≡◌, ◌+◌, length}
+use Rattle.std.specs.Str.{chars, IsUtf8}
+use Rattle.std.specs.Str.Iter.{chars_rest}
+use Rattle.rdf_terms.specs.Values.{outside}
+use Rattle.rdf_diagnostics.specs.EscapeWalks.{IsInRoom, inside_of, stand_of, stop_from}
+use Rattle.rdf_diagnostics.proofs.bad_escape.bytes_before.Given as goal
+
+abbrev pub invariant-loop-c : goal.invariant-loop-c
+invariant-loop-c l = record {
+  utf8 : IsUtf8 (chars_rest l.c-iterator);
+  same : stop_from (inside_of l.is_iri) outside 0 l.first (chars l.text) ≡ stop_from (inside_of l.is_iri) (stand_of l.stand) l.begun l.now (chars (chars_rest l.c-iterator));
+  bytes : l.now + length (chars_rest l.c-iterator) ≡ l.first + length l.text;
+  room : IsInRoom l.stand;
+}

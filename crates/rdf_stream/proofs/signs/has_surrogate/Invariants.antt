@@ -1,7 +1,0 @@
--- At no place that was passed one begins.
-use Rattle.std.proofs.Common.{◌≡◌, drop}
-use Rattle.rdf_stream.specs.Signs.{has_surrogate}
-use Rattle.rdf_stream.proofs.signs.has_surrogate.Given as goal
-
-abbrev pub invariant-loop-i : goal.invariant-loop-i
-invariant-loop-i l = has_surrogate (drop l.i l.after) ≡ has_surrogate l.after
