@@ -35,8 +35,10 @@ Options of a command, which reads FILE, or standard input where there is none or
   --depth N        brackets and parentheses open at one time, 0 to 1048576 [default: 1024]
   --bindings N     prefixes bound at one time, 0 to 16777216 [default: 65536]
   --iri N          bytes of one IRI, 1 to 268435456 [default: 1048576]
-  --explain        after a refusal one more line on standard error, as editors read it:
-                   `FILE:LINE: REASON`, with what could have stood there
+  --explain        after a refusal more lines on standard error: the first as editors read it,
+                   `FILE:LINE:COLUMN: REASON`, with what could have stood there; then that line
+                   of the document with a caret under the place, and a likely cause; where a
+                   file fails, the system's reason
   --prefixes PREFIXES
                    (check, convert) file of prefixes that are bound before the document: a line
                    for each, as `ex: http://example.org/`; line formats have none
@@ -327,7 +329,9 @@ fn explain_option<'a>(alloc: Global) -> Arg<'a>
     Arg::new(alloc, "explain")
         .long("explain")
         .action(ArgAction::SetTrue)
-        .help("After a refusal a line more for editors, which says what could have stood there")
+        .help(
+            "After a refusal more lines, for editors and people: its line and column, that line, a likely cause",
+        )
 }
 
 fn limit_option<'a>(alloc: Global, limit: Limit<'a>) -> Arg<'a>

@@ -27,8 +27,10 @@ Options of a command, which reads FILE, or standard input where there is none or
   --depth N        brackets and parentheses open at one time, 0 to 1048576 [default: 1024]
   --bindings N     prefixes bound at one time, 0 to 16777216 [default: 65536]
   --iri N          bytes of one IRI, 1 to 268435456 [default: 1048576]
-  --explain        after a refusal one more line on standard error, as editors read it:
-                   `FILE:LINE: REASON`, with what could have stood there
+  --explain        after a refusal more lines on standard error: the first as editors read it,
+                   `FILE:LINE:COLUMN: REASON`, with what could have stood there; then that line
+                   of the document with a caret under the place, and a likely cause; where a
+                   file fails, the system's reason
   --prefixes PREFIXES
                    (check, convert) file of prefixes that are bound before the document: a line
                    for each, as `ex: http://example.org/`; line formats have none
@@ -105,7 +107,7 @@ Options:
       --depth <N>            Brackets and parentheses open at one time, 0 to 1048576 [default: 1024]
       --bindings <N>         Prefixes bound at one time, 0 to 16777216 [default: 65536]
       --iri <N>              Bytes of one IRI, 1 to 268435456 [default: 1048576]
-      --explain              After a refusal a line more for editors, which says what could have stood there
+      --explain              After a refusal more lines, for editors and people: its line and column, that line, a likely cause
       --prefixes <PREFIXES>  File of prefixes bound before the document, a line each: `ex: http://example.org/`
       --skip <BADLINES>      File for bad lines of nt or nq, after which the others are read; there whole or not at all
   -h, --help                 Print help
@@ -123,7 +125,7 @@ Options:
       --depth <N>            Brackets and parentheses open at one time, 0 to 1048576 [default: 1024]
       --bindings <N>         Prefixes bound at one time, 0 to 16777216 [default: 65536]
       --iri <N>              Bytes of one IRI, 1 to 268435456 [default: 1048576]
-      --explain              After a refusal a line more for editors, which says what could have stood there
+      --explain              After a refusal more lines, for editors and people: its line and column, that line, a likely cause
       --prefixes <PREFIXES>  File of prefixes bound before the document, a line each: `ex: http://example.org/`
       --ascii                Characters above U+007F of strings and IRIs as \\uXXXX or \\UXXXXXXXX; labels of blank nodes stay
       --node-prefix <WORD>   Word of ASCII letters and digits in front of the label of each blank node
@@ -145,7 +147,7 @@ Options:
       --depth <N>        Brackets and parentheses open at one time, 0 to 1048576 [default: 1024]
       --bindings <N>     Prefixes bound at one time, 0 to 16777216 [default: 65536]
       --iri <N>          Bytes of one IRI, 1 to 268435456 [default: 1048576]
-      --explain          After a refusal a line more for editors, which says what could have stood there
+      --explain          After a refusal more lines, for editors and people: its line and column, that line, a likely cause
   -h, --help             Print help
 ";
 
