@@ -20,7 +20,7 @@ TOP = os.path.join(os.path.dirname(os.path.abspath(__file__)), os.pardir)
 WORD = re.compile(r"[^\s(){}\[\];,.λ:→×≡≤<+]+(?:\.[^\s(){}\[\];,.λ:→×≡≤<+]+)*")
 BEGINS = re.compile(r'(?:(?:abbrev|opaque|unfoldable|private|irreducible|pub|record|data|type|mutual|axiom|structure|inductive) +)*([^\s:({]+)')
 IMPORTS = ('use ', 'pub use ', 'unfoldable pub use ')
-KEYWORDS = IMPORTS + ('module ', 'mod ', 'pub mod ', 'mutual', 'infix', '--', '#')
+KEYWORDS = IMPORTS + ('module ', 'mod ', 'pub mod ', 'mutual', '}', ')', '--', '#')
 MEMBER = re.compile(r'(?:pub )?([^\s:({]+) :')
 
 
@@ -38,7 +38,8 @@ def code(path):
 
 
 class File:
-    """The definitions of a file of specs: how many lines each has, and the words in it."""
+    """The definitions of a file of specs: how many lines each has, and the words in it; of which type each constructor and field is; and
+    what the file brings from others."""
 
     def __init__(self, path):
         self.lines, self.words, self.names, self.modules = collections.Counter(), collections.defaultdict(set), {}, {}
@@ -50,6 +51,8 @@ class File:
             if text.startswith(IMPORTS):
                 self.bring(text)
                 continue
+            if text.startswith('infix'):
+                continue
             if text.startswith('module ') or is_head:
                 name, depth, is_head = None, 2, not text.endswith('where')
                 continue
@@ -58,9 +61,7 @@ class File:
                 continue
             if indent < depth:
                 depth = 0
-            if text.startswith('infix'):
-                continue
-            if indent == depth and not text.startswith(KEYWORDS + ('}', ')')):
+            if indent == depth and not text.startswith(KEYWORDS):
                 name = BEGINS.match(text)[1]
                 is_type = re.match(r'(?:pub )?(?:data|record) ', text)
             elif is_type and MEMBER.match(text):
