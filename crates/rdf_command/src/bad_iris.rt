@@ -6,7 +6,7 @@ ghost use Rattle.rdf_iri.specs.Texts.{byte_len};
 ghost use Rattle.rdf_command.specs.BadIris.{bad_char, bad_char_text, bad_iri_text, char_text, iri_front, number_text, quoted_text, shown, too_long_text, why_bad};
 
 use crate::addresses::hex_digit;
-use crate::reports::put_number;
+use rdf_stream::put_number;
 use rdf_terms::is_iri_char;
 use std::alloc::{AllocError, Global};
 

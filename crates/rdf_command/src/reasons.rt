@@ -12,10 +12,10 @@ ghost use Rattle.rdf_stream.specs.declared.fault.StreamFault.{StreamFault};
 use crate::explains::Explains;
 use crate::host::{Host, NoOutput};
 use crate::reports::{
-    Stop, prefixes_line, put_number, refuse_prefixes, tell_bytes, tell_memory, tell_of,
-    tell_prefixes, tell_stop, tell_stop_of,
+    Stop, prefixes_line, refuse_prefixes, tell_bytes, tell_memory, tell_of, tell_prefixes,
+    tell_stop, tell_stop_of,
 };
-use rdf_stream::{Drain, LoadFault, StreamFault, read_failed, write_failed};
+use rdf_stream::{Drain, LoadFault, StreamFault, put_number, read_failed, write_failed};
 use std::alloc::{AllocError, Global};
 
 /// The text and the status of a file that did not open. Where an explanation is asked for, a line with the name of the

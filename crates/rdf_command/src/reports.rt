@@ -1,6 +1,6 @@
 // Why a document was not accepted, and what is reported.
 
-ghost use Rattle.std.specs.Prelude.{◌≡◌, ◌⊎◌, ◌++◌, false, codes, decimal, IfOk, IfSome, None, OnErr, OnOk, option_map};
+ghost use Rattle.std.specs.Prelude.{◌≡◌, ◌⊎◌, ◌++◌, false, codes, IfOk, IfSome, None, OnErr, OnOk, option_map};
 ghost use Rattle.rdf_stream.specs.Messages.{report_text};
 ghost use Rattle.rdf_stream.specs.declared.fault.StreamFault.{StreamFault};
 ghost use Rattle.rdf_command.specs.BadIris.{IsOfIri, RefusesWith};
@@ -9,10 +9,9 @@ ghost use Rattle.rdf_command.specs.Statuses.{ReportsCounts, counts_text, no_form
 
 use crate::task::WordsFault;
 use clap::Error;
-use itoa::Buffer;
 use rdf_stream::{
     Drain, Evidence, Failed, LoadFault, Near, SkipSummary, StreamFault, TermFault,
-    explain as explain_line, out_of_memory, put_all, read_failed, report, write_failed,
+    explain as explain_line, out_of_memory, put_all, put_number, read_failed, report, write_failed,
 };
 use std::alloc::{AllocError, Global};
 
@@ -368,11 +367,4 @@ pub fn tell_bytes<E: Drain>(text: &[u8], err: &mut E)
     match put_all(err, text) {
         Ok(()) | Err(Failed) => {}
     }
-}
-
-/// Appends a number in decimal digits.
-pub fn put_number(number: u64, text: &mut Vec<u8>) -> Result<(), AllocError>
-    ensures { OnOk result (text.new.items ≡ text.old.items ++ decimal number) }
-{
-    text.extend_from_slice(Buffer::new().format(number).as_bytes())
 }

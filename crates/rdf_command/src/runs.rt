@@ -16,12 +16,12 @@ ghost use Rattle.rdf_command.specs.Runs.{TellsEvidence, TellsOf, accepted_text, 
 use crate::commands::name_by;
 use crate::explains::Explains;
 use crate::reasons::{refuse_bindings, tell_stopped};
-use crate::reports::{Stop, named_front, put_number, status};
+use crate::reports::{Stop, named_front, status};
 use crate::task::{Action, Task};
 use rdf_stream::{
     Details, Drain, Evidence, Failed, Iri, Job, Limits, LoadFault, Near, Nearby, NodePrefix,
     Source, StreamFault, Summary, check_expecting, convert_expecting, load_bindings, put_all,
-    show_near,
+    put_number, show_near,
 };
 use std::alloc::{AllocError, Global};
 

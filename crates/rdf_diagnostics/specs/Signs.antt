@@ -45,9 +45,14 @@ is_web_page after = begins (codes "<!DOCTYPE html") after || (begins (codes "<!d
 abbrev pub is_xml : List ℕ → Bool
 is_xml after = begins (codes "<?xml ") after || (begins (codes "<rdf:RDF") after || begins (codes "<!DOCTYPE rdf") after)
 
--- a key of JSON-LD, or an object that begins with one
+-- a key of JSON-LD with which an object mostly begins
+abbrev pub is_json_ld_key : List ℕ → Bool
+is_json_ld_key after =
+    begins (codes "\"@context\"") after || (begins (codes "\"@id\"") after || (begins (codes "\"@type\"") after || begins (codes "\"@graph\"") after))
+
+-- such a key, or an object that begins with a key of JSON-LD
 abbrev pub is_json_ld : List ℕ → Bool
-is_json_ld after = begins (codes "\"@context\"") after || (begins (codes "{\"@") after || begins (codes "{ \"@") after)
+is_json_ld after = is_json_ld_key after || (begins (codes "{\"@") after || begins (codes "{ \"@") after)
 
 -- ---- what only RDF 1.2 has
 

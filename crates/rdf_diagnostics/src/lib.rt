@@ -6,9 +6,7 @@ mod causes;
 mod excerpt;
 mod sight;
 mod signs;
-mod text;
 
 pub use causes::{Cause, advice, cause_of};
 pub use excerpt::put_excerpt;
 pub use sight::{Sight, sight_of};
-pub use text::utf8_front;

@@ -8,9 +8,8 @@ ghost use Rattle.rdf_diagnostics.specs.Sights.{IsLongestOpen, IsSight, LeavesOpe
 ghost use Rattle.rdf_diagnostics.specs.SightRuns.{HasTaken, StandsFrom, IsSeen, IsSeenOf, Sees, SeesEnd, SeesPart, seen_for};
 
 use crate::bad_escape::bad_escape_in;
-use crate::text::utf8_front;
 use rdf_terms::{Dialect, Kind, Reason};
-use rdf_tokens::{Scanner, Token};
+use rdf_tokens::{Scanner, Token, good_front};
 use std::alloc::{AllocError, Allocator};
 
 /// How many bytes are taken at once at most.
@@ -75,7 +74,7 @@ fn text_from(rest: &[u8], offset: u64) -> &str
     ensures { result.now ≡ drop (offset - 1) (take (utf8_valid_len rest.now) rest.now) }
 {
     let start = offset as usize - 1;
-    &utf8_front(rest)[start..]
+    &good_front(rest).text[start..]
 }
 
 // The greatest number of the bytes with which a token could begin. So many are known to leave one open, and may end
@@ -92,7 +91,7 @@ fn longest_open<A: Allocator + Copy>(
 {
     let mut front = Front::begin(alloc, dialect, limit)?;
     front.see_to(rest, known)?;
-    let text = utf8_front(rest);
+    let text = good_front(rest).text;
     let mut longest = 0;
     'ends: for i in 0..text.len() {
         let end = i + 1;

@@ -3,7 +3,7 @@
 ghost use Rattle.std.specs.Prelude.{◌≡◌, ◌≤◌, false, length, slice_index};
 ghost use Rattle.std.specs.List.{prefix_len, suffix_len};
 ghost use Rattle.rdf_diagnostics.specs.Signs.{begins_packed, ends_in_name, ends_in_tag, has_bad_escape, has_prefix_before, has_space_before, has_surrogate, is_badly_escaped, is_direction, is_directive, is_escape, is_in_directive};
-ghost use Rattle.rdf_diagnostics.specs.Signs.{is_iri_or_space, is_json_ld, is_keyword, is_latin1, is_lone, is_mark, is_month, is_name_byte, is_open_string, is_packed, is_prefix_without_colon, is_slash_in_name};
+ghost use Rattle.rdf_diagnostics.specs.Signs.{is_iri_or_space, is_json_ld, is_json_ld_key, is_keyword, is_latin1, is_lone, is_mark, is_month, is_name_byte, is_open_string, is_packed, is_prefix_without_colon, is_slash_in_name};
 ghost use Rattle.rdf_diagnostics.specs.Signs.{is_surrogate, is_tag_byte, is_triple_term, is_turtle, is_underscore_in_tag, is_utf16, is_web_page, is_xml, name_len, starts_word};
 
 /// The document begins as a file of gzip, bzip2, xz or zip.
@@ -65,11 +65,20 @@ pub(crate) fn is_xml(after: &[u8]) -> bool
         || after.starts_with(b"<!DOCTYPE rdf")
 }
 
-/// A key of JSON-LD, or an object that begins with one.
+/// A key with which an object of JSON-LD mostly begins, or an object that begins with a key of JSON-LD.
 pub(crate) fn is_json_ld(after: &[u8]) -> bool
     ensures { result ≡ is_json_ld after.now }
 {
-    after.starts_with(b"\"@context\"") || after.starts_with(b"{\"@") || after.starts_with(b"{ \"@")
+    is_json_ld_key(after) || after.starts_with(b"{\"@") || after.starts_with(b"{ \"@")
+}
+
+fn is_json_ld_key(after: &[u8]) -> bool
+    ensures { result ≡ is_json_ld_key after.now }
+{
+    after.starts_with(b"\"@context\"")
+        || after.starts_with(b"\"@id\"")
+        || after.starts_with(b"\"@type\"")
+        || after.starts_with(b"\"@graph\"")
 }
 
 /// A triple term or an annotation of RDF 1.2.

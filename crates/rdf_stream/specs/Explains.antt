@@ -145,9 +145,13 @@ abbrev pub open_text : Reason → Nearby NearRead → List ℕ
 open_text reason (Told near) = open_by reason near.bracket
 open_text reason near = []
 
+-- a number of bytes
+abbrev pub bytes_text : ℕ → List ℕ
+bytes_text n = decimal n ++ cond (n == 1) (codes " byte") (codes " bytes")
+
 -- after how many bytes a token stops that begins there
 abbrev pub stopped_text : ℕ → List ℕ
-stopped_text n = codes ": it stops after " ++ decimal n ++ codes " bytes"
+stopped_text n = codes ": it stops after " ++ bytes_text n
 
 -- the same; nothing where none begins
 abbrev pub stop_text : ℕ → List ℕ
@@ -173,7 +177,7 @@ escape_len w = 10
 
 -- the escape after n bytes, where it is there, and how many bytes stand before it
 abbrev pub escape_text : List ℕ → ℕ → List ℕ
-escape_text after n = quoted_text (name_of (drop n after) (escape_len (drop n after))) ++ codes " after " ++ decimal n ++ codes " bytes"
+escape_text after n = quoted_text (name_of (drop n after) (escape_len (drop n after))) ++ codes " after " ++ bytes_text n
 
 -- where a token stops, the bad escape of a token, or the name or the reference that stands there
 abbrev pub sight_by : Reason → Sight → List ℕ → List ℕ

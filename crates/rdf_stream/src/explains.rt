@@ -3,7 +3,7 @@
 ghost use Rattle.std.specs.Prelude.{◌≡◌, ◌||◌, ◌&&◌, ◌++◌, IfOk, OnOk, Some, drop, length, not, option_map};
 ghost use Rattle.rdf_driver.specs.Kinds.{has};
 ghost use Rattle.std.specs.List.{list_all};
-ghost use Rattle.rdf_stream.specs.Explains.{between, column_text, escape_len, escape_text, expected_text, explain_text, found_text, front_text, is_graphic, limit_of, limit_text, listed, name_of, note_text};
+ghost use Rattle.rdf_stream.specs.Explains.{between, bytes_text, column_text, escape_len, escape_text, expected_text, explain_text, found_text, front_text, is_graphic, limit_of, limit_text, listed, name_of, note_text};
 ghost use Rattle.rdf_stream.specs.Explains.{only_said, open_text, opened_text, quoted_text, said, shown_text, sight_text, stop_text, stopped_text, told_text, word_of, words_for};
 ghost use Rattle.rdf_stream.specs.ExplainTexts.{texts_of};
 
@@ -167,8 +167,18 @@ fn put_stopped<A: Allocator + Copy>(len: u64, line: &mut Vec<u8, A>) -> Result<(
     ensures { OnOk result (line.new.items ≡ line.old.items ++ stopped_text len) }
 {
     line.extend_from_slice(b": it stops after ")?;
-    put_number(len, line)?;
-    line.extend_from_slice(b" bytes")
+    put_bytes(len, line)
+}
+
+// A number of bytes.
+fn put_bytes<A: Allocator + Copy>(count: u64, line: &mut Vec<u8, A>) -> Result<(), AllocError>
+    ensures { OnOk result (line.new.items ≡ line.old.items ++ bytes_text count) }
+{
+    put_number(count, line)?;
+    match count {
+        1 => line.extend_from_slice(b" byte"),
+        _ => line.extend_from_slice(b" bytes"),
+    }
 }
 
 // The escape after so many bytes, where it is there, and how many bytes stand before it.
@@ -181,8 +191,7 @@ fn put_escape<A: Allocator + Copy>(
 {
     put_quoted(escape_of(after, len), line)?;
     line.extend_from_slice(b" after ")?;
-    put_number(len, line)?;
-    line.extend_from_slice(b" bytes")
+    put_bytes(len, line)
 }
 
 // The escape after so many bytes, where it is there.

@@ -38,7 +38,7 @@ pub use fault::{LoadFault, StreamFault};
 pub use form::Form;
 pub use job::Job;
 pub use loads::{bindings_in, load_bindings, read_whole};
-pub use messages::{out_of_memory, read_failed, report, write_failed};
+pub use messages::{out_of_memory, put_number, read_failed, report, write_failed};
 pub use put::put_all;
 pub use rdf_diagnostics::{Cause, Sight, advice, cause_of, sight_of};
 pub use rdf_driver::{Fault, Kinds, Summary};

@@ -78,10 +78,8 @@ pub(crate) fn put_refusal<A: Allocator + Copy>(
     put_number(fault.line, line)
 }
 
-pub(crate) fn put_number<A: Allocator + Copy>(
-    number: u64,
-    line: &mut Vec<u8, A>,
-) -> Result<(), AllocError>
+/// Appends a number in decimal digits, where memory for them is not refused.
+pub fn put_number<A: Allocator + Copy>(number: u64, line: &mut Vec<u8, A>) -> Result<(), AllocError>
     ensures { OnOk result (line.new.items ≡ line.old.items ++ decimal number) }
 {
     line.extend_from_slice(Buffer::new().format(number).as_bytes())

@@ -8,9 +8,9 @@ ghost use Rattle.rdf_stream.specs.Parts.{HaltsWithin, IsAsciiText, MayPass};
 ghost use Rattle.rdf_stream.specs.Pieces.{HaltsOn, HasBegun, StaysOn, TakesMore};
 
 use crate::fault::StreamFault;
-use rdf_diagnostics::utf8_front;
 use rdf_lines::LineEnding;
 use rdf_terms::runs::{Run, run_end};
+use rdf_tokens::good_front;
 
 /// At least so many bytes are read after a try that passed none, and more after each further one in a row.
 const FIRST_LEAST: usize = 8;
@@ -117,7 +117,7 @@ fn take_rest<L, R: Parts<L>>(
     ensures halts { IfErr result (λ f.
         HaltsOn R.taken R.halts f (run.old, out.old) (λ bytes. bytes ++ rest.now) false (run.new, out.new)) }
 {
-    let text = utf8_front(rest);
+    let text = good_front(rest).text;
     let is_ascii = run.passes_ascii(out);
     let mut ending = first;
     let mut left = "";

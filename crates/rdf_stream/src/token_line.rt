@@ -8,7 +8,7 @@ ghost use Rattle.rdf_stream.specs.Shows.{kind_name, token_line};
 
 use itoa::Buffer;
 use rdf_lines::LineBuffer;
-use rdf_tokens::{Kind, Token};
+use rdf_tokens::{Kind, Token, char_count};
 use std::alloc::{AllocError, Allocator};
 
 /// Appends the token's offset, its number of characters and the name of its kind, with a space between them and a LF.
@@ -38,7 +38,7 @@ fn put_parts<A: Allocator + Copy>(
     ensures grown { OnErr result (BeginsWith out.old out.new) }
 {
     put_number(token.offset, out)?;
-    put_number(char_count(token.text), out)?;
+    put_number(char_count(token.text) as u64, out)?;
     out.append(kind_name(token.kind).as_bytes())?;
     out.append(b"\n")
 }
@@ -49,25 +49,6 @@ fn put_number<A: Allocator + Copy>(number: u64, out: &mut LineBuffer<A>) -> Resu
 {
     out.append(Buffer::new().format(number).as_bytes())?;
     out.append(b" ")
-}
-
-fn char_count(text: &str) -> u64
-    ensures { result ≡ length (chars text.now) }
-{
-    if text.is_ascii() {
-        return text.len() as u64;
-    }
-    counted_chars(text)
-}
-
-fn counted_chars(text: &str) -> u64
-    ensures { result ≡ length (chars text.now) }
-{
-    let mut count = 0u64;
-    for _ in text.chars() {
-        count += 1;
-    }
-    count
 }
 
 fn kind_name(kind: Kind) -> &'static str

@@ -11,7 +11,7 @@ struct Row {
     cause: Option<Cause>,
 }
 
-static ROWS: [Row; 49] = [
+static ROWS: [Row; 52] = [
     Row {
         form: Form::Turtle,
         bytes: b"\x1F\x8B\x08",
@@ -91,6 +91,21 @@ static ROWS: [Row; 49] = [
         form: Form::TriG,
         bytes: b"{ \"@context\": \"http://a/\" }",
         cause: Some(Cause::JsonLd),
+    },
+    Row {
+        form: Form::TriG,
+        bytes: b"{   \"@id\": \"http://a/\"",
+        cause: Some(Cause::JsonLd),
+    },
+    Row {
+        form: Form::TriG,
+        bytes: b"{   \"@type\": \"Person\"",
+        cause: Some(Cause::JsonLd),
+    },
+    Row {
+        form: Form::TriG,
+        bytes: b"{   \"@idea\": 1",
+        cause: None,
     },
     Row {
         form: Form::NTriples,

@@ -194,7 +194,7 @@ struct Explained {
     lines: &'static str,
 }
 
-static EXPLAINED: [Explained; 8] = [
+static EXPLAINED: [Explained; 9] = [
     Explained {
         form: Form::NTriples,
         bytes: b"<a:s> <a:p> <a:o b> .",
@@ -216,6 +216,11 @@ static EXPLAINED: [Explained; 8] = [
         lines: "a:1:13: bad escape: \"\\uD83D\" after 5 bytes\n<a:s> <a:p> \"\u{e9}\\t\\uD83D\\uDE00\" .\n            ^\na:1:13: note: a surrogate is no character: write one escape for both of a pair, as \\U0001F600\n",
     },
     Explained {
+        form: Form::NTriples,
+        bytes: b"<a:s> <a:p> \"\\uD800\" .",
+        lines: "a:1:13: bad escape: \"\\uD800\" after 1 byte\n<a:s> <a:p> \"\\uD800\" .\n            ^\na:1:13: note: a surrogate is no character: write one escape for both of a pair, as \\U0001F600\n",
+    },
+    Explained {
         form: Form::Turtle,
         bytes: b"<a:s> <a:p> '''a\n\\U00110000''' .",
         lines: "a:1:13: bad escape after 5 bytes\n<a:s> <a:p> '''a\n            ^\n",
@@ -223,7 +228,7 @@ static EXPLAINED: [Explained; 8] = [
     Explained {
         form: Form::NQuads,
         bytes: b"<a:s> <a:p> \"x\"@en_US .",
-        lines: "a:1:19: no token: it stops after 1 bytes\n<a:s> <a:p> \"x\"@en_US .\n                  ^\na:1:19: note: a language tag has no _: write -, as in en-US\n",
+        lines: "a:1:19: no token: it stops after 1 byte\n<a:s> <a:p> \"x\"@en_US .\n                  ^\na:1:19: note: a language tag has no _: write -, as in en-US\n",
     },
     Explained {
         form: Form::NTriples,

@@ -9,8 +9,8 @@ use std::simd::prelude::*;
 /// The number of bytes that are seen at a time.
 const LANES: usize = 16;
 
-/// How many characters a text has.
-pub(crate) fn char_count(text: &str) -> usize
+/// How many characters a text has: Unicode's scalar values, not bytes.
+pub fn char_count(text: &str) -> usize
     ensures { result ≡ length (chars text.now) }
 {
     start_count(text.as_bytes())

@@ -24,7 +24,8 @@ pub struct GoodText<'a> {
     pub broken: bool,
 }
 
-/// The longest front of the bytes that is UTF-8.
+/// The longest front of the bytes that is UTF-8 (RFC 3629, section 4), and whether what comes after it can begin no
+/// character. Where it can, the bytes end within a character. Bytes that end in ASCII are tested once.
 #[inline(always)]
 pub fn good_front(bytes: &[u8]) -> GoodText<'_>
     ensures text { result.text.now ≡ take (utf8_valid_len bytes.now) bytes.now }

@@ -20,7 +20,8 @@ mod states;
 mod strings;
 mod token;
 
-pub use good::line_feeds;
+pub use count::char_count;
+pub use good::{GoodText, good_front, line_feeds};
 pub use peek::Peeked;
 pub use plain::{RunClass, plain_run};
 pub use rdf_terms::{Dialect, Kind};

@@ -20,7 +20,7 @@ use crate::slots::{TagText, Topic};
 use crate::spares::Spares;
 use crate::state::{Frame, Held, Level, Mode, Outer, State};
 use crate::turn::Turn;
-use rdf_driver::Known;
+use rdf_driver::Hint;
 use rdf_iri::Scope;
 use rdf_terms::{Kind, QuadSink};
 use rdf_tokens::Token;
@@ -124,7 +124,7 @@ impl<A: Allocator + Copy> State<A> {
 
     /// Accepts a token, and answers how many quads it determined, or says why not. A token that is unexpected changes
     /// nothing. After another error nothing is known of the state.
-    pub fn accept<S: QuadSink, K: Known>(
+    pub fn accept<S: QuadSink, K: Hint>(
         &mut self,
         rules: &Rules,
         scope: &mut Scope<A>,

@@ -14,7 +14,7 @@ use crate::form::DocForm;
 use crate::reader::Options;
 use crate::rules::Rules;
 use crate::state::State;
-use rdf_driver::{Foresees, Grammar, Holds, Known, QuadGrammar, QuadItem};
+use rdf_driver::{Foresees, Grammar, Hint, Holds, QuadGrammar, QuadItem};
 use rdf_iri::Scope;
 use rdf_terms::{Dialect, Kind, QuadSink, Reason};
 use rdf_tokens::Token;
@@ -134,7 +134,7 @@ impl<A: Allocator + Copy> Foresees for TreeGrammar<A> {
 
 impl<A: Allocator + Copy> QuadGrammar for TreeGrammar<A> {
     #[inline(always)]
-    fn accept_quads<S: QuadSink, K: Known>(
+    fn accept_quads<S: QuadSink, K: Hint>(
         &mut self,
         token: &Token<'_>,
         sink: &mut S,

@@ -44,25 +44,25 @@ ends-preserved g c = elim c.if-is_char_boundary.branch [
         dialect = e.same.dialect ∙ l.dialect;
         limit = e.same.limit ∙ l.limit;
         taken = e.taken w.in-Open.is;
-        longest = longest_next c.args.dialect c.args.limit c.args.rest.now c.utf8_front-text.result.now (c.ends.i + 1) c.utf8_front-text.ensures (omega arith)
+        longest = longest_next c.args.dialect c.args.limit c.args.rest.now c.good_front.result.text.now (c.ends.i + 1) c.good_front.ensures.text (omega arith)
             (c.is_char_boundary.ensures.test.0 w.if-is_char_boundary.true) none;
       })
   | else-is_char_boundary w ↦
       let l = c.ends.invariant in
-      let b : IsCharBoundary c.utf8_front-text.result.now (c.ends.i + 1) → ⊥ =
+      let b : IsCharBoundary c.good_front.result.text.now (c.ends.i + 1) → ⊥ =
       λ b. let z = c.is_char_boundary.ensures.test.1 b in let y = w.if-is_char_boundary.false in (cc) in
       rw (w.front-is, w.longest-is) (record {
         dialect = l.dialect;
         limit = l.limit;
         taken = l.taken;
-        longest = longest_within c.args.dialect c.args.limit c.args.rest.now c.utf8_front-text.result.now c.ends.i c.ends.longest c.utf8_front-text.ensures
+        longest = longest_within c.args.dialect c.args.limit c.args.rest.now c.good_front.result.text.now c.ends.i c.ends.longest c.good_front.ensures.text
             (omega arith) b l.longest;
       })
 ]
 
 pub returns : goal.returns
 returns g c =
-    let text = c.utf8_front-text.result.now in
+    let text = c.good_front.result.text.now in
     let all : c.ends.i ≡ length text = let most = c.ends.auto.i-end in let test = c.ends-test.false in omega arith in
-    longest_all c.args.dialect c.args.limit c.args.rest.now text c.ends.longest c.utf8_front-text.ensures
+    longest_all c.args.dialect c.args.limit c.args.rest.now text c.ends.longest c.good_front.ensures.text
     (subst (λ i. IsLongestTo c.args.dialect c.args.limit c.args.rest.now i c.ends.longest) all c.ends.invariant.longest)

@@ -2,5 +2,5 @@
 use Rattle.std.proofs.Common.{rules}
 use Rattle.rdf_driver.proofs.reading.read_peeked.Goals as goal
 
-pub accept_peeked-requires-in-Comma-clause-known : goal.accept_peeked-requires-in-Comma-clause-known
-accept_peeked-requires-in-Comma-clause-known g c = search rules
+pub accept_peeked-requires-in-Comma-clause-hinted : goal.accept_peeked-requires-in-Comma-clause-hinted
+accept_peeked-requires-in-Comma-clause-hinted g c = search rules
