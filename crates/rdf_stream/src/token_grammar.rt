@@ -9,7 +9,7 @@ ghost use Rattle.rdf_stream.specs.TokenWords.{token_words};
 
 use crate::devices::Drain;
 use crate::line_out::LineOut;
-use rdf_driver::{Accepts, Grammar, Holds, Known};
+use rdf_driver::{Accepts, Grammar, Hint, Holds};
 use rdf_terms::{Dialect, Kind, PutFault, Reason};
 use rdf_tokens::Token;
 use std::alloc::Allocator;
@@ -124,7 +124,7 @@ impl<'a, T: Spoken, D: Drain, A: Allocator + Copy> Accepts<LineOut<'a, D, A>> fo
     ghost has_failed = { λ lines. D.has_failed lines.drain.now };
 
     // The end has no line.
-    fn accept<K: Known>(
+    fn accept<K: Hint>(
         &mut self,
         token: &Token<'_>,
         lines: &mut LineOut<'a, D, A>,
