@@ -9,7 +9,8 @@ use Rattle.rdf_iri.specs.Texts.{byte_len}
 use Rattle.rdf_options.specs.Options.{rdfconv}
 use Rattle.rdf_command.specs.declared.task.WordsFault.{WordsFault}
 use Rattle.rdf_command.specs.declared.task.WordsFault.TheVariants.{Usage, BadBase, BadNodePrefix, BadGraph, BadSkip, NoFormat, Memory}
-use Rattle.rdf_command.specs.BadIris.{IsOfIri, RefusesWith, bad_char, iri_front, lines_about, lines_by, lines_for, lines_of}
+use Rattle.rdf_command.specs.BadIris.{RefusesWith, bad_char, iri_front, lines_about, lines_by, lines_for, lines_of}
+use Rattle.rdf_command.specs.RunSteps.{IsOfIri}
 use Rattle.rdf_command.specs.Programs.{IsNoTaskOf, IsToldBy}
 use Rattle.rdf_command.specs.Statuses.{GoesTo}
 use Rattle.rdf_command.specs.Words.{TakesFormats, base_by, is_given, number_of}

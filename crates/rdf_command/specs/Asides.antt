@@ -12,7 +12,6 @@ use Rattle.rdf_stream.specs.Languages.{conversion_of}
 use Rattle.rdf_stream.specs.Skips.{SkipStops, SkipsAll}
 use Rattle.rdf_stream.specs.declared.fault.StreamFault.{StreamFault}
 use Rattle.rdf_stream.specs.declared.skips.SkipSummary.{SkipSummary}
-use Rattle.rdf_command.specs.declared.asides.Skipping.{Skipping}
 use Rattle.rdf_command.specs.declared.task.Action.{Action}
 use Rattle.rdf_command.specs.declared.task.Action.TheVariants.{Check}
 use Rattle.rdf_command.specs.declared.task.Task.{Task}
@@ -33,9 +32,6 @@ pub record Told : Type 0 where
   pub document : Text
   pub output : Text
   pub bad : Text
-
-abbrev pub told_by : Skipping → Told
-told_by how = record { action = how.action; explain = how.explain; document = how.document.now; output = how.output.now; bad = how.bad.now }
 
 -- what the output is called by the name of the file that the lines of quads go to, or without one
 abbrev pub output_called : Option Text → Text

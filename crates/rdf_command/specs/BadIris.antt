@@ -83,12 +83,6 @@ lines_in (Some p) fault = lines_by p.1 fault
 abbrev pub lines_for : App → List Text → WordsFault → Option (List ℕ)
 lines_for a words fault = lines_in (subcommand_of a words) fault
 
--- the fault is a text that is no IRI
-abbrev pub IsOfIri : WordsFault → Type 0
-IsOfIri BadBase = Unit
-IsOfIri BadGraph = Unit
-IsOfIri fault = ⊥
-
 -- The status of words that are no task, and what is reported: these lines where there are any. They take memory, and where that is refused what is reported
 -- without an explanation comes in their place.
 abbrev pub RefusesWith : Option (List ℕ) → WordsFault → ℕ → Option (List ℕ) → Option (List ℕ) → Bool → Type 0

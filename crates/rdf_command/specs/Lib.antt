@@ -11,3 +11,4 @@ pub mod Asides
 pub mod Programs
 -- what need not be: what the code's side speaks of
 pub mod WordSteps
+pub mod RunSteps

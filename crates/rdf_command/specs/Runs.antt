@@ -167,10 +167,6 @@ StartsWith sizes None left bindings = bindings ≡ []
 StartsWith sizes (Some known) None bindings = ⊥
 StartsWith sizes (Some known) (Some left) bindings = (b : BindingMap) × Loads sizes known left b × (bindings ≡ b.bindings)
 
--- This is the job that the task asks for, with the bindings that its document starts with.
-abbrev pub IsJobOf : Task → Option (Option (List ℕ)) → Option Reading → JobRead → Type 0
-IsJobOf t prefixes left job = (bindings : List (List ℕ × List ℕ)) × StartsWith t.limits prefixes left bindings × (job ≡ job_of t bindings)
-
 -- Why there are no bindings to start with: the file of these bytes was not loaded, and its source tells this then.
 abbrev pub StartsNot : LoadFault → Sizes → Option (Option (List ℕ)) → Option Reading → Type 0
 StartsNot fault sizes (Some known) (Some left) = LoadStops fault sizes known left

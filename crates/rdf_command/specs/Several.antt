@@ -1,5 +1,5 @@
 -- What a check of several documents does: one after the other, with a line for each, to the last one or until an output fails.
-use Rattle.std.specs.Prelude.{◌≡◌, ◌⊎◌, ◌||◌, ℕ, Bool, true, false, List, [], ◌∷◌, cond, Option, Some, None, IfSome, nat_lt, option_map, ⊤}
+use Rattle.std.specs.Prelude.{◌≡◌, ◌⊎◌, ◌||◌, ℕ, Bool, true, false, List, [], ◌∷◌, cond, Option, Some, None, IfSome, nat_lt, ⊤}
 use Rattle.rdf_iri.specs.Bindings.{BindingMap, IsReadFrom}
 use Rattle.rdf_iri.specs.Limits.{Sizes}
 use Rattle.rdf_lines.specs.declared.form.Escapes.TheVariants.{Plain}
@@ -14,7 +14,6 @@ use Rattle.rdf_stream.specs.declared.fault.StreamFault.{StreamFault}
 use Rattle.rdf_stream.specs.declared.form.Form.{Form}
 use Rattle.rdf_terms.specs.declared.fault.TermFault.{TermFault}
 use Rattle.rdf_terms.specs.declared.fault.TermFault.TheVariants.{BadTerm}
-use Rattle.rdf_command.specs.declared.several.Plan.{Plan}
 use Rattle.rdf_command.specs.Addresses.{HasNoAddress, IsAddress}
 use Rattle.rdf_command.specs.Reasons.{Devices, ReportsShutOf, ReportsStopOf, Shut, device, standard_output}
 use Rattle.rdf_command.specs.Runs.{Ending, IsCheckedAs, StopsCheckAs, TellsOf, ending}
@@ -33,9 +32,6 @@ pub record Shared : Type 0 where
   pub limits : Sizes
   pub explain : Bool
   pub prefixes : Option (List ℕ)
-
-abbrev pub shared_of : Plan → Shared
-shared_of p = record { base = option_map (λ b. b.now) p.base; folder = option_map (λ b. b.now) p.folder; limits = p.limits; explain = p.explain; prefixes = option_map (λ b. b.now) p.prefixes }
 
 -- the bindings of these bytes, or none where there are no bytes
 abbrev pub BindsFrom : Sizes → Option (List ℕ) → List (List ℕ × List ℕ) → Type 0

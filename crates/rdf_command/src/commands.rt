@@ -10,7 +10,8 @@ ghost use Rattle.rdf_lines.specs.declared.form.Escapes.TheVariants.{Ascii, Plain
 ghost use Rattle.rdf_iri.specs.Texts.{byte_len};
 ghost use Rattle.rdf_options.specs.Options.{rdfconv};
 ghost use Rattle.rdf_stream.specs.Skips.{HasLines};
-ghost use Rattle.rdf_command.specs.BadIris.{IsOfIri, lines_by, lines_for, lines_of};
+ghost use Rattle.rdf_command.specs.BadIris.{lines_by, lines_for, lines_of};
+ghost use Rattle.rdf_command.specs.RunSteps.{IsOfIri};
 ghost use Rattle.rdf_command.specs.Programs.{IsTaskOf, IsNoTaskOf, IsToldBy};
 ghost use Rattle.rdf_command.specs.Words.{GivesNone, GivesTask, HasSizes, IsBase, IsTaskBy, IsUsageOf, IsWord, number_of};
 ghost use Rattle.rdf_command.specs.WordSteps.{HasLimits, HasNumber, IsEntered};

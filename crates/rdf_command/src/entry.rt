@@ -6,7 +6,7 @@ ghost use Rattle.rdf_iri.specs.Scope.{BaseFits};
 ghost use Rattle.std.specs.Result.{IsErrOf};
 ghost use Rattle.rdf_iri.specs.Texts.{byte_len};
 ghost use Rattle.rdf_command.specs.Addresses.{IsAddress, LacksAddress};
-ghost use Rattle.rdf_command.specs.BadIris.{IsOfIri};
+ghost use Rattle.rdf_command.specs.RunSteps.{IsOfIri};
 ghost use Rattle.rdf_command.specs.Programs.{HasPrefixes, HostEnds, IsGiven, IsNotGiven, IsNoTaskOf, IsTaskOf, IsToldBy, OneEnds, OneEndsAt, TaskEnds, file_of, folders_of, outputs_of, prefixes_of, shut_of};
 ghost use Rattle.rdf_command.specs.Reasons.{devices_of, drain_tells};
 ghost use Rattle.rdf_command.specs.Runs.{AreFresh, AsWritten, files_told};

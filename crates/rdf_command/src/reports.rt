@@ -3,7 +3,8 @@
 ghost use Rattle.std.specs.Prelude.{◌≡◌, ◌⊎◌, ◌++◌, false, codes, IfOk, IfSome, None, OnErr, OnOk, option_map};
 ghost use Rattle.rdf_stream.specs.Messages.{report_text};
 ghost use Rattle.rdf_stream.specs.declared.fault.StreamFault.{StreamFault};
-ghost use Rattle.rdf_command.specs.BadIris.{IsOfIri, RefusesWith};
+ghost use Rattle.rdf_command.specs.BadIris.{RefusesWith};
+ghost use Rattle.rdf_command.specs.RunSteps.{IsOfIri};
 ghost use Rattle.rdf_command.specs.Statuses.{GoesTo, RefusesWords, Reports, ReportsExplained, ReportsExplainedOf, ReportsLoad, ReportsNoAddressOf, ReportsOf, address_status, address_text, explanation, load_status};
 ghost use Rattle.rdf_command.specs.Statuses.{ReportsCounts, counts_text, no_format_text, prefixes_text, skip_status, status_of};
 

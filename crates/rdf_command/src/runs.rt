@@ -10,7 +10,8 @@ ghost use Rattle.rdf_stream.specs.Jobs.{word_of};
 ghost use Rattle.rdf_stream.specs.Languages.{conversion_of};
 ghost use Rattle.rdf_stream.specs.Told.{AsTold, told};
 ghost use Rattle.rdf_command.specs.Reasons.{devices_of, standard_output};
-ghost use Rattle.rdf_command.specs.Runs.{AreFresh, AsWritten, Does, HandsOver, IsCheckedAs, IsJobOf, RunEnds, SendsOn, StartsNot, StopsAction, StopsCheckAs, asked_near};
+ghost use Rattle.rdf_command.specs.Runs.{AreFresh, AsWritten, Does, HandsOver, IsCheckedAs, RunEnds, SendsOn, StartsNot, StopsAction, StopsCheckAs, asked_near};
+ghost use Rattle.rdf_command.specs.RunSteps.{IsJobOf};
 ghost use Rattle.rdf_command.specs.Runs.{TellsEvidence, TellsOf, accepted_text, files_told, front_of};
 
 use crate::commands::name_by;

@@ -10,7 +10,8 @@ ghost use Rattle.rdf_command.specs.Addresses.{IsFolderFor};
 ghost use Rattle.rdf_command.specs.Programs.{SeveralEnd, documents_of, folders_of, shut_of};
 ghost use Rattle.rdf_command.specs.Reasons.{devices_of};
 ghost use Rattle.rdf_command.specs.Runs.{AsWritten, StartsNot};
-ghost use Rattle.rdf_command.specs.Several.{AcceptsOne, BindsNotFrom, EndsAt, EndsEach, EndsOne, GivesBindings, IsCheckJob, StopsOne, has_failed_output, shared_of, status_after, worse};
+ghost use Rattle.rdf_command.specs.Several.{AcceptsOne, BindsNotFrom, EndsAt, EndsEach, EndsOne, GivesBindings, IsCheckJob, StopsOne, has_failed_output, status_after, worse};
+ghost use Rattle.rdf_command.specs.RunSteps.{shared_of};
 
 use crate::addresses::address_within;
 use crate::commands::{name_by, named};

@@ -1,6 +1,7 @@
 use Rattle.std.proofs.Common.{option_map, subst, sym}
 use Rattle.rdf_stream.specs.Told.{told, written}
-use Rattle.rdf_command.specs.Asides.{AsideOut, told_by}
+use Rattle.rdf_command.specs.Asides.{AsideOut}
+use Rattle.rdf_command.specs.RunSteps.{told_by}
 use Rattle.rdf_command.specs.Programs.{outputs_of}
 use Rattle.rdf_command.specs.Reasons.{devices_of, drain_tells}
 use Rattle.rdf_command.specs.Runs.{ending}

@@ -5,7 +5,8 @@ use Rattle.rdf_stream.specs.Told.{written}
 use Rattle.rdf_command.specs.Programs.{documents_of, shut_of}
 use Rattle.rdf_command.specs.Reasons.{devices_of}
 use Rattle.rdf_command.specs.Runs.{ending}
-use Rattle.rdf_command.specs.Several.{EndsAt, shared_of}
+use Rattle.rdf_command.specs.Several.{EndsAt}
+use Rattle.rdf_command.specs.RunSteps.{shared_of}
 use Rattle.rdf_command.specs.Words.{further_of, name_by}
 use Rattle.rdf_command.proofs.SeveralLemmas.{Completes, both_live, completed, first_completes, next_completes, stopped}
 use Rattle.rdf_command.proofs.several.check_with.Goals as goal
