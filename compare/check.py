@@ -13,6 +13,7 @@ not installed, its lines are left out, and those that need a file of such a line
 with status 1 where something differs.
 """
 import fnmatch
+import glob
 import gzip
 import os
 import re
@@ -35,6 +36,13 @@ OTHERS = ['parallel', 'pv', 'rapper', 'sqlite3', 'perl', 'iconv', 'git']
 def read(path):
     with open(os.path.join(TOP, path), encoding='utf-8') as page:
         return page.read()
+
+
+def is_stale():
+    """Whether the program is missing or older than a source, so that it is proved and built when it is first started."""
+    built = os.path.join(TOP, 'crates', 'rdf_tool', 'out', 'rdf_tool')
+    sources = (path for part in ('src', 'specs', 'proofs') for path in glob.iglob(os.path.join(TOP, 'crates', '*', part, '**'), recursive=True))
+    return not os.path.exists(built) or any(os.path.getmtime(path) > os.path.getmtime(built) for path in sources if os.path.isfile(path))
 
 
 class Counts:
@@ -306,6 +314,8 @@ def main():
     if missing:
         left_out = sum(it[2] for page in pages for it in plan(page))
         print('not installed: %s; %d lines are left out' % (', '.join(missing), left_out))
+    if 'RDFCONV' not in os.environ and is_stale():
+        print('the program is not built of these sources, so it is proved and built first, which may take half an hour', flush=True)
     if not asked:
         compare(counts)
     if not asked or 'scripts' in asked:
