@@ -4,274 +4,61 @@ use rdf_iri::Limits;
 use rdf_stream::{Cause, Form, In, Job, StreamFault, advice, cause_of, check};
 use std::alloc::Global;
 
-/// A document of one line that is refused, and the likely cause.
-struct Row {
-    form: Form,
-    bytes: &'static [u8],
-    cause: Option<Cause>,
-}
-
-static ROWS: [Row; 52] = [
-    Row {
-        form: Form::Turtle,
-        bytes: b"\x1F\x8B\x08",
-        cause: Some(Cause::Packed),
-    },
-    Row {
-        form: Form::NTriples,
-        bytes: b"BZh91AY&SY",
-        cause: Some(Cause::Packed),
-    },
-    Row {
-        form: Form::Turtle,
-        bytes: b"\xFD7zXZ\0\0\x04",
-        cause: Some(Cause::Packed),
-    },
-    Row {
-        form: Form::TriG,
-        bytes: b"PK\x03\x04\x14",
-        cause: Some(Cause::Packed),
-    },
-    Row {
-        form: Form::Turtle,
-        bytes: b" \x1F\x8B\x08",
-        cause: None,
-    },
-    Row {
-        form: Form::NQuads,
-        bytes: b"\xFF\xFE<\0a\0",
-        cause: Some(Cause::Utf16),
-    },
-    Row {
-        form: Form::Turtle,
-        bytes: b"\xFE\xFF\0<\0a",
-        cause: Some(Cause::Utf16),
-    },
-    Row {
-        form: Form::NTriples,
-        bytes: b"<a:s> <a:p> \"caf\xE9\" .",
-        cause: Some(Cause::Latin1),
-    },
-    Row {
-        form: Form::Turtle,
-        bytes: b"<a:s> <a:p> \"caf\xC3",
-        cause: None,
-    },
-    Row {
-        form: Form::Turtle,
-        bytes: b"\x89PNG",
-        cause: None,
-    },
-    Row {
-        form: Form::TriG,
-        bytes: b"<!DOCTYPE html>",
-        cause: Some(Cause::WebPage),
-    },
-    Row {
-        form: Form::NTriples,
-        bytes: b"<html lang=\"en\">",
-        cause: Some(Cause::WebPage),
-    },
-    Row {
-        form: Form::NTriples,
-        bytes: b"<?xml version=\"1.0\"?>",
-        cause: Some(Cause::Xml),
-    },
-    Row {
-        form: Form::Turtle,
-        bytes: b"<rdf:RDF xmlns:rdf=\"http://www.w3.org/1999/02/22-rdf-syntax-ns#\"/>",
-        cause: Some(Cause::Xml),
-    },
-    Row {
-        form: Form::Turtle,
-        bytes: b"{\"@context\": \"http://a/\"}",
-        cause: Some(Cause::JsonLd),
-    },
-    Row {
-        form: Form::TriG,
-        bytes: b"{ \"@context\": \"http://a/\" }",
-        cause: Some(Cause::JsonLd),
-    },
-    Row {
-        form: Form::TriG,
-        bytes: b"{   \"@id\": \"http://a/\"",
-        cause: Some(Cause::JsonLd),
-    },
-    Row {
-        form: Form::TriG,
-        bytes: b"{   \"@type\": \"Person\"",
-        cause: Some(Cause::JsonLd),
-    },
-    Row {
-        form: Form::TriG,
-        bytes: b"{   \"@idea\": 1",
-        cause: None,
-    },
-    Row {
-        form: Form::NTriples,
-        bytes: b"{\"@id\": \"a:s\"}",
-        cause: Some(Cause::JsonLd),
-    },
-    Row {
-        form: Form::Turtle,
-        bytes: b"<< <a:s> <a:p> <a:o> >> <a:q> 1 .",
-        cause: Some(Cause::TripleTerm),
-    },
-    Row {
-        form: Form::NTriples,
-        bytes: b"<a:s> <a:p> <<( <a:s> <a:p> <a:o> )>> .",
-        cause: Some(Cause::TripleTerm),
-    },
-    Row {
-        form: Form::Turtle,
-        bytes: b"<a:s> <a:p> <a:o> {| <a:q> 1 |} .",
-        cause: Some(Cause::TripleTerm),
-    },
-    Row {
-        form: Form::NTriples,
-        bytes: b"<a:s> <a:p> \"x\"@en--ltr .",
-        cause: Some(Cause::Direction),
-    },
-    Row {
-        form: Form::NTriples,
-        bytes: b"<a:s> <a:p> <a:o> . \xEF\xBB\xBF<a:s>",
-        cause: Some(Cause::ByteOrderMark),
-    },
-    Row {
-        form: Form::Turtle,
-        bytes: b"<a:s> <a:p> \xEF\xBB\xBFex:o .",
-        cause: Some(Cause::ByteOrderMark),
-    },
-    Row {
-        form: Form::NTriples,
-        bytes: b"<a:s> <a:p> <a:o b> .",
-        cause: Some(Cause::SpaceInIri),
-    },
-    Row {
-        form: Form::Turtle,
-        bytes: b"<a:s <a:p> <a:o> .",
-        cause: Some(Cause::OpenIri),
-    },
-    Row {
-        form: Form::Turtle,
-        bytes: b"<a:s> <a:p> <a:o .",
-        cause: None,
-    },
-    Row {
-        form: Form::NTriples,
-        bytes: b"<a:s> <a:p> \"x\"@en_US .",
-        cause: Some(Cause::UnderscoreInTag),
-    },
-    Row {
-        form: Form::Turtle,
-        bytes: b"<a:s> <a:p> _x .",
-        cause: None,
-    },
-    Row {
-        form: Form::Turtle,
-        bytes: b"PREFIX ex: <a:> ex:s ex:p ex:a/b .",
-        cause: Some(Cause::SlashInName),
-    },
-    Row {
-        form: Form::NTriples,
-        bytes: b"<a:s> <a:p> \"C:\\temp\\x\" .",
-        cause: Some(Cause::BadBackslash),
-    },
-    Row {
-        form: Form::Turtle,
-        bytes: b"<a:s> <a:p> \"C:\\Users\" .",
-        cause: Some(Cause::BadBackslash),
-    },
-    Row {
-        form: Form::NTriples,
-        bytes: b"<a:s> <a:p> \"one .",
-        cause: Some(Cause::OpenString),
-    },
-    Row {
-        form: Form::NTriples,
-        bytes: b"<a:s> <a:p> \"\\uD83D\\uDE00\" .",
-        cause: Some(Cause::Surrogates),
-    },
-    Row {
-        form: Form::NTriples,
-        bytes: b"<a:s> <a:p> <a:\\u0020> .",
-        cause: None,
-    },
-    Row {
-        form: Form::NTriples,
-        bytes: b"ex:s ex:p ex:o .",
-        cause: Some(Cause::OnlyTurtle),
-    },
-    Row {
-        form: Form::NTriples,
-        bytes: b"PREFIX ex: <a:>",
-        cause: Some(Cause::OnlyTurtle),
-    },
-    Row {
-        form: Form::NQuads,
-        bytes: b"@prefix ex: <a:> .",
-        cause: Some(Cause::OnlyTurtle),
-    },
-    Row {
-        form: Form::NQuads,
-        bytes: b"<a:s> <a:p> 12 .",
-        cause: Some(Cause::OnlyTurtle),
-    },
-    Row {
-        form: Form::NTriples,
-        bytes: b"<a:s> a <a:o> .",
-        cause: Some(Cause::OnlyTurtle),
-    },
-    Row {
-        form: Form::NTriples,
-        bytes: b"<a:s> <a:p> [] .",
-        cause: Some(Cause::OnlyTurtle),
-    },
-    Row {
-        form: Form::Turtle,
-        bytes: b"@prefix ex <a:> .",
-        cause: Some(Cause::PrefixWithoutColon),
-    },
-    Row {
-        form: Form::Turtle,
-        bytes: b"PREFIX ex <a:>",
-        cause: Some(Cause::PrefixWithoutColon),
-    },
-    Row {
-        form: Form::Turtle,
-        bytes: b"<a:s> <a:p> \"x\" @prefix ex: <a:> .",
-        cause: Some(Cause::NoDotBefore),
-    },
-    Row {
-        form: Form::Turtle,
-        bytes: b"<a:s> <a:p> \"x\" @base <a:> .",
-        cause: Some(Cause::NoDotBefore),
-    },
-    Row {
-        form: Form::Turtle,
-        bytes: b"@prefix ex:s <a:> .",
-        cause: None,
-    },
-    Row {
-        form: Form::Turtle,
-        bytes: b"<a:s> author \"x\" .",
-        cause: Some(Cause::BareWord),
-    },
-    Row {
-        form: Form::NTriples,
-        bytes: b"<a:s> <a:p> word .",
-        cause: Some(Cause::BareWord),
-    },
-    Row {
-        form: Form::Turtle,
-        bytes: b"<a:s> <a:p> 2020-01-01 .",
-        cause: Some(Cause::DateWithoutQuotes),
-    },
-    Row {
-        form: Form::Turtle,
-        bytes: b"<s> <a:p> <a:o> .",
-        cause: None,
-    },
+/// Documents of one line that are refused: the format, the bytes, and the likely cause, if there is one.
+#[rattlefmt::skip]
+static ROWS: [(Form, &[u8], Option<Cause>); 52] = [
+    (Form::Turtle, b"\x1F\x8B\x08", Some(Cause::Packed)),
+    (Form::NTriples, b"BZh91AY&SY", Some(Cause::Packed)),
+    (Form::Turtle, b"\xFD7zXZ\0\0\x04", Some(Cause::Packed)),
+    (Form::TriG, b"PK\x03\x04\x14", Some(Cause::Packed)),
+    (Form::Turtle, b" \x1F\x8B\x08", None),
+    (Form::NQuads, b"\xFF\xFE<\0a\0", Some(Cause::Utf16)),
+    (Form::Turtle, b"\xFE\xFF\0<\0a", Some(Cause::Utf16)),
+    (Form::NTriples, b"<a:s> <a:p> \"caf\xE9\" .", Some(Cause::Latin1)),
+    (Form::Turtle, b"<a:s> <a:p> \"caf\xC3", None),
+    (Form::Turtle, b"\x89PNG", None),
+    (Form::TriG, b"<!DOCTYPE html>", Some(Cause::WebPage)),
+    (Form::NTriples, b"<html lang=\"en\">", Some(Cause::WebPage)),
+    (Form::NTriples, b"<?xml version=\"1.0\"?>", Some(Cause::Xml)),
+    (Form::Turtle, b"<rdf:RDF xmlns:rdf=\"http://www.w3.org/1999/02/22-rdf-syntax-ns#\"/>", Some(Cause::Xml)),
+    (Form::Turtle, b"{\"@context\": \"http://a/\"}", Some(Cause::JsonLd)),
+    (Form::TriG, b"{ \"@context\": \"http://a/\" }", Some(Cause::JsonLd)),
+    (Form::TriG, b"{   \"@id\": \"http://a/\"", Some(Cause::JsonLd)),
+    (Form::TriG, b"{   \"@type\": \"Person\"", Some(Cause::JsonLd)),
+    (Form::TriG, b"{   \"@idea\": 1", None),
+    (Form::NTriples, b"{\"@id\": \"a:s\"}", Some(Cause::JsonLd)),
+    (Form::Turtle, b"<< <a:s> <a:p> <a:o> >> <a:q> 1 .", Some(Cause::TripleTerm)),
+    (Form::NTriples, b"<a:s> <a:p> <<( <a:s> <a:p> <a:o> )>> .", Some(Cause::TripleTerm)),
+    (Form::Turtle, b"<a:s> <a:p> <a:o> {| <a:q> 1 |} .", Some(Cause::TripleTerm)),
+    (Form::NTriples, b"<a:s> <a:p> \"x\"@en--ltr .", Some(Cause::Direction)),
+    (Form::NTriples, b"<a:s> <a:p> <a:o> . \xEF\xBB\xBF<a:s>", Some(Cause::ByteOrderMark)),
+    (Form::Turtle, b"<a:s> <a:p> \xEF\xBB\xBFex:o .", Some(Cause::ByteOrderMark)),
+    (Form::NTriples, b"<a:s> <a:p> <a:o b> .", Some(Cause::SpaceInIri)),
+    (Form::Turtle, b"<a:s <a:p> <a:o> .", Some(Cause::OpenIri)),
+    (Form::Turtle, b"<a:s> <a:p> <a:o .", None),
+    (Form::NTriples, b"<a:s> <a:p> \"x\"@en_US .", Some(Cause::UnderscoreInTag)),
+    (Form::Turtle, b"<a:s> <a:p> _x .", None),
+    (Form::Turtle, b"PREFIX ex: <a:> ex:s ex:p ex:a/b .", Some(Cause::SlashInName)),
+    (Form::NTriples, b"<a:s> <a:p> \"C:\\temp\\x\" .", Some(Cause::BadBackslash)),
+    (Form::Turtle, b"<a:s> <a:p> \"C:\\Users\" .", Some(Cause::BadBackslash)),
+    (Form::NTriples, b"<a:s> <a:p> \"one .", Some(Cause::OpenString)),
+    (Form::NTriples, b"<a:s> <a:p> \"\\uD83D\\uDE00\" .", Some(Cause::Surrogates)),
+    (Form::NTriples, b"<a:s> <a:p> <a:\\u0020> .", None),
+    (Form::NTriples, b"ex:s ex:p ex:o .", Some(Cause::OnlyTurtle)),
+    (Form::NTriples, b"PREFIX ex: <a:>", Some(Cause::OnlyTurtle)),
+    (Form::NQuads, b"@prefix ex: <a:> .", Some(Cause::OnlyTurtle)),
+    (Form::NQuads, b"<a:s> <a:p> 12 .", Some(Cause::OnlyTurtle)),
+    (Form::NTriples, b"<a:s> a <a:o> .", Some(Cause::OnlyTurtle)),
+    (Form::NTriples, b"<a:s> <a:p> [] .", Some(Cause::OnlyTurtle)),
+    (Form::Turtle, b"@prefix ex <a:> .", Some(Cause::PrefixWithoutColon)),
+    (Form::Turtle, b"PREFIX ex <a:>", Some(Cause::PrefixWithoutColon)),
+    (Form::Turtle, b"<a:s> <a:p> \"x\" @prefix ex: <a:> .", Some(Cause::NoDotBefore)),
+    (Form::Turtle, b"<a:s> <a:p> \"x\" @base <a:> .", Some(Cause::NoDotBefore)),
+    (Form::Turtle, b"@prefix ex:s <a:> .", None),
+    (Form::Turtle, b"<a:s> author \"x\" .", Some(Cause::BareWord)),
+    (Form::NTriples, b"<a:s> <a:p> word .", Some(Cause::BareWord)),
+    (Form::Turtle, b"<a:s> <a:p> 2020-01-01 .", Some(Cause::DateWithoutQuotes)),
+    (Form::Turtle, b"<s> <a:p> <a:o> .", None),
 ];
 
 /// The likely cause of the refusal of a document of one line, where it is refused.
@@ -289,12 +76,12 @@ fn cause_in(alloc: Global, form: Form, bytes: &[u8]) -> Option<Option<Cause>> {
 
 #[test]
 fn a_cause_is_told_where_the_bytes_tell_it(rt: HostRuntime) {
-    for row in ROWS.as_slice() {
-        assert!(rt;
-            cause_in(rt.alloc(), row.form, row.bytes) == Some(row.cause),
-            "{:?} of {:?}",
-            row.cause,
-            row.bytes
+    for (form, bytes, cause) in ROWS.as_slice() {
+        assert_eq!(rt;
+            cause_in(rt.alloc(), *form, bytes),
+            Some(*cause),
+            "{}",
+            bytes.escape_ascii()
         );
     }
 }

@@ -15,12 +15,12 @@ use rdf_command::{
 };
 use rdf_stream::{Escapes, Form, In, Limits, Out, Source};
 use rows::{
-    Asked, CUTS, Cut, FILES, Fields, INPUT, INTO_FILES, IntoFile, LIMITED, Limited, RUNS, Run,
-    SKIPS, STARTED, Skip, Started, TASKS, UNWRITTEN, Unwritten,
+    CUTS, FILES, Fields, INPUT, LIMITED, Limited, MADE, Made, PLAIN, RUNS, Run, STARTED, Started,
+    TASKS, UNMADE, UNWRITTEN, Unmade,
 };
 use std::alloc::{AllocError, Global};
 use std::test::Fail;
-use texts::{COMMANDS, HELP, Help, NOT_UTF8, REFUSED, Refused, VERSION};
+use texts::{COMMANDS, HELP, Help, MISUSED, NOT_UTF8, REFUSED, SHOW, UNEXPECTED, VERSION};
 
 /// What came of a run.
 #[derive(Drop)]
@@ -95,33 +95,36 @@ fn ran(alloc: Global, task: Task, document: &str) -> Ended
 }
 
 fn run_differs_in(alloc: Global, row: &Run) -> Option<&'static str> {
-    let task = task(alloc, row.action, row.form, Limits::default());
-    ran(alloc, task, row.document).differs_in(row.status, row.written, row.reported)
+    let (action, form, document, status, written, reported) = *row;
+    let task = task(alloc, action, form, Limits::default());
+    ran(alloc, task, document).differs_in(status, written, reported)
 }
 
 #[test]
 fn a_run_writes_the_lines_or_tells_why_not(rt: HostRuntime) {
     for row in RUNS.as_slice() {
-        assert_eq!(rt; run_differs_in(rt.alloc(), row), None, "{}", row.document);
+        let (_, _, document, ..) = row;
+        assert_eq!(rt; run_differs_in(rt.alloc(), row), None, "{document}");
     }
 }
 
 fn limited_run_differs_in(alloc: Global, row: &Limited) -> Option<&'static str> {
-    let Some(limits) = Limits::new(row.token, 0, 0, row.iri) else {
+    let (token, iri, status, written, reported) = *row;
+    let Some(limits) = Limits::new(token, 0, 0, iri) else {
         return Some("limits");
     };
     let task = task(alloc, Action::Convert, Form::NTriples, limits);
-    ran(alloc, task, "<a:> <b:> <c:> .").differs_in(row.status, row.written, row.reported)
+    ran(alloc, task, "<a:> <b:> <c:> .").differs_in(status, written, reported)
 }
 
 #[test]
 fn a_run_keeps_to_the_limits_of_its_task(rt: HostRuntime) {
     for row in LIMITED.as_slice() {
+        let (token, iri, ..) = row;
         assert_eq!(rt;
             limited_run_differs_in(rt.alloc(), row),
             None,
-            "{}",
-            row.reported
+            "tokens of {token} and IRIs of {iri}"
         );
     }
 }
@@ -191,21 +194,20 @@ fn words_in<'a>(alloc: Global, line: &'a str) -> Result<Vec<&'a str>, AllocError
     line.split(' ').collect(alloc)
 }
 
-fn asked_task_differs_in(alloc: Global, row: &Asked) -> Option<&'static str> {
-    match words_in(alloc, row.line) {
-        Ok(words) => task_differs_in(alloc, words.as_slice(), &row.fields),
+fn asked_task_differs_in(alloc: Global, line: &str, fields: &Fields<'_>) -> Option<&'static str> {
+    match words_in(alloc, line) {
+        Ok(words) => task_differs_in(alloc, words.as_slice(), fields),
         Err(_) => Some("memory"),
     }
 }
 
 #[test]
 fn words_give_each_field_of_a_task(rt: HostRuntime) {
-    for row in TASKS.as_slice() {
+    for (line, fields) in TASKS.as_slice() {
         assert_eq!(rt;
-            asked_task_differs_in(rt.alloc(), row),
+            asked_task_differs_in(rt.alloc(), line, fields),
             None,
-            "{}",
-            row.line
+            "{line}"
         );
     }
 }
@@ -239,18 +241,61 @@ fn refusal_differs_in(
     }
 }
 
-fn refused_line_differs_in(alloc: Global, row: &Refused) -> Option<&'static str> {
-    match words_in(alloc, row.line) {
-        Ok(words) => refusal_differs_in(alloc, words.as_slice(), 2, "", row.reported),
+fn refused_line_differs_in(alloc: Global, line: &str, reported: &str) -> Option<&'static str> {
+    match words_in(alloc, line) {
+        Ok(words) => refusal_differs_in(alloc, words.as_slice(), 2, "", reported),
+        Err(_) => Some("memory"),
+    }
+}
+
+/// What differs where this line has an option that its command does not take.
+fn unexpected_differs_in(
+    alloc: Global,
+    line: &str,
+    option: &str,
+    usage: &str,
+) -> Option<&'static str> {
+    match format!(in alloc;
+        "error: unexpected argument '{option}' found\n\n  \
+        tip: to pass '{option}' as a value, use '-- {option}'\n\n\
+        {usage}For more information, try '--help'.\n"
+    ) {
+        Ok(text) => refused_line_differs_in(alloc, line, text.as_str()),
+        Err(_) => Some("memory"),
+    }
+}
+
+/// What differs where this line is no task for that error.
+fn misused_differs_in(alloc: Global, line: &str, error: &str, usage: &str) -> Option<&'static str> {
+    match format!(in alloc; "error: {error}\n\n{usage}For more information, try '--help'.\n") {
+        Ok(text) => refused_line_differs_in(alloc, line, text.as_str()),
+        Err(_) => Some("memory"),
+    }
+}
+
+/// What differs where a text of this line is refused for that reason.
+fn refused_text_differs_in(alloc: Global, line: &str, reason: &str) -> Option<&'static str> {
+    match format!(in alloc; "rdfconv: {reason}\n") {
+        Ok(text) => refused_line_differs_in(alloc, line, text.as_str()),
         Err(_) => Some("memory"),
     }
 }
 
 /// The first line that is not refused so, and what is not so.
 fn unlike_refusal(alloc: Global) -> Option<(&'static str, &'static str)> {
-    for row in REFUSED.as_slice() {
-        if let Some(other) = refused_line_differs_in(alloc, row) {
-            return Some((row.line, other));
+    for (line, option, usage) in UNEXPECTED.as_slice() {
+        if let Some(other) = unexpected_differs_in(alloc, line, option, usage) {
+            return Some((line, other));
+        }
+    }
+    for (line, error, usage) in MISUSED.as_slice() {
+        if let Some(other) = misused_differs_in(alloc, line, error, usage) {
+            return Some((line, other));
+        }
+    }
+    for (line, reason) in REFUSED.as_slice() {
+        if let Some(other) = refused_text_differs_in(alloc, line, reason) {
+            return Some((line, other));
         }
     }
     None
@@ -277,8 +322,9 @@ fn command_help_differs_in(alloc: Global, name: &str, help: &str) -> Option<&'st
 
 /// What differs in the help of a command, which begins with these lines and options.
 fn help_differs_in(alloc: Global, help: &Help) -> Option<&'static str> {
-    match format!(in alloc; "{}{}{}", help.first, help.options, help.notes) {
-        Ok(text) => command_help_differs_in(alloc, help.name, text.as_str()),
+    let (name, first, options, notes) = *help;
+    match format!(in alloc; "{first}{options}{notes}") {
+        Ok(text) => command_help_differs_in(alloc, name, text.as_str()),
         Err(_) => Some("memory"),
     }
 }
@@ -286,8 +332,9 @@ fn help_differs_in(alloc: Global, help: &Help) -> Option<&'static str> {
 /// The first command whose help is not so, and what is not so.
 fn unlike_help(alloc: Global) -> Option<(&'static str, &'static str)> {
     for help in COMMANDS.as_slice() {
+        let (name, ..) = help;
         if let Some(other) = help_differs_in(alloc, help) {
-            return Some((help.name, other));
+            return Some((name, other));
         }
     }
     let other = program_help_differs_in(alloc)?;
@@ -332,15 +379,8 @@ fn long_task_differs_in(alloc: Global, base: &str, file: &str) -> Option<&'stati
         form: Form::Turtle,
         base: Some(base),
         limits: [1, 2, 3, 200000],
-        explain: false,
-        escapes: Escapes::Plain,
-        node_prefix: None,
-        graph: None,
-        prefixes: None,
         file: Some(file),
-        output: None,
-        skip: None,
-        more: &[],
+        ..PLAIN
     };
     task_differs_in(alloc, &words, &fields)
 }
@@ -350,7 +390,7 @@ fn many_words_differ_in(alloc: Global, word: &str) -> Option<&'static str> {
     words[0] = "rdfconv";
     words[1] = "show";
     match format!(in alloc;
-        "error: unexpected argument '{word}' found\n\nUsage: rdfconv show [OPTIONS] [FILE]\n\nFor more information, try '--help'.\n"
+        "error: unexpected argument '{word}' found\n\n{SHOW}For more information, try '--help'.\n"
     ) {
         Ok(message) => refusal_differs_in(alloc, &words, 2, "", message.as_str()),
         Err(_) => Some("memory"),
@@ -370,6 +410,16 @@ fn a_long_command_line_is_taken(rt: HostRuntime) -> Result<(), Fail> {
     Ok(())
 }
 
+/// A host with these words, whose outputs become that.
+fn in_memory(words: Result<&str, NoWords>, making: Making) -> InMemory<'_> {
+    InMemory {
+        words,
+        input: INPUT,
+        files: FILES.as_slice(),
+        outputs: Outputs::new(making),
+    }
+}
+
 fn start_differs_in(
     alloc: Global,
     words: Result<&str, NoWords>,
@@ -377,12 +427,7 @@ fn start_differs_in(
     written: &str,
     reported: &str,
 ) -> Option<&'static str> {
-    let host = InMemory {
-        words,
-        input: INPUT,
-        files: FILES.as_slice(),
-        outputs: Outputs::new(Making::NotCreated),
-    };
+    let host = in_memory(words, Making::NotCreated);
     started(alloc, &host).differs_in(status, written, reported)
 }
 
@@ -404,7 +449,8 @@ fn started(alloc: Global, host: &InMemory<'_>) -> Ended {
 }
 
 fn started_line_differs_in(alloc: Global, row: &Started) -> Option<&'static str> {
-    start_differs_in(alloc, Ok(row.line), row.status, row.written, row.reported)
+    let (line, status, written, reported) = *row;
+    start_differs_in(alloc, Ok(line), status, written, reported)
 }
 
 fn start_without_words_differs_in(alloc: Global) -> Option<&'static str> {
@@ -416,8 +462,9 @@ fn start_without_words_differs_in(alloc: Global) -> Option<&'static str> {
 /// The first line of which something else comes, and what is not so.
 fn unlike_start(alloc: Global) -> Option<(&'static str, &'static str)> {
     for row in STARTED.as_slice() {
+        let (line, ..) = row;
         if let Some(other) = started_line_differs_in(alloc, row) {
-            return Some((row.line, other));
+            return Some((line, other));
         }
     }
     let other = start_without_words_differs_in(alloc)?;
@@ -431,12 +478,7 @@ fn the_program_does_what_its_words_say(rt: HostRuntime) {
 
 /// What comes of a check of several documents whose error output takes so many bytes, one a call, and then fails.
 fn checked(alloc: Global, line: &str, calls: u64) -> Ended {
-    let host = InMemory {
-        words: Ok(line),
-        input: INPUT,
-        files: FILES.as_slice(),
-        outputs: Outputs::new(Making::NotCreated),
-    };
+    let host = in_memory(Ok(line), Making::NotCreated);
     let mut written = Vec::new(alloc);
     let mut out = Out::new(&mut written);
     let mut err = slow_drain(alloc, 1, calls);
@@ -451,15 +493,26 @@ fn checked(alloc: Global, line: &str, calls: u64) -> Ended {
     }
 }
 
-/// What differs where the error output takes so many bytes of what is reported.
-fn cut_differs_in(alloc: Global, row: &Cut, count: usize) -> Option<&'static str> {
-    let ended = checked(alloc, row.line, count as u64);
-    let written = if count < row.first { "" } else { row.written };
+/// What differs where the error output takes so many bytes of what is reported. Standard input has its line once
+/// all that is reported of the first document is taken.
+fn cut_differs_in(
+    alloc: Global,
+    line: &str,
+    first: usize,
+    reported: &str,
+    count: usize,
+) -> Option<&'static str> {
+    let ended = checked(alloc, line, count as u64);
+    let written = if count < first {
+        ""
+    } else {
+        "-: accepted, 1 quads, 19 bytes\n"
+    };
     if ended.status != 3 {
         Some("status")
     } else if ended.written.as_slice() != written.as_bytes() {
         Some("written")
-    } else if Some(ended.reported.as_slice()) != row.reported.as_bytes().get(..count) {
+    } else if Some(ended.reported.as_slice()) != reported.as_bytes().get(..count) {
         Some("reported")
     } else {
         None
@@ -467,9 +520,14 @@ fn cut_differs_in(alloc: Global, row: &Cut, count: usize) -> Option<&'static str
 }
 
 /// The first number of bytes after which the error output does not end the check at its document, and what is not so.
-fn unlike_cut(alloc: Global, row: &Cut) -> Option<(usize, &'static str)> {
-    for count in 0..row.reported.len() {
-        if let Some(other) = cut_differs_in(alloc, row, count) {
+fn unlike_cut(
+    alloc: Global,
+    line: &str,
+    first: usize,
+    reported: &str,
+) -> Option<(usize, &'static str)> {
+    for count in 0..reported.len() {
+        if let Some(other) = cut_differs_in(alloc, line, first, reported, count) {
             return Some((count, other));
         }
     }
@@ -478,95 +536,83 @@ fn unlike_cut(alloc: Global, row: &Cut) -> Option<(usize, &'static str)> {
 
 #[test]
 fn no_document_is_read_after_an_output_has_failed(rt: HostRuntime) {
-    for row in CUTS.as_slice() {
-        assert_eq!(rt; unlike_cut(rt.alloc(), row), None, "{}", row.line);
+    for (line, first, reported) in CUTS.as_slice() {
+        assert_eq!(rt;
+            unlike_cut(rt.alloc(), line, *first, reported),
+            None,
+            "{line}"
+        );
     }
 }
 
-/// What differs in a run whose lines go to a file.
-fn made_differs_in(outputs: &Outputs, row: &IntoFile) -> Option<&'static str> {
-    let kept = outputs.kept.get().map(|bytes| bytes.as_slice());
-    if kept != row.kept.map(|text| text.as_bytes()) {
-        Some("kept")
-    } else if outputs.is_discarded.get() != row.is_discarded {
-        Some("discarded")
-    } else {
-        None
-    }
-}
-
-fn into_file_differs_in(alloc: Global, row: &IntoFile) -> Option<&'static str> {
-    let host = InMemory {
-        words: Ok(row.line),
-        input: INPUT,
-        files: FILES.as_slice(),
-        outputs: Outputs::new(row.making),
-    };
-    let ended = started(alloc, &host);
-    ended
-        .differs_in(row.status, "", row.reported)
-        .or(made_differs_in(&host.outputs, row))
-}
-
-/// The first row of which something else comes, and what is not so.
-fn unlike_file(alloc: Global) -> Option<(&'static str, &'static str)> {
-    for row in INTO_FILES.as_slice() {
-        if let Some(other) = into_file_differs_in(alloc, row) {
-            return Some((row.line, other));
-        }
-    }
-    None
-}
-
-#[test]
-fn a_file_is_written_whole_or_not_at_all(rt: HostRuntime) {
-    assert_eq!(rt; unlike_file(rt.alloc()), None);
-}
-
-/// What differs in the files of a run that goes on after bad lines.
-fn skip_made_differs_in(outputs: &Outputs, row: &Skip) -> Option<&'static str> {
-    let kept = outputs.kept.get().map(|bytes| bytes.as_slice());
-    if kept != row.kept.map(|text| text.as_bytes()) {
+/// What differs in the files that are there after a run, if this is what `out.nq` has and what `bad.nt` ends in.
+fn files_differ_in(
+    outputs: &Outputs,
+    kept: Option<&str>,
+    aside: Option<&str>,
+) -> Option<&'static str> {
+    let bytes = outputs.kept.get().map(|bytes| bytes.as_slice());
+    if bytes != kept.map(|text| text.as_bytes()) {
         return Some("kept");
     }
-    if outputs.is_discarded.get() != row.is_discarded {
-        return Some("discarded");
-    }
-    match (outputs.aside.get(), row.aside) {
+    match (outputs.aside.get(), aside) {
         (Some(bytes), Some(end)) if bytes.as_slice().ends_with(end.as_bytes()) => None,
         (None, None) => None,
         _ => Some("put aside"),
     }
 }
 
-fn skip_differs_in(alloc: Global, row: &Skip) -> Option<&'static str> {
-    let host = InMemory {
-        words: Ok(row.line),
-        input: INPUT,
-        files: FILES.as_slice(),
-        outputs: Outputs::new(row.making),
-    };
+fn discarded_differs_in(outputs: &Outputs, is_discarded: bool) -> Option<&'static str> {
+    if outputs.is_discarded.get() == is_discarded {
+        None
+    } else {
+        Some("discarded")
+    }
+}
+
+fn made_differs_in(alloc: Global, row: &Made) -> Option<&'static str> {
+    let (line, status, written, kept, aside, reported) = *row;
+    let host = in_memory(Ok(line), Making::Works);
     let ended = started(alloc, &host);
     ended
-        .differs_in(row.status, row.written, row.reported)
-        .or(skip_made_differs_in(&host.outputs, row))
+        .differs_in(status, written, reported)
+        .or(files_differ_in(&host.outputs, kept, aside))
+        .or(discarded_differs_in(&host.outputs, false))
 }
 
 #[test]
-fn bad_lines_are_put_aside_where_that_is_asked_for(rt: HostRuntime) {
-    for row in SKIPS.as_slice() {
-        assert_eq!(rt; skip_differs_in(rt.alloc(), row), None, "{}", row.line);
+fn files_are_made_where_they_are_asked_for(rt: HostRuntime) {
+    for row in MADE.as_slice() {
+        let (line, ..) = row;
+        assert_eq!(rt; made_differs_in(rt.alloc(), row), None, "{line}");
+    }
+}
+
+fn unmade_differs_in(alloc: Global, row: &Unmade) -> Option<&'static str> {
+    let (line, making, status, is_discarded, reported) = *row;
+    let host = in_memory(Ok(line), making);
+    let ended = started(alloc, &host);
+    ended
+        .differs_in(status, "", reported)
+        .or(files_differ_in(&host.outputs, None, None))
+        .or(discarded_differs_in(&host.outputs, is_discarded))
+}
+
+#[test]
+fn a_file_is_there_whole_or_not_at_all(rt: HostRuntime) {
+    for row in UNMADE.as_slice() {
+        let (line, making, ..) = row;
+        assert_eq!(rt;
+            unmade_differs_in(rt.alloc(), row),
+            None,
+            "{line}, where the outputs are {making:?}"
+        );
     }
 }
 
 /// What differs in a run whose output takes no byte.
-fn unwritten_differs_in(alloc: Global, row: &Unwritten) -> Option<&'static str> {
-    let host = InMemory {
-        words: Ok(row.line),
-        input: INPUT,
-        files: FILES.as_slice(),
-        outputs: Outputs::new(Making::Works),
-    };
+fn unwritten_differs_in(alloc: Global, line: &str, message: &str) -> Option<&'static str> {
+    let host = in_memory(Ok(line), Making::Works);
     let mut out = slow_drain(alloc, 1, 0);
     let mut reported = Vec::new(alloc);
     let mut err = Out::new(&mut reported);
@@ -579,13 +625,17 @@ fn unwritten_differs_in(alloc: Global, row: &Unwritten) -> Option<&'static str> 
         written: out.bytes,
         reported,
     }
-    .differs_in(3, "", row.reported)
+    .differs_in(3, "", message)
 }
 
 #[test]
 fn a_failed_write_to_the_output_is_reported(rt: HostRuntime) {
-    for row in UNWRITTEN.as_slice() {
-        assert_eq!(rt; unwritten_differs_in(rt.alloc(), row), None, "{}", row.line);
+    for (line, message) in UNWRITTEN.as_slice() {
+        assert_eq!(rt;
+            unwritten_differs_in(rt.alloc(), line, message),
+            None,
+            "{line}"
+        );
     }
 }
 

@@ -16,15 +16,9 @@ use rdf_terms::{Kind, Reason};
 use rdf_trig::DocForm;
 use std::alloc::Global;
 
-/// A document with an unexpected token, its place and kind, and the kinds that could stand there.
-#[derive(Clone, Copy)]
-struct Row {
-    form: Form,
-    bytes: &'static [u8],
-    offset: u64,
-    found: Kind,
-    kinds: &'static [Kind],
-}
+/// A document with an unexpected token: its format and its bytes; the place and the kind of the token; and the kinds
+/// that could stand there.
+type Row = (Format, &'static [u8], u64, Kind, &'static [Kind]);
 
 /// The set of some kinds.
 fn set_of(kinds: &[Kind]) -> Kinds {
@@ -35,218 +29,78 @@ fn set_of(kinds: &[Kind]) -> Kinds {
     set
 }
 
+/// The form of documents of this format.
+fn form_of(format: Format) -> Form {
+    match format {
+        Format::NTriples => Form::Lines(LineForm::NTriples),
+        Format::NQuads => Form::Lines(LineForm::NQuads),
+        Format::Turtle => Form::Statements(DocForm::Turtle),
+        Format::TriG => Form::Statements(DocForm::TriG),
+    }
+}
+
 fn is_named(row: &Row, report: &Report) -> bool {
-    report.expected.bits() == set_of(row.kinds).bits()
-        && report.found == Some(row.found)
+    let (_, _, offset, found, kinds) = *row;
+    report.expected.bits() == set_of(kinds).bits()
+        && report.found == Some(found)
         && match report.answer {
             Ok(_) => false,
-            Err(fault) => fault.reason == Reason::Unexpected && fault.offset == row.offset,
+            Err(fault) => fault.reason == Reason::Unexpected && fault.offset == offset,
         }
 }
 
-/// Whether the kinds are named for a document whose first bytes come in one piece, and the others one by one.
-fn is_named_cut(alloc: Global, row: &Row, cut: usize) -> bool
-    requires { cut ≤ length row.now.bytes.now }
+/// What comes of a document whose first bytes come in one piece, and the others one by one.
+fn read_cut(alloc: Global, form: Form, bytes: &[u8], cut: usize) -> Option<Report>
+    requires { cut ≤ length bytes.now }
 {
     let mut sink = recording_sink(alloc, 64);
-    let (first, rest) = row.bytes.split_at(cut);
-    let pieces = [Piece {
-        bytes: first,
-        times: 1,
-    }];
+    let (first, rest) = bytes.split_at(cut);
+    let pieces = [Piece(first, 1)];
     let document = Document {
         pieces: pieces.as_slice(),
         rest,
     };
-    match read(alloc, row.form, Limits::default(), &document, &mut sink) {
-        Some(report) => is_named(row, &report),
-        None => false,
-    }
+    read(alloc, form, Limits::default(), &document, &mut sink)
 }
 
+#[rattlefmt::skip]
 static ROWS: [Row; 19] = [
-    Row {
-        form: Form::Lines(LineForm::NTriples),
-        bytes: b"<a:s> <a:p> <a:o> <a:g> .",
-        offset: 18,
-        found: Kind::IriRef,
-        kinds: &[Kind::Dot],
-    },
-    Row {
-        form: Form::Lines(LineForm::NQuads),
-        bytes: b"<a:s> <a:p> <a:o> \"g\" .",
-        offset: 18,
-        found: Kind::ShortString,
-        kinds: &[Kind::IriRef, Kind::LabelNode, Kind::Dot],
-    },
-    Row {
-        form: Form::Lines(LineForm::NQuads),
-        bytes: b"<a:s> <a:p> \"x\" \"g\" .",
-        offset: 16,
-        found: Kind::ShortString,
-        kinds: &[
-            Kind::IriRef,
-            Kind::LabelNode,
-            Kind::LangTag,
-            Kind::Carets,
-            Kind::Dot,
-        ],
-    },
-    Row {
-        form: Form::Lines(LineForm::NQuads),
-        bytes: b"<a:s> <a:p> <a:o> <a:g> <a:g>",
-        offset: 24,
-        found: Kind::IriRef,
-        kinds: &[Kind::Dot],
-    },
-    Row {
-        form: Form::Lines(LineForm::NTriples),
-        bytes: b"<a:s> <a:p> \"x\"^^_:t .",
-        offset: 17,
-        found: Kind::LabelNode,
-        kinds: &[Kind::IriRef],
-    },
-    Row {
-        form: Form::Lines(LineForm::NTriples),
-        bytes: b"<a:s> _:p <a:o> .",
-        offset: 6,
-        found: Kind::LabelNode,
-        kinds: &[Kind::IriRef],
-    },
-    Row {
-        form: Form::Lines(LineForm::NTriples),
-        bytes: b"<a:s> <a:p> . ",
-        offset: 12,
-        found: Kind::Dot,
-        kinds: &[Kind::IriRef, Kind::LabelNode, Kind::ShortString],
-    },
-    Row {
-        form: Form::Lines(LineForm::NTriples),
-        bytes: b"<a:s> <a:p> <a:o> . <a:s>",
-        offset: 20,
-        found: Kind::IriRef,
-        kinds: &[Kind::LineEnd, Kind::End],
-    },
-    Row {
-        form: Form::Lines(LineForm::NTriples),
-        bytes: b"\"s\"",
-        offset: 0,
-        found: Kind::ShortString,
-        kinds: &[Kind::IriRef, Kind::LabelNode, Kind::LineEnd, Kind::End],
-    },
-    Row {
-        form: Form::Statements(DocForm::Turtle),
-        bytes: b"<a:s> <a:p> [ <a:q> 1 .",
-        offset: 22,
-        found: Kind::Dot,
-        kinds: &[Kind::Semicolon, Kind::Comma, Kind::CloseBracket],
-    },
-    Row {
-        form: Form::Statements(DocForm::Turtle),
-        bytes: b"<a:s> <a:p> <a:o> }",
-        offset: 18,
-        found: Kind::CloseBrace,
-        kinds: &[Kind::Dot, Kind::Semicolon, Kind::Comma],
-    },
-    Row {
-        form: Form::Statements(DocForm::Turtle),
-        bytes: b"<a:s> \"p\" 1 .",
-        offset: 6,
-        found: Kind::ShortString,
-        kinds: &[Kind::IriRef, Kind::A, Kind::PnameNs, Kind::PnameLn],
-    },
-    Row {
-        form: Form::Statements(DocForm::TriG),
-        bytes: b"<a:s> \"p\" 1 .",
-        offset: 6,
-        found: Kind::ShortString,
-        kinds: &[
-            Kind::IriRef,
-            Kind::A,
-            Kind::PnameNs,
-            Kind::PnameLn,
-            Kind::OpenBrace,
-        ],
-    },
-    Row {
-        form: Form::Statements(DocForm::TriG),
-        bytes: b"GRAPH [ <a:s>",
-        offset: 8,
-        found: Kind::IriRef,
-        kinds: &[Kind::CloseBracket],
-    },
-    Row {
-        form: Form::Statements(DocForm::TriG),
-        bytes: b"<a:g> { <a:s> <a:p> \"x\" ]",
-        offset: 24,
-        found: Kind::CloseBracket,
-        kinds: &[
-            Kind::LangTag,
-            Kind::Carets,
-            Kind::Dot,
-            Kind::AtPrefix,
-            Kind::AtBase,
-            Kind::Semicolon,
-            Kind::Comma,
-            Kind::CloseBrace,
-        ],
-    },
-    Row {
-        form: Form::Statements(DocForm::TriG),
-        bytes: b"<a:s> <a:p> ( 1 . ",
-        offset: 16,
-        found: Kind::Dot,
-        kinds: &[
-            Kind::IriRef,
-            Kind::LabelNode,
-            Kind::ShortString,
-            Kind::LongString,
-            Kind::Integer,
-            Kind::Decimal,
-            Kind::Double,
-            Kind::True,
-            Kind::False,
-            Kind::PnameNs,
-            Kind::PnameLn,
-            Kind::OpenBracket,
-            Kind::OpenParen,
-            Kind::CloseParen,
-        ],
-    },
-    Row {
-        form: Form::Statements(DocForm::Turtle),
-        bytes: b"@prefix <a:b> .",
-        offset: 8,
-        found: Kind::IriRef,
-        kinds: &[Kind::PnameNs],
-    },
-    Row {
-        form: Form::Statements(DocForm::Turtle),
-        bytes: b"[ <a:p> 1 ] , ",
-        offset: 12,
-        found: Kind::Comma,
-        kinds: &[
-            Kind::IriRef,
-            Kind::Dot,
-            Kind::A,
-            Kind::PnameNs,
-            Kind::PnameLn,
-        ],
-    },
-    Row {
-        form: Form::Statements(DocForm::Turtle),
-        bytes: b"<a:s> <a:p> 1",
-        offset: 13,
-        found: Kind::End,
-        kinds: &[Kind::Dot, Kind::Semicolon, Kind::Comma],
-    },
+    (Format::NTriples, b"<a:s> <a:p> <a:o> <a:g> .", 18, Kind::IriRef, &[Kind::Dot]),
+    (Format::NQuads, b"<a:s> <a:p> <a:o> \"g\" .", 18, Kind::ShortString, &[Kind::IriRef, Kind::LabelNode, Kind::Dot]),
+    (Format::NQuads, b"<a:s> <a:p> \"x\" \"g\" .", 16, Kind::ShortString,
+        &[Kind::IriRef, Kind::LabelNode, Kind::LangTag, Kind::Carets, Kind::Dot]),
+    (Format::NQuads, b"<a:s> <a:p> <a:o> <a:g> <a:g>", 24, Kind::IriRef, &[Kind::Dot]),
+    (Format::NTriples, b"<a:s> <a:p> \"x\"^^_:t .", 17, Kind::LabelNode, &[Kind::IriRef]),
+    (Format::NTriples, b"<a:s> _:p <a:o> .", 6, Kind::LabelNode, &[Kind::IriRef]),
+    (Format::NTriples, b"<a:s> <a:p> . ", 12, Kind::Dot, &[Kind::IriRef, Kind::LabelNode, Kind::ShortString]),
+    (Format::NTriples, b"<a:s> <a:p> <a:o> . <a:s>", 20, Kind::IriRef, &[Kind::LineEnd, Kind::End]),
+    (Format::NTriples, b"\"s\"", 0, Kind::ShortString, &[Kind::IriRef, Kind::LabelNode, Kind::LineEnd, Kind::End]),
+    (Format::Turtle, b"<a:s> <a:p> [ <a:q> 1 .", 22, Kind::Dot, &[Kind::Semicolon, Kind::Comma, Kind::CloseBracket]),
+    (Format::Turtle, b"<a:s> <a:p> <a:o> }", 18, Kind::CloseBrace, &[Kind::Dot, Kind::Semicolon, Kind::Comma]),
+    (Format::Turtle, b"<a:s> \"p\" 1 .", 6, Kind::ShortString, &[Kind::IriRef, Kind::A, Kind::PnameNs, Kind::PnameLn]),
+    (Format::TriG, b"<a:s> \"p\" 1 .", 6, Kind::ShortString,
+        &[Kind::IriRef, Kind::A, Kind::PnameNs, Kind::PnameLn, Kind::OpenBrace]),
+    (Format::TriG, b"GRAPH [ <a:s>", 8, Kind::IriRef, &[Kind::CloseBracket]),
+    (Format::TriG, b"<a:g> { <a:s> <a:p> \"x\" ]", 24, Kind::CloseBracket,
+        &[Kind::LangTag, Kind::Carets, Kind::Dot, Kind::AtPrefix, Kind::AtBase, Kind::Semicolon, Kind::Comma,
+          Kind::CloseBrace]),
+    (Format::TriG, b"<a:s> <a:p> ( 1 . ", 16, Kind::Dot,
+        &[Kind::IriRef, Kind::LabelNode, Kind::ShortString, Kind::LongString, Kind::Integer, Kind::Decimal,
+          Kind::Double, Kind::True, Kind::False, Kind::PnameNs, Kind::PnameLn, Kind::OpenBracket, Kind::OpenParen,
+          Kind::CloseParen]),
+    (Format::Turtle, b"@prefix <a:b> .", 8, Kind::IriRef, &[Kind::PnameNs]),
+    (Format::Turtle, b"[ <a:p> 1 ] , ", 12, Kind::Comma,
+        &[Kind::IriRef, Kind::Dot, Kind::A, Kind::PnameNs, Kind::PnameLn]),
+    (Format::Turtle, b"<a:s> <a:p> 1", 13, Kind::End, &[Kind::Dot, Kind::Semicolon, Kind::Comma]),
 ];
 
 /// Whether the kinds are named wherever the bytes begin to come one by one.
 fn is_named_always(alloc: Global, row: &Row) -> bool {
-    for cut in 0..=row.bytes.len() {
-        if !is_named_cut(alloc, row, cut) {
-            return false;
+    let (format, bytes, ..) = *row;
+    for cut in 0..=bytes.len() {
+        match read_cut(alloc, form_of(format), bytes, cut) {
+            Some(report) if is_named(row, &report) => {}
+            _ => return false,
         }
     }
     true
@@ -255,17 +109,12 @@ fn is_named_always(alloc: Global, row: &Row) -> bool {
 #[test]
 fn kinds_that_could_stand_there_are_named(rt: HostRuntime) {
     for row in ROWS.as_slice() {
-        assert!(rt; is_named_always(rt.alloc(), row), "{}", row.offset);
-    }
-}
-
-/// The format of a run over documents of this form.
-fn format_of(form: Form) -> Format {
-    match form {
-        Form::Lines(LineForm::NTriples) => Format::NTriples,
-        Form::Lines(LineForm::NQuads) => Format::NQuads,
-        Form::Statements(DocForm::Turtle) => Format::Turtle,
-        Form::Statements(DocForm::TriG) => Format::TriG,
+        let (_, bytes, ..) = row;
+        assert!(rt;
+            is_named_always(rt.alloc(), row),
+            "{}",
+            bytes.escape_ascii()
+        );
     }
 }
 
@@ -322,17 +171,11 @@ fn hands_out(
 
 #[test]
 fn a_run_hands_out_the_kinds_that_could_stand_there(rt: HostRuntime) {
-    for row in ROWS.as_slice() {
+    for (format, bytes, _, found, kinds) in ROWS.as_slice() {
         assert!(rt;
-            hands_out(
-                rt.alloc(),
-                format_of(row.form),
-                row.bytes,
-                row.kinds,
-                Some(row.found)
-            ),
+            hands_out(rt.alloc(), *format, bytes, kinds, Some(*found)),
             "{}",
-            row.offset
+            bytes.escape_ascii()
         );
     }
 }
@@ -345,44 +188,24 @@ fn a_run_hands_out_no_kind_where_no_token_is_unexpected(rt: HostRuntime) {
     for bytes in OTHERS.as_slice() {
         assert!(rt;
             hands_out(rt.alloc(), Format::Turtle, bytes, &[], None),
-            "{bytes:?}"
+            "{}",
+            bytes.escape_ascii()
         );
     }
 }
 
-/// A document, and the line that explains its refusal.
-struct Explained {
-    format: Format,
-    bytes: &'static [u8],
-    line: &'static str,
-}
-
-static EXPLAINED: [Explained; 5] = [
-    Explained {
-        format: Format::NTriples,
-        bytes: b"<a:s> <a:p> \"x\" <a:g> .",
-        line: "a:1: unexpected token: IRI; expected language tag, \"^^\" or \".\"\n",
-    },
-    Explained {
-        format: Format::NQuads,
-        bytes: b"\n\n<a:s> <a:p> <a:o> <a:g> <a:g>",
-        line: "a:3: unexpected token: IRI; expected \".\"\n",
-    },
-    Explained {
-        format: Format::NTriples,
-        bytes: b"\"s\"",
-        line: "a:1: unexpected token: string; expected IRI, blank node label, line end or end of document\n",
-    },
-    Explained {
-        format: Format::Turtle,
-        bytes: b"@prefix <a:b> .",
-        line: "a:1: unexpected token: IRI; expected prefix\n",
-    },
-    Explained {
-        format: Format::TriG,
-        bytes: b"<a:s> <a:p> ( 1 . ",
-        line: "a:1: unexpected token: \".\"; expected IRI, blank node label, string, number, \"true\", \"false\", prefixed name, \"[\", \"(\" or \")\"\n",
-    },
+/// Documents, and the lines that explain their refusals where their name is `a`.
+#[rattlefmt::skip]
+static EXPLAINED: [(Format, &[u8], &str); 5] = [
+    (Format::NTriples, b"<a:s> <a:p> \"x\" <a:g> .",
+        "a:1: unexpected token: IRI; expected language tag, \"^^\" or \".\"\n"),
+    (Format::NQuads, b"\n\n<a:s> <a:p> <a:o> <a:g> <a:g>", "a:3: unexpected token: IRI; expected \".\"\n"),
+    (Format::NTriples, b"\"s\"",
+        "a:1: unexpected token: string; expected IRI, blank node label, line end or end of document\n"),
+    (Format::Turtle, b"@prefix <a:b> .", "a:1: unexpected token: IRI; expected prefix\n"),
+    (Format::TriG, b"<a:s> <a:p> ( 1 . ", "\
+        a:1: unexpected token: \".\"; expected IRI, blank node label, string, number, \"true\", \"false\", prefixed \
+        name, \"[\", \"(\" or \")\"\n"),
 ];
 
 /// Whether a refusal of the document named `a` is explained by this line.
@@ -413,11 +236,7 @@ fn is_explained(alloc: Global, format: Format, bytes: &[u8], line: &str) -> bool
 
 #[test]
 fn a_refusal_is_explained_in_a_line(rt: HostRuntime) {
-    for row in EXPLAINED.as_slice() {
-        assert!(rt;
-            is_explained(rt.alloc(), row.format, row.bytes, row.line),
-            "{}",
-            row.line
-        );
+    for (format, bytes, line) in EXPLAINED.as_slice() {
+        assert!(rt; is_explained(rt.alloc(), *format, bytes, line), "{line}");
     }
 }

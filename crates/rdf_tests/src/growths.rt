@@ -10,10 +10,7 @@ use std::alloc::{Allocator, Global};
 
 /// Reads so many lines of a form, a line a call, and says whether all were read.
 fn is_read<A: Allocator + Copy>(alloc: A, form: Form, line: &[u8], lines: u32) -> bool {
-    let pieces = [Piece {
-        bytes: line,
-        times: lines,
-    }];
+    let pieces = [Piece(line, lines)];
     let document = Document {
         pieces: pieces.as_slice(),
         rest: b"",
@@ -45,15 +42,12 @@ fn takes_no_more(alloc: Global, form: Form, line: &[u8]) -> bool {
         && growths(alloc, form, line, 256) == few
 }
 
+#[rattlefmt::skip]
 static ALIKE: [(Form, &[u8]); 2] = [
-    (
-        Form::Lines(LineForm::NQuads),
-        b"_:s <http://a/p> \"a\\u0062 c\"@en <http://a/g> .\n",
-    ),
-    (
-        Form::Statements(DocForm::TriG),
-        b"_:s <http://a/p> [ a 1 ; <http://a/p> \"a\"@en , \"1\"^^<http://a/t> , 1.5 , true ] , ( 1 _:o ) , \"\"\"x\"\"\" .\n",
-    ),
+    (Form::Lines(LineForm::NQuads), b"_:s <http://a/p> \"a\\u0062 c\"@en <http://a/g> .\n"),
+    (Form::Statements(DocForm::TriG), b"\
+        _:s <http://a/p> [ a 1 ; <http://a/p> \"a\"@en , \"1\"^^<http://a/t> , 1.5 , true ] , ( 1 _:o ) , \
+        \"\"\"x\"\"\" .\n"),
 ];
 
 #[test]

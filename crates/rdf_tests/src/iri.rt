@@ -2,9 +2,7 @@
 
 ghost use Rattle.std.specs.Prelude.{IfSome, ◌≡◌, ◌≤◌};
 
-use rdf_iri::{
-    BindingReason, IriFault, Limits, Parts, Scope, has_scheme, read_bindings, resolve, split,
-};
+use rdf_iri::{BindingReason, IriFault, Limits, Scope, has_scheme, read_bindings, resolve, split};
 use rdf_terms::{Iri, iri_text};
 use std::alloc::Global;
 
@@ -113,59 +111,40 @@ fn references_against_bases(rt: HostRuntime) {
     assert_eq!(rt; unresolved(rt.alloc()), None);
 }
 
-/// References and their parts.
-static SPLIT: [(&str, Parts); 3] = [
-    (
-        "a+1://b:c@d/e:f?g?h#i?j",
-        Parts {
-            scheme: Some("a+1"),
-            authority: Some("b:c@d"),
-            path: "/e:f",
-            query: Some("g?h"),
-            fragment: Some("i?j"),
-        },
-    ),
-    (
-        "1a:b",
-        Parts {
-            scheme: None,
-            authority: None,
-            path: "1a:b",
-            query: None,
-            fragment: None,
-        },
-    ),
-    (
-        "//?#",
-        Parts {
-            scheme: None,
-            authority: Some(""),
-            path: "",
-            query: Some(""),
-            fragment: Some(""),
-        },
-    ),
+/// A reference and its parts: the scheme, the authority, the path, the query and the fragment.
+type Split = (&'static str, Part, Part, &'static str, Part, Part);
+
+/// A part, if there is one.
+type Part = Option<&'static str>;
+
+#[rattlefmt::skip]
+static SPLIT: [Split; 3] = [
+    ("a+1://b:c@d/e:f?g?h#i?j", Some("a+1"), Some("b:c@d"), "/e:f", Some("g?h"), Some("i?j")),
+    ("1a:b", None, None, "1a:b", None, None),
+    ("//?#", None, Some(""), "", Some(""), Some("")),
 ];
 
-fn has_parts(reference: &str, wanted: &Parts<'_>) -> bool {
+fn has_parts(row: &Split) -> bool {
+    let (reference, scheme, authority, path, query, fragment) = *row;
     let parts = split(reference);
-    parts.scheme == wanted.scheme
-        && parts.authority == wanted.authority
-        && parts.path == wanted.path
-        && parts.query == wanted.query
-        && parts.fragment == wanted.fragment
-        && has_scheme(reference) == wanted.scheme.is_some()
+    parts.scheme == scheme
+        && parts.authority == authority
+        && parts.path == path
+        && parts.query == query
+        && parts.fragment == fragment
+        && has_scheme(reference) == scheme.is_some()
 }
 
 #[test]
 fn the_parts_of_a_reference(rt: HostRuntime) {
-    for (reference, parts) in SPLIT.as_slice() {
-        assert!(rt; has_parts(reference, parts), "{reference}");
+    for row in SPLIT.as_slice() {
+        let (reference, ..) = row;
+        assert!(rt; has_parts(row), "{reference}");
     }
 }
 
 /// A call on a scope.
-#[derive(Clone, Copy)]
+#[derive(Clone, Copy, Debug)]
 enum Call {
     /// Takes a new scope in its place, with no base, the bindings of a file, and limits on bindings and IRIs.
     Start(&'static [u8], u64, u64),
@@ -254,6 +233,7 @@ fn answers(alloc: Global, scope: &mut Scope, call: Call, wanted: Answer) -> bool
 
 /// One binding alone; refusals, which change nothing; a base that grows by paths, and references that cannot be
 /// written after it; and bindings at the start, of which the last of a prefix counts.
+#[rattlefmt::skip]
 static CALLS: [(Call, Answer); 52] = [
     (Call::Start(b"", 1, 100), Ok("")),
     (Call::SetBase(BASE), Ok("")),
@@ -302,25 +282,22 @@ static CALLS: [(Call, Answer); 52] = [
     (Call::SetBase("m:./"), Ok("")),
     (Call::SetBase("n/"), Ok("")),
     (Call::Resolve(""), Ok("m:n/")),
-    (
-        Call::Start(b"x: http://x/\r\n: http://e/\r\nx: http://y/", 2, 100),
-        Ok(""),
-    ),
+    (Call::Start(b"x: http://x/\r\n: http://e/\r\nx: http://y/", 2, 100), Ok("")),
     (Call::Expand("x", "s"), Ok("http://y/s")),
     (Call::Expand("", "p"), Ok("http://e/p")),
     (Call::Bind("x", "http://z/"), Ok("")),
     (Call::Expand("x", "s"), Ok("http://z/s")),
 ];
 
-/// The first of the calls that is answered otherwise, if there is one.
-fn misanswered(alloc: Global, calls: &[(Call, Answer)]) -> Option<usize> {
+/// The first of the calls that is answered otherwise, if there is one, and how many stand before it.
+fn misanswered(alloc: Global, calls: &[(Call, Answer)]) -> Option<(usize, Call)> {
     let Some(mut scope) = start(alloc, b"", 0, 1) else {
-        return Some(0);
+        return Some((0, Call::Start(b"", 0, 1)));
     };
     for i in 0..calls.len() {
         let (call, wanted) = calls[i];
         if !answers(alloc, &mut scope, call, wanted) {
-            return Some(i);
+            return Some((i, call));
         }
     }
     None
@@ -328,12 +305,14 @@ fn misanswered(alloc: Global, calls: &[(Call, Answer)]) -> Option<usize> {
 
 #[test]
 fn a_scope_answers_each_call(rt: HostRuntime) {
-    assert_eq!(rt; misanswered(rt.alloc(), CALLS.as_slice()), None);
+    let misanswered = misanswered(rt.alloc(), CALLS.as_slice());
+    assert!(rt; misanswered.is_none(), "{misanswered:?}");
 }
 
 /// Limits on tokens, bindings and IRIs, a file, and why it has no bindings, and at which line, if it has none.
 type File = (u64, u64, u64, &'static [u8], Option<(BindingReason, u64)>);
 
+#[rattlefmt::skip]
 static FILES: [File; 42] = [
     (9, 9, 99, b"", None),
     (9, 9, 99, b"\n\r\n", None),
@@ -344,195 +323,40 @@ static FILES: [File; 42] = [
     (9, 1, 99, b"x: http://x/\n\nx: http://y/", None),
     (2, 1, 9, b"x: http://x/", None),
     (9, 0, 99, b"\n", None),
-    (
-        9,
-        9,
-        99,
-        b"x http://x/",
-        Some((BindingReason::BadBinding, 1)),
-    ),
-    (
-        9,
-        9,
-        99,
-        b"x: <http://x/>",
-        Some((BindingReason::BadBinding, 1)),
-    ),
-    (
-        9,
-        9,
-        99,
-        b"x.: http://x/",
-        Some((BindingReason::BadBinding, 1)),
-    ),
+    (9, 9, 99, b"x http://x/", Some((BindingReason::BadBinding, 1))),
+    (9, 9, 99, b"x: <http://x/>", Some((BindingReason::BadBinding, 1))),
+    (9, 9, 99, b"x.: http://x/", Some((BindingReason::BadBinding, 1))),
     (9, 9, 99, b"\nx: s", Some((BindingReason::BadBinding, 2))),
-    (
-        9,
-        9,
-        99,
-        b"x: http://x/\r\r\n",
-        Some((BindingReason::BadBinding, 1)),
-    ),
-    (
-        9,
-        9,
-        99,
-        b"x:  http://x/",
-        Some((BindingReason::BadBinding, 1)),
-    ),
-    (
-        9,
-        3,
-        99,
-        b" \t\n#\n\t # \xC3\xA9: x\r\n@prefix a:<s:>.\n PREFIX\tb: <s:>#\nprefix : \t<s:> # .\nc: s:#",
-        Some((BindingReason::TooManyBindings, 7)),
-    ),
-    (
-        9,
-        1,
-        99,
-        b"\t@prefix\t x: <s:a> . # a\npReFiX x: <s:b>\nx: s:c",
-        None,
-    ),
+    (9, 9, 99, b"x: http://x/\r\r\n", Some((BindingReason::BadBinding, 1))),
+    (9, 9, 99, b"x:  http://x/", Some((BindingReason::BadBinding, 1))),
+    (9, 3, 99, b" \t\n#\n\t # \xC3\xA9: x\r\n@prefix a:<s:>.\n PREFIX\tb: <s:>#\nprefix : \t<s:> # .\nc: s:#",
+        Some((BindingReason::TooManyBindings, 7))),
+    (9, 1, 99, b"\t@prefix\t x: <s:a> . # a\npReFiX x: <s:b>\nx: s:c", None),
     (9, 2, 99, b"PREFIX: s:\nprefix: s:", None),
     (9, 9, 99, b" #\xFF", Some((BindingReason::BadBinding, 1))),
     (9, 9, 99, b"#\r#", Some((BindingReason::BadBinding, 1))),
     (9, 9, 99, b"x: s: #", Some((BindingReason::BadBinding, 1))),
     (9, 9, 99, b" x: s:", Some((BindingReason::BadBinding, 1))),
-    (
-        9,
-        9,
-        99,
-        b"@prefix x: <s:>",
-        Some((BindingReason::BadBinding, 1)),
-    ),
-    (
-        9,
-        9,
-        99,
-        b"PREFIX x: <s:> .",
-        Some((BindingReason::BadBinding, 1)),
-    ),
-    (
-        9,
-        9,
-        99,
-        b"@PREFIX x: <s:> .",
-        Some((BindingReason::BadBinding, 1)),
-    ),
-    (
-        9,
-        9,
-        99,
-        b"@prefix: <s:> .",
-        Some((BindingReason::BadBinding, 1)),
-    ),
-    (
-        9,
-        9,
-        99,
-        b"PREFIXx: <s:>",
-        Some((BindingReason::BadBinding, 1)),
-    ),
-    (
-        9,
-        9,
-        99,
-        b"@prefix x: <s> .",
-        Some((BindingReason::BadBinding, 1)),
-    ),
-    (
-        9,
-        9,
-        99,
-        b"@prefix x: <s:\\u0061> .",
-        Some((BindingReason::BadBinding, 1)),
-    ),
-    (
-        9,
-        9,
-        99,
-        b"@prefix x: s: .",
-        Some((BindingReason::BadBinding, 1)),
-    ),
-    (
-        9,
-        9,
-        99,
-        b"@prefix x: <s:> . PREFIX y: <s:>",
-        Some((BindingReason::BadBinding, 1)),
-    ),
-    (
-        9,
-        9,
-        99,
-        b"@prefix x\xC3\x97: <s:> .",
-        Some((BindingReason::BadBinding, 1)),
-    ),
+    (9, 9, 99, b"@prefix x: <s:>", Some((BindingReason::BadBinding, 1))),
+    (9, 9, 99, b"PREFIX x: <s:> .", Some((BindingReason::BadBinding, 1))),
+    (9, 9, 99, b"@PREFIX x: <s:> .", Some((BindingReason::BadBinding, 1))),
+    (9, 9, 99, b"@prefix: <s:> .", Some((BindingReason::BadBinding, 1))),
+    (9, 9, 99, b"PREFIXx: <s:>", Some((BindingReason::BadBinding, 1))),
+    (9, 9, 99, b"@prefix x: <s> .", Some((BindingReason::BadBinding, 1))),
+    (9, 9, 99, b"@prefix x: <s:\\u0061> .", Some((BindingReason::BadBinding, 1))),
+    (9, 9, 99, b"@prefix x: s: .", Some((BindingReason::BadBinding, 1))),
+    (9, 9, 99, b"@prefix x: <s:> . PREFIX y: <s:>", Some((BindingReason::BadBinding, 1))),
+    (9, 9, 99, b"@prefix x\xC3\x97: <s:> .", Some((BindingReason::BadBinding, 1))),
     (9, 9, 99, b"PREFIX\n", Some((BindingReason::BadBinding, 1))),
-    (
-        2,
-        9,
-        99,
-        b"@prefix ab: <s:> .",
-        Some((BindingReason::TokenTooLong, 1)),
-    ),
-    (
-        2,
-        9,
-        1,
-        b"PREFIX a: <s:>",
-        Some((BindingReason::IriTooLong, 1)),
-    ),
-    (
-        9,
-        9,
-        99,
-        b"\n\nx: http://\xFF/",
-        Some((BindingReason::BadBinding, 3)),
-    ),
-    (
-        9,
-        9,
-        99,
-        b"\xEF\xBB\xBF\xEF\xBB\xBF\n",
-        Some((BindingReason::BadBinding, 1)),
-    ),
-    (
-        9,
-        9,
-        8,
-        b"x: http://x/",
-        Some((BindingReason::IriTooLong, 1)),
-    ),
-    (
-        2,
-        9,
-        99,
-        b"ab: http://a/",
-        Some((BindingReason::TokenTooLong, 1)),
-    ),
-    (
-        9,
-        1,
-        99,
-        b"a: http://a/\nb: http://b/",
-        Some((BindingReason::TooManyBindings, 2)),
-    ),
-    (
-        9,
-        1,
-        8,
-        b"a: s:\nb: http://b/",
-        Some((BindingReason::IriTooLong, 2)),
-    ),
-    (
-        1,
-        1,
-        8,
-        b"\nab: http://a/\nx",
-        Some((BindingReason::TokenTooLong, 2)),
-    ),
+    (2, 9, 99, b"@prefix ab: <s:> .", Some((BindingReason::TokenTooLong, 1))),
+    (2, 9, 1, b"PREFIX a: <s:>", Some((BindingReason::IriTooLong, 1))),
+    (9, 9, 99, b"\n\nx: http://\xFF/", Some((BindingReason::BadBinding, 3))),
+    (9, 9, 99, b"\xEF\xBB\xBF\xEF\xBB\xBF\n", Some((BindingReason::BadBinding, 1))),
+    (9, 9, 8, b"x: http://x/", Some((BindingReason::IriTooLong, 1))),
+    (2, 9, 99, b"ab: http://a/", Some((BindingReason::TokenTooLong, 1))),
+    (9, 1, 99, b"a: http://a/\nb: http://b/", Some((BindingReason::TooManyBindings, 2))),
+    (9, 1, 8, b"a: s:\nb: http://b/", Some((BindingReason::IriTooLong, 2))),
+    (1, 1, 8, b"\nab: http://a/\nx", Some((BindingReason::TokenTooLong, 2))),
 ];
 
 /// Whether the file has bindings under these limits, or none for the reason that is wanted.
@@ -550,6 +374,7 @@ fn is_read(alloc: Global, file: &File) -> bool {
 #[test]
 fn files_of_bindings(rt: HostRuntime) {
     for file in FILES.as_slice() {
-        assert!(rt; is_read(rt.alloc(), file));
+        let (_, _, _, bytes, _) = file;
+        assert!(rt; is_read(rt.alloc(), file), "{}", bytes.escape_ascii());
     }
 }

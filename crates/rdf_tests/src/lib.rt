@@ -4,14 +4,16 @@
 //! Most modules test one crate: `terms`, `iri`, `tokens`, `lines` and `writer` (both of rdf_lines), `trig`, `stream`
 //! and `command`. `expected` tests which kinds of tokens all readers name after an unexpected one, `near` what a run
 //! tells of the place of a refusal, and `causes` the likely causes. Three test all readers where memory is refused or a
-//! sink fails: `memory`, `growths` and `puts`. `reading` and `sinks` have no tests: they read a document in pieces, and
-//! keep the quads that come.
+//! sink fails: `memory`, `growths` and `puts`. `reading`, `sinks` and `documents` have no tests: they read a document
+//! in pieces, keep the quads that come, and hold the documents that `trig` and `stream` read.
 #![tactic(auto)]
 
 #[cfg(test)]
 mod causes;
 #[cfg(test)]
 mod command;
+#[cfg(test)]
+mod documents;
 #[cfg(test)]
 mod expected;
 #[cfg(test)]

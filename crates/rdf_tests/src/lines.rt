@@ -9,15 +9,11 @@ use rdf_lines::LineForm;
 use rdf_terms::Reason;
 use std::alloc::Global;
 
-/// A document, the lines of its quads, and the numbers of its quads, tokens and bytes, or why it is refused, at which
-/// byte and line.
-#[derive(Clone, Copy)]
-struct Row {
-    form: LineForm,
-    bytes: &'static [u8],
-    lines: &'static str,
-    answer: Result<(u64, u64, u64), (Reason, u64, u64)>,
-}
+/// How many quads, tokens and bytes a document has, or why it is refused, at which byte and line.
+type Answer = Result<(u64, u64, u64), (Reason, u64, u64)>;
+
+/// A document: its format and its bytes, the lines of its quads, and the answer.
+type Row = (LineForm, &'static [u8], &'static str, Answer);
 
 /// Reads a document whose first bytes come in one piece, and the others one by one, with tokens of 18 characters
 /// and IRIs of 14 bytes.
@@ -30,10 +26,7 @@ fn read_cut(
 ) -> Option<Report>
     requires { sink.old.failed ≡ false }
 {
-    let pieces = [Piece {
-        bytes: first,
-        times: 1,
-    }];
+    let pieces = [Piece(first, 1)];
     let document = Document {
         pieces: pieces.as_slice(),
         rest,
@@ -43,31 +36,37 @@ fn read_cut(
 }
 
 /// Whether this was to be answered for a document.
-fn is_answered(row: &Row, report: &Report) -> bool {
+fn is_answered(answer: Answer, report: &Report) -> bool {
     report.has_ended
         && match report.answer {
-            Ok(summary) => row.answer == Ok((summary.quads, summary.tokens, summary.bytes)),
-            Err(fault) => row.answer == Err((fault.reason, fault.offset, fault.line)),
+            Ok(summary) => answer == Ok((summary.quads, summary.tokens, summary.bytes)),
+            Err(fault) => answer == Err((fault.reason, fault.offset, fault.line)),
         }
 }
 
-fn is_read_cut(alloc: Global, row: &Row, cut: usize) -> bool
-    requires { cut ≤ length row.now.bytes.now }
+fn is_read_cut(
+    alloc: Global,
+    form: LineForm,
+    bytes: &[u8],
+    cut: usize,
+    lines: &str,
+    answer: Answer,
+) -> bool
+    requires { cut ≤ length bytes.now }
 {
     let mut sink = recording_sink(alloc, 64);
-    let (first, rest) = row.bytes.split_at(cut);
-    match read_cut(alloc, row.form, first, rest, &mut sink) {
-        Some(report) => {
-            is_answered(row, &report) && sink.lines.as_slice() == row.lines.as_bytes()
-        }
+    let (first, rest) = bytes.split_at(cut);
+    match read_cut(alloc, form, first, rest, &mut sink) {
+        Some(report) => is_answered(answer, &report) && sink.lines.as_slice() == lines.as_bytes(),
         None => false,
     }
 }
 
 /// Whether a document puts its lines and reports what it is to, wherever the bytes begin to come one by one.
 fn is_read(alloc: Global, row: &Row) -> bool {
-    for cut in 0..=row.bytes.len() {
-        if !is_read_cut(alloc, row, cut) {
+    let (form, bytes, lines, answer) = *row;
+    for cut in 0..=bytes.len() {
+        if !is_read_cut(alloc, form, bytes, cut, lines, answer) {
             return false;
         }
     }
@@ -76,103 +75,33 @@ fn is_read(alloc: Global, row: &Row) -> bool {
 
 const LINE: &str = "<a:s> <a:p> <a:o> .\n";
 
+#[rattlefmt::skip]
 static ROWS: [Row; 15] = [
-    Row {
-        form: LineForm::NQuads,
-        bytes: b"",
-        lines: "",
-        answer: Ok((0, 0, 0)),
-    },
-    Row {
-        form: LineForm::NQuads,
-        bytes: b"\xEF\xBB\xBF_:x.y <a:p> \"\\u0041\"@en <a:g>. # c\r\n\n<a:s> <a:p> \"\"^^<a:t> .",
-        lines: "_:nx.y <a:p> \"A\"@en <a:g> .\n<a:s> <a:p> \"\"^^<a:t> .\n",
-        answer: Ok((2, 15, 63)),
-    },
-    Row {
-        form: LineForm::NQuads,
-        bytes: b"<a:s> <a:p> <a:o>.\n<a:s> <a:p> <a:o>.",
-        lines: "<a:s> <a:p> <a:o> .\n<a:s> <a:p> <a:o> .\n",
-        answer: Ok((2, 9, 37)),
-    },
-    Row {
-        form: LineForm::NQuads,
-        bytes: b"<a:s> <a:p> <a:o> . <a:s> <a:p> <a:o> .",
-        lines: LINE,
-        answer: Err((Reason::Unexpected, 20, 1)),
-    },
-    Row {
-        form: LineForm::NQuads,
-        bytes: b"<a:s> <a:p> <a:o> .\n<s> <a:p> <a:o> .",
-        lines: LINE,
-        answer: Err((Reason::RelativeIri, 20, 2)),
-    },
-    Row {
-        form: LineForm::NQuads,
-        bytes: b"\n<a:s> <a:p>\n",
-        lines: "",
-        answer: Err((Reason::Unexpected, 12, 2)),
-    },
-    Row {
-        form: LineForm::NQuads,
-        bytes: b"\xEF\xBB\xBF<a:s> <a:p> <a:o>",
-        lines: "",
-        answer: Err((Reason::Unexpected, 20, 1)),
-    },
-    Row {
-        form: LineForm::NQuads,
-        bytes: b"<a:s> <a:p> \"\"\"\" .",
-        lines: "",
-        answer: Err((Reason::Unexpected, 14, 1)),
-    },
-    Row {
-        form: LineForm::NQuads,
-        bytes: b"<a:s> <a:p> \"\\uD800\" .",
-        lines: "",
-        answer: Err((Reason::BadEscape, 12, 1)),
-    },
-    Row {
-        form: LineForm::NQuads,
-        bytes: b"<a:s> <a:p> 1 .",
-        lines: "",
-        answer: Err((Reason::NoToken, 12, 1)),
-    },
-    Row {
-        form: LineForm::NQuads,
-        bytes: b"<a:s> <a:0123456789abcdef> .",
-        lines: "",
-        answer: Err((Reason::TokenTooLong, 6, 1)),
-    },
-    Row {
-        form: LineForm::NQuads,
-        bytes: b"<a:s> <a:\\u004123456789> <a:0123456789ab> .\n<a:0123456789a\xC3\xA9> <a:p> <a:o> .",
-        lines: "<a:s> <a:A23456789> <a:0123456789ab> .\n",
-        answer: Err((Reason::IriTooLong, 44, 2)),
-    },
-    Row {
-        form: LineForm::NQuads,
-        bytes: b"<0123456789abcde> <a:p> <a:o> .",
-        lines: "",
-        answer: Err((Reason::RelativeIri, 0, 1)),
-    },
-    Row {
-        form: LineForm::NTriples,
-        bytes: b"<a:s> <a:p> <a:o> <a:g> .",
-        lines: "",
-        answer: Err((Reason::Unexpected, 18, 1)),
-    },
-    Row {
-        form: LineForm::NTriples,
-        bytes: b"<a:s> <a:p> <a:o> .\n\xFF",
-        lines: LINE,
-        answer: Err((Reason::BadUtf8, 20, 2)),
-    },
+    (LineForm::NQuads, b"", "", Ok((0, 0, 0))),
+    (LineForm::NQuads, b"\xEF\xBB\xBF_:x.y <a:p> \"\\u0041\"@en <a:g>. # c\r\n\n<a:s> <a:p> \"\"^^<a:t> .",
+        "_:nx.y <a:p> \"A\"@en <a:g> .\n<a:s> <a:p> \"\"^^<a:t> .\n", Ok((2, 15, 63))),
+    (LineForm::NQuads, b"<a:s> <a:p> <a:o>.\n<a:s> <a:p> <a:o>.", "<a:s> <a:p> <a:o> .\n<a:s> <a:p> <a:o> .\n",
+        Ok((2, 9, 37))),
+    (LineForm::NQuads, b"<a:s> <a:p> <a:o> . <a:s> <a:p> <a:o> .", LINE, Err((Reason::Unexpected, 20, 1))),
+    (LineForm::NQuads, b"<a:s> <a:p> <a:o> .\n<s> <a:p> <a:o> .", LINE, Err((Reason::RelativeIri, 20, 2))),
+    (LineForm::NQuads, b"\n<a:s> <a:p>\n", "", Err((Reason::Unexpected, 12, 2))),
+    (LineForm::NQuads, b"\xEF\xBB\xBF<a:s> <a:p> <a:o>", "", Err((Reason::Unexpected, 20, 1))),
+    (LineForm::NQuads, b"<a:s> <a:p> \"\"\"\" .", "", Err((Reason::Unexpected, 14, 1))),
+    (LineForm::NQuads, b"<a:s> <a:p> \"\\uD800\" .", "", Err((Reason::BadEscape, 12, 1))),
+    (LineForm::NQuads, b"<a:s> <a:p> 1 .", "", Err((Reason::NoToken, 12, 1))),
+    (LineForm::NQuads, b"<a:s> <a:0123456789abcdef> .", "", Err((Reason::TokenTooLong, 6, 1))),
+    (LineForm::NQuads, b"<a:s> <a:\\u004123456789> <a:0123456789ab> .\n<a:0123456789a\xC3\xA9> <a:p> <a:o> .",
+        "<a:s> <a:A23456789> <a:0123456789ab> .\n", Err((Reason::IriTooLong, 44, 2))),
+    (LineForm::NQuads, b"<0123456789abcde> <a:p> <a:o> .", "", Err((Reason::RelativeIri, 0, 1))),
+    (LineForm::NTriples, b"<a:s> <a:p> <a:o> <a:g> .", "", Err((Reason::Unexpected, 18, 1))),
+    (LineForm::NTriples, b"<a:s> <a:p> <a:o> .\n\xFF", LINE, Err((Reason::BadUtf8, 20, 2))),
 ];
 
 #[test]
 fn a_document_is_read_the_same_however_it_is_cut(rt: HostRuntime) {
     for row in ROWS.as_slice() {
-        assert!(rt; is_read(rt.alloc(), row), "{}", row.lines);
+        let (_, bytes, ..) = row;
+        assert!(rt; is_read(rt.alloc(), row), "{}", bytes.escape_ascii());
     }
 }
 

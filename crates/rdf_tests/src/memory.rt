@@ -97,12 +97,10 @@ enum Inside {
     Local,
 }
 
+#[rattlefmt::skip]
 static INSIDES: [(Inside, &str); 6] = [
     (Inside::String, "a value"),
-    (
-        Inside::String,
-        "\\t\\b\\n\\r\\f\\\"\\'\\\\\\u00e9\\U0001F600 and so on",
-    ),
+    (Inside::String, "\\t\\b\\n\\r\\f\\\"\\'\\\\\\u00e9\\U0001F600 and so on"),
     (Inside::Iri, "http://a/s"),
     (Inside::Iri, "http://a/\\u0073\\U00000074"),
     (Inside::Local, "b%20c"),

@@ -8,99 +8,31 @@ use rdf_stream::{
 use rdf_terms::Kind;
 use std::alloc::Global;
 
-/// A refused document, and what is told of the place.
-struct Row {
-    form: Form,
-    bytes: &'static [u8],
-    offset: u64,
-    column: u64,
-    before: &'static [u8],
-    after: &'static [u8],
-    sight: Sight,
-}
+/// A refused document, and what is told of the place: the format and the bytes; the offset of the place, and its
+/// column; what its line has before it, and from there on; and what stands there.
+type Row = (
+    Form,
+    &'static [u8],
+    u64,
+    u64,
+    &'static [u8],
+    &'static [u8],
+    Sight,
+);
 
+#[rattlefmt::skip]
 static ROWS: [Row; 9] = [
-    Row {
-        form: Form::NTriples,
-        bytes: b"<a:s> <a:p> <a:o> .\n<a:s> <a:p> <a:o b> .\n",
-        offset: 32,
-        column: 13,
-        before: b"<a:s> <a:p> ",
-        after: b"<a:o b> .",
-        sight: Sight::Stop(4),
-    },
-    Row {
-        form: Form::Turtle,
-        bytes: b"<a:s>\n\t<a:p> [ <a:q> \"\xc3\xa9t\xc3\xa9\" .",
-        offset: 29,
-        column: 22,
-        before: b"\t<a:p> [ <a:q> \"\xc3\xa9t\xc3\xa9\" ",
-        after: b".",
-        sight: Sight::Token(Kind::Dot, 1),
-    },
-    Row {
-        form: Form::Turtle,
-        bytes: b"\n\n<a:s> <a:p> \"\"\"never\nclosed",
-        offset: 14,
-        column: 13,
-        before: b"<a:s> <a:p> ",
-        after: b"\"\"\"never",
-        sight: Sight::Stop(15),
-    },
-    Row {
-        form: Form::TriG,
-        bytes: b"<a:s> <a:p> ex:o .",
-        offset: 12,
-        column: 13,
-        before: b"<a:s> <a:p> ",
-        after: b"ex:o .",
-        sight: Sight::Token(Kind::PnameLn, 4),
-    },
-    Row {
-        form: Form::NQuads,
-        bytes: b"<a:s> <a:p> \"x\"@en_US .",
-        offset: 18,
-        column: 19,
-        before: b"<a:s> <a:p> \"x\"@en",
-        after: b"_US .",
-        sight: Sight::Stop(1),
-    },
-    Row {
-        form: Form::NTriples,
-        bytes: b"<a:s> <a:p> <o> .",
-        offset: 12,
-        column: 13,
-        before: b"<a:s> <a:p> ",
-        after: b"<o> .",
-        sight: Sight::Token(Kind::IriRef, 3),
-    },
-    Row {
-        form: Form::NTriples,
-        bytes: b"\x1f\x8b\x08",
-        offset: 0,
-        column: 1,
-        before: b"",
-        after: b"\x1f\x8b\x08",
-        sight: Sight::Stop(0),
-    },
-    Row {
-        form: Form::Turtle,
-        bytes: b"<a:s> <a:p>\n",
-        offset: 12,
-        column: 1,
-        before: b"",
-        after: b"",
-        sight: Sight::Unknown,
-    },
-    Row {
-        form: Form::NTriples,
-        bytes: b"<a:s> <a:p> \"\xff\" .",
-        offset: 13,
-        column: 14,
-        before: b"<a:s> <a:p> \"",
-        after: b"\xff\" .",
-        sight: Sight::Unknown,
-    },
+    (Form::NTriples, b"<a:s> <a:p> <a:o> .\n<a:s> <a:p> <a:o b> .\n", 32, 13, b"<a:s> <a:p> ", b"<a:o b> .",
+        Sight::Stop(4)),
+    (Form::Turtle, b"<a:s>\n\t<a:p> [ <a:q> \"\xc3\xa9t\xc3\xa9\" .", 29, 22, b"\t<a:p> [ <a:q> \"\xc3\xa9t\xc3\xa9\" ",
+        b".", Sight::Token(Kind::Dot, 1)),
+    (Form::Turtle, b"\n\n<a:s> <a:p> \"\"\"never\nclosed", 14, 13, b"<a:s> <a:p> ", b"\"\"\"never", Sight::Stop(15)),
+    (Form::TriG, b"<a:s> <a:p> ex:o .", 12, 13, b"<a:s> <a:p> ", b"ex:o .", Sight::Token(Kind::PnameLn, 4)),
+    (Form::NQuads, b"<a:s> <a:p> \"x\"@en_US .", 18, 19, b"<a:s> <a:p> \"x\"@en", b"_US .", Sight::Stop(1)),
+    (Form::NTriples, b"<a:s> <a:p> <o> .", 12, 13, b"<a:s> <a:p> ", b"<o> .", Sight::Token(Kind::IriRef, 3)),
+    (Form::NTriples, b"\x1f\x8b\x08", 0, 1, b"", b"\x1f\x8b\x08", Sight::Stop(0)),
+    (Form::Turtle, b"<a:s> <a:p>\n", 12, 1, b"", b"", Sight::Unknown),
+    (Form::NTriples, b"<a:s> <a:p> \"\xff\" .", 13, 14, b"<a:s> <a:p> \"", b"\xff\" .", Sight::Unknown),
 ];
 
 /// What a check of the document tells of the place where it is asked, and the offset of the fault. It comes in
@@ -118,13 +50,14 @@ fn told(alloc: Global, form: Form, bytes: &[u8], cut: usize) -> Option<(u64, Nea
 }
 
 fn is_told(alloc: Global, row: &Row, cut: usize) -> bool {
-    match told(alloc, row.form, row.bytes, cut) {
-        Some((offset, near)) => {
-            offset == row.offset
-                && near.column == row.column
-                && near.before.as_slice() == row.before
-                && row.after.starts_with(near.after.as_slice())
-                && near.sight == row.sight
+    let (form, bytes, offset, column, before, after, sight) = *row;
+    match told(alloc, form, bytes, cut) {
+        Some((place, near)) => {
+            place == offset
+                && near.column == column
+                && near.before.as_slice() == before
+                && after.starts_with(near.after.as_slice())
+                && near.sight == sight
         }
         None => false,
     }
@@ -133,8 +66,13 @@ fn is_told(alloc: Global, row: &Row, cut: usize) -> bool {
 #[test]
 fn the_place_is_told_however_the_document_is_cut(rt: HostRuntime) {
     for row in ROWS.as_slice() {
-        for cut in 0..=row.bytes.len() {
-            assert!(rt; is_told(rt.alloc(), row, cut), "{} {cut}", row.offset);
+        let (_, bytes, ..) = row;
+        for cut in 0..=bytes.len() {
+            assert!(rt;
+                is_told(rt.alloc(), row, cut),
+                "{} cut at {cut}",
+                bytes.escape_ascii()
+            );
         }
     }
 }
@@ -168,91 +106,74 @@ fn of_a_long_line_the_last_bytes_are_told(rt: HostRuntime) {
     );
 }
 
-/// Whether nothing is told of the row's place where it is not asked for.
-fn stays_unasked(alloc: Global, row: &Row) -> bool {
+/// Whether nothing is told of the place of a refusal where it is not asked for.
+fn stays_unasked(alloc: Global, form: Form, bytes: &[u8]) -> bool {
     let mut details = Details::none();
     let mut near = Nearby::Unasked;
-    let Some(job) = Job::new(row.form, None, Limits::default()) else {
+    let Some(job) = Job::new(form, None, Limits::default()) else {
         return false;
     };
-    let mut source = parts_of(row.bytes, 0, u64::MAX);
+    let mut source = parts_of(bytes, 0, u64::MAX);
     let answer = check_expecting(alloc, job, &mut source, &mut details, &mut near);
     answer.is_err() && matches!(near, Nearby::Unasked)
 }
 
 #[test]
 fn nothing_is_told_of_a_place_that_is_not_asked_for(rt: HostRuntime) {
-    for row in ROWS.as_slice() {
-        assert!(rt; stays_unasked(rt.alloc(), row), "{}", row.offset);
+    for (form, bytes, ..) in ROWS.as_slice() {
+        assert!(rt;
+            stays_unasked(rt.alloc(), *form, bytes),
+            "{}",
+            bytes.escape_ascii()
+        );
     }
 }
 
-/// A refused document, and the lines that explain it where its name is `a`.
-struct Explained {
-    form: Form,
-    bytes: &'static [u8],
-    lines: &'static str,
-}
-
-static EXPLAINED: [Explained; 9] = [
-    Explained {
-        form: Form::NTriples,
-        bytes: b"<a:s> <a:p> <a:o b> .",
-        lines: "a:1:13: no token: it stops after 4 bytes\n<a:s> <a:p> <a:o b> .\n            ^\na:1:13: note: an IRI has no spaces: write %20 for each\n",
-    },
-    Explained {
-        form: Form::Turtle,
-        bytes: b"<a:s>\n\t<a:p> [ <a:q> \"\xc3\xa9t\xc3\xa9\" .",
-        lines: "a:2:22: unexpected token: \".\"; expected language tag, \"^^\", \";\", \",\" or \"]\"; \"[\" is open since line 2, column 8\n\t<a:p> [ <a:q> \"\u{e9}t\u{e9}\" .\n\t                    ^\n",
-    },
-    Explained {
-        form: Form::TriG,
-        bytes: b"<a:s> <a:p> ex:o .",
-        lines: "a:1:13: unbound prefix: \"ex:o\"\n<a:s> <a:p> ex:o .\n            ^\n",
-    },
-    Explained {
-        form: Form::Turtle,
-        bytes: b"<a:s> <a:p> \"\xc3\xa9\\t\\uD83D\\uDE00\" .",
-        lines: "a:1:13: bad escape: \"\\uD83D\" after 5 bytes\n<a:s> <a:p> \"\u{e9}\\t\\uD83D\\uDE00\" .\n            ^\na:1:13: note: a surrogate is no character: write one escape for both of a pair, as \\U0001F600\n",
-    },
-    Explained {
-        form: Form::NTriples,
-        bytes: b"<a:s> <a:p> \"\\uD800\" .",
-        lines: "a:1:13: bad escape: \"\\uD800\" after 1 byte\n<a:s> <a:p> \"\\uD800\" .\n            ^\na:1:13: note: a surrogate is no character: write one escape for both of a pair, as \\U0001F600\n",
-    },
-    Explained {
-        form: Form::Turtle,
-        bytes: b"<a:s> <a:p> '''a\n\\U00110000''' .",
-        lines: "a:1:13: bad escape after 5 bytes\n<a:s> <a:p> '''a\n            ^\n",
-    },
-    Explained {
-        form: Form::NQuads,
-        bytes: b"<a:s> <a:p> \"x\"@en_US .",
-        lines: "a:1:19: no token: it stops after 1 byte\n<a:s> <a:p> \"x\"@en_US .\n                  ^\na:1:19: note: a language tag has no _: write -, as in en-US\n",
-    },
-    Explained {
-        form: Form::NTriples,
-        bytes: b"\x1f\x8b\x08",
-        lines: "a:1:1: no token\n\u{fffd}\u{fffd}\u{fffd}\n^\na:1:1: note: the document is packed: unpack it first, as by gzip -dc, bzip2 -dc, xz -dc or unzip -p\n",
-    },
-    Explained {
-        form: Form::Turtle,
-        bytes: b"<a:s> <a:p> (((",
-        lines: "a:1:15: too deep; the limit is 2\n<a:s> <a:p> (((\n              ^\n",
-    },
+/// Refused documents, and the lines that explain them where their name is `a`.
+#[rattlefmt::skip]
+static EXPLAINED: [(Form, &[u8], &str); 9] = [
+    (Form::NTriples, b"<a:s> <a:p> <a:o b> .", "\
+        a:1:13: no token: it stops after 4 bytes\n\
+        <a:s> <a:p> <a:o b> .\n            ^\n\
+        a:1:13: note: an IRI has no spaces: write %20 for each\n"),
+    (Form::Turtle, b"<a:s>\n\t<a:p> [ <a:q> \"\xc3\xa9t\xc3\xa9\" .", "\
+        a:2:22: unexpected token: \".\"; expected language tag, \"^^\", \";\", \",\" or \"]\"; \
+        \"[\" is open since line 2, column 8\n\
+        \t<a:p> [ <a:q> \"\u{e9}t\u{e9}\" .\n\
+        \t                    ^\n"),
+    (Form::TriG, b"<a:s> <a:p> ex:o .", "a:1:13: unbound prefix: \"ex:o\"\n<a:s> <a:p> ex:o .\n            ^\n"),
+    (Form::Turtle, b"<a:s> <a:p> \"\xc3\xa9\\t\\uD83D\\uDE00\" .", "\
+        a:1:13: bad escape: \"\\uD83D\" after 5 bytes\n\
+        <a:s> <a:p> \"\u{e9}\\t\\uD83D\\uDE00\" .\n            ^\n\
+        a:1:13: note: a surrogate is no character: write one escape for both of a pair, as \\U0001F600\n"),
+    (Form::NTriples, b"<a:s> <a:p> \"\\uD800\" .", "\
+        a:1:13: bad escape: \"\\uD800\" after 1 byte\n\
+        <a:s> <a:p> \"\\uD800\" .\n            ^\n\
+        a:1:13: note: a surrogate is no character: write one escape for both of a pair, as \\U0001F600\n"),
+    (Form::Turtle, b"<a:s> <a:p> '''a\n\\U00110000''' .",
+        "a:1:13: bad escape after 5 bytes\n<a:s> <a:p> '''a\n            ^\n"),
+    (Form::NQuads, b"<a:s> <a:p> \"x\"@en_US .", "\
+        a:1:19: no token: it stops after 1 byte\n\
+        <a:s> <a:p> \"x\"@en_US .\n                  ^\n\
+        a:1:19: note: a language tag has no _: write -, as in en-US\n"),
+    (Form::NTriples, b"\x1f\x8b\x08", "\
+        a:1:1: no token\n\
+        \u{fffd}\u{fffd}\u{fffd}\n^\n\
+        a:1:1: note: the document is packed: unpack it first, as by gzip -dc, bzip2 -dc, xz -dc or unzip -p\n"),
+    (Form::Turtle, b"<a:s> <a:p> (((", "a:1:15: too deep; the limit is 2\n<a:s> <a:p> (((\n              ^\n"),
 ];
 
 fn limits() -> Limits {
     Limits::new(1000, 2, 9, 1000).unwrap_or_default()
 }
 
-fn is_explained(alloc: Global, row: &Explained) -> bool {
+fn is_explained(alloc: Global, form: Form, bytes: &[u8], lines: &str) -> bool {
     let mut details = Details::none();
     let mut near = Nearby::Asked;
-    let Some(job) = Job::new(row.form, None, limits()) else {
+    let Some(job) = Job::new(form, None, limits()) else {
         return false;
     };
-    let mut source = parts_of(row.bytes, row.bytes.len(), u64::MAX);
+    let mut source = parts_of(bytes, bytes.len(), u64::MAX);
     match check_expecting(alloc, job, &mut source, &mut details, &mut near) {
         Err(StreamFault::Refused(fault)) => {
             let evidence = Evidence {
@@ -261,7 +182,7 @@ fn is_explained(alloc: Global, row: &Explained) -> bool {
                 limits: limits(),
             };
             match explain(alloc, "a", &fault, &evidence) {
-                Ok(text) => text.as_slice() == row.lines.as_bytes(),
+                Ok(text) => text.as_slice() == lines.as_bytes(),
                 Err(_) => false,
             }
         }
@@ -271,67 +192,33 @@ fn is_explained(alloc: Global, row: &Explained) -> bool {
 
 #[test]
 fn a_refusal_is_explained_with_its_line(rt: HostRuntime) {
-    for row in EXPLAINED.as_slice() {
-        assert!(rt; is_explained(rt.alloc(), row), "{}", row.lines);
+    for (form, bytes, lines) in EXPLAINED.as_slice() {
+        assert!(rt; is_explained(rt.alloc(), *form, bytes, lines), "{lines}");
     }
 }
 
-/// A document with a token that is unexpected, and the bracket that is open before it: its kind, line and column.
-struct Unclosed {
-    form: Form,
-    bytes: &'static [u8],
-    open: Option<(Kind, u64, u64)>,
-}
+/// The kind, the line and the column of a bracket.
+type Open = (Kind, u64, u64);
 
-static UNCLOSED: [Unclosed; 8] = [
-    Unclosed {
-        form: Form::Turtle,
-        bytes: b"<a:s> <a:p> [ <a:q> (\n1 [] [ <a:r> (2) .",
-        open: Some((Kind::OpenBracket, 2, 6)),
-    },
-    Unclosed {
-        form: Form::Turtle,
-        bytes: b"<a:s> <a:p> [ <a:q> (\n1 [] [ <a:r> () ] .",
-        open: Some((Kind::OpenParen, 1, 21)),
-    },
-    Unclosed {
-        form: Form::Turtle,
-        bytes: b"<a:s> <a:p> \"\xc3\xa9 (\", [ # (\n] <a:o>",
-        open: None,
-    },
-    Unclosed {
-        form: Form::Turtle,
-        bytes: b"<a:s> <a:p> \"\xc3\xa9\", [",
-        open: Some((Kind::OpenBracket, 1, 18)),
-    },
-    Unclosed {
-        form: Form::TriG,
-        bytes: b"<a:g> {\n<a:s> <a:p> [] . <a:t> }",
-        open: Some((Kind::OpenBrace, 1, 7)),
-    },
-    Unclosed {
-        form: Form::TriG,
-        bytes: b"{ <a:s> <a:p> ( ) } <a:s> <a:p> <a:o> }",
-        open: None,
-    },
-    Unclosed {
-        form: Form::Turtle,
-        bytes: b"<a:s> <a:p> ] .",
-        open: None,
-    },
-    Unclosed {
-        form: Form::NTriples,
-        bytes: b"<a:s> <a:p> <a:o> <a:o> .",
-        open: None,
-    },
+/// Documents with a token that is unexpected, and the bracket that is open before it, if there is one.
+#[rattlefmt::skip]
+static UNCLOSED: [(Form, &[u8], Option<Open>); 8] = [
+    (Form::Turtle, b"<a:s> <a:p> [ <a:q> (\n1 [] [ <a:r> (2) .", Some((Kind::OpenBracket, 2, 6))),
+    (Form::Turtle, b"<a:s> <a:p> [ <a:q> (\n1 [] [ <a:r> () ] .", Some((Kind::OpenParen, 1, 21))),
+    (Form::Turtle, b"<a:s> <a:p> \"\xc3\xa9 (\", [ # (\n] <a:o>", None),
+    (Form::Turtle, b"<a:s> <a:p> \"\xc3\xa9\", [", Some((Kind::OpenBracket, 1, 18))),
+    (Form::TriG, b"<a:g> {\n<a:s> <a:p> [] . <a:t> }", Some((Kind::OpenBrace, 1, 7))),
+    (Form::TriG, b"{ <a:s> <a:p> ( ) } <a:s> <a:p> <a:o> }", None),
+    (Form::Turtle, b"<a:s> <a:p> ] .", None),
+    (Form::NTriples, b"<a:s> <a:p> <a:o> <a:o> .", None),
 ];
 
-/// Whether that bracket is told of the document in parts of this length.
-fn is_open(alloc: Global, row: &Unclosed, cut: usize) -> bool {
-    match told(alloc, row.form, row.bytes, cut) {
-        Some((_, near)) => match (near.bracket, row.open) {
-            (Some(open), Some((kind, line, column))) => {
-                open.kind == kind && open.line == line && open.column == Some(column)
+/// Whether this bracket is told of the document in parts of this length.
+fn is_open(alloc: Global, form: Form, bytes: &[u8], cut: usize, open: Option<Open>) -> bool {
+    match told(alloc, form, bytes, cut) {
+        Some((_, near)) => match (near.bracket, open) {
+            (Some(told), Some((kind, line, column))) => {
+                told.kind == kind && told.line == line && told.column == Some(column)
             }
             (None, None) => true,
             _ => false,
@@ -342,9 +229,13 @@ fn is_open(alloc: Global, row: &Unclosed, cut: usize) -> bool {
 
 #[test]
 fn the_innermost_open_bracket_is_told_however_the_document_is_cut(rt: HostRuntime) {
-    for row in UNCLOSED.as_slice() {
-        for cut in 0..=row.bytes.len() {
-            assert!(rt; is_open(rt.alloc(), row, cut), "{} {cut}", row.bytes.len());
+    for (form, bytes, open) in UNCLOSED.as_slice() {
+        for cut in 0..=bytes.len() {
+            assert!(rt;
+                is_open(rt.alloc(), *form, bytes, cut, *open),
+                "{} cut at {cut}",
+                bytes.escape_ascii()
+            );
         }
     }
 }

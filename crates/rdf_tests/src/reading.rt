@@ -20,10 +20,7 @@ pub enum Form {
 
 /// Bytes that come in one piece, so many times.
 #[derive(Clone, Copy)]
-pub struct Piece<'a> {
-    pub bytes: &'a [u8],
-    pub times: u32,
-}
+pub struct Piece<'a>(pub &'a [u8], pub u32);
 
 /// A document: its pieces, and after them bytes that come one by one.
 #[derive(Clone, Copy)]
@@ -134,8 +131,9 @@ fn feed_piece<R: PieceReader, S: QuadSink>(
     ensures live { OnOk result (S.has_failed sink.new ≡ false) }
     ensures done { OnErr result (R.is_done reader.new ≡ true) }
 {
-    for _ in 0..piece.times {
-        reader.feed(piece.bytes, sink)?;
+    let Piece(bytes, times) = *piece;
+    for _ in 0..times {
+        reader.feed(bytes, sink)?;
     }
     Ok(())
 }
@@ -258,34 +256,22 @@ pub fn read<A: Allocator + Copy, S: QuadSink>(
 
 /// A document of N-Triples in pieces.
 static LINES: [Piece<'static>; 3] = [
-    Piece {
-        bytes: b"<http://a/\\u0073> <a:p> \"\\t\\u00e9 a",
-        times: 1,
-    },
-    Piece {
-        bytes: b" text\"@en-GB .\n_:x <a:p> _:y .\n<a:s> ",
-        times: 1,
-    },
-    Piece {
-        bytes: b"<a:p> \"x\"^^<a:t> . # c\n<a:s> <a:p> <a:o> .",
-        times: 1,
-    },
+    Piece(b"<http://a/\\u0073> <a:p> \"\\t\\u00e9 a", 1),
+    Piece(b" text\"@en-GB .\n_:x <a:p> _:y .\n<a:s> ", 1),
+    Piece(b"<a:p> \"x\"^^<a:t> . # c\n<a:s> <a:p> <a:o> .", 1),
 ];
 
 /// A document of Turtle in pieces. Its last dot is decided by its end, and a quad is given out there.
 static STATEMENTS: [Piece<'static>; 3] = [
-    Piece {
-        bytes: b"@base <http://h/b/c> . @prefix : <#> . :s a :b%20\\~c, <s\\u0061>, _:l ; :p 'a\\t",
-        times: 1,
-    },
-    Piece {
-        bytes: b"'@en, \"b\"^^:t, 1 . [ :p [ :q ( 1 [ ] ( \"a\" ) () ) ] ] . @prefix : <x> . ( [ :p :o ] ) ",
-        times: 1,
-    },
-    Piece {
-        bytes: b":p :o .",
-        times: 1,
-    },
+    Piece(
+        b"@base <http://h/b/c> . @prefix : <#> . :s a :b%20\\~c, <s\\u0061>, _:l ; :p 'a\\t",
+        1,
+    ),
+    Piece(
+        b"'@en, \"b\"^^:t, 1 . [ :p [ :q ( 1 [ ] ( \"a\" ) () ) ] ] . @prefix : <x> . ( [ :p :o ] ) ",
+        1,
+    ),
+    Piece(b":p :o .", 1),
 ];
 
 /// Reads the document above of this form.

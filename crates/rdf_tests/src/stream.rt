@@ -10,11 +10,12 @@ mod sights;
 mod skips;
 mod streams;
 
+use crate::documents::{Row, base, documents, is_of, limits};
 use rdf_iri::Limits;
 use rdf_lines::Fault;
 use rdf_stream::{BindingFault, BindingReason, Form, LoadFault, StreamFault, report};
 use rdf_terms::Reason;
-use rows::{FAILING, FORMS, Failing, REASONS, ROWS, SHOWN, Set};
+use rows::{FAILING, FORMS, LIMITED, REASONS, SHOWN};
 use runs::{Asked, Outcome, Task, has_text, is_alike, is_checked, run};
 use std::alloc::Global;
 use std::fmt::Display;
@@ -30,35 +31,6 @@ fn is_read(alloc: Global, asked: &Asked<'_>, text: &str, shown: &Outcome) -> boo
         && is_alike(&also_shown, shown)
 }
 
-fn is_of(set: Set, form: Form) -> bool {
-    match set {
-        Set::Turtle => form == Form::Turtle,
-        Set::TriG => form == Form::TriG,
-        Set::NTriples => form == Form::NTriples,
-        Set::NQuads => form == Form::NQuads,
-        Set::Lines => matches!(form, Form::NTriples | Form::NQuads),
-        _ => matches!(form, Form::Turtle | Form::TriG),
-    }
-}
-
-fn limits(set: Set) -> Limits {
-    let limits = match set {
-        Set::ShortTokens => Limits::new(12, 9, 9, 1000),
-        Set::OneBracket => Limits::new(1000, 1, 9, 1000),
-        Set::OnePrefix => Limits::new(1000, 9, 1, 1000),
-        Set::ShortIris => Limits::new(1000, 9, 9, 10),
-        _ => Limits::new(1000, 9, 9, 1000),
-    };
-    limits.unwrap_or_default()
-}
-
-fn base(set: Set) -> &'static str {
-    match set {
-        Set::WithBase => "http://a/b/c/d;p?q",
-        _ => "",
-    }
-}
-
 /// Whether the document is read so, however it is cut; what is shown is to be that of the whole.
 fn is_read_cut(alloc: Global, whole: &Asked<'_>, text: &str) -> bool {
     let shown = run(alloc, alloc, &whole.to(Task::Show));
@@ -70,28 +42,66 @@ fn is_read_cut(alloc: Global, whole: &Asked<'_>, text: &str) -> bool {
     true
 }
 
-/// The first row of this format of which something else is written, when it is cut somewhere, if there is one.
-fn misread(alloc: Global, form: Form) -> Option<usize> {
-    let rows = ROWS.as_slice();
-    for i in 0..rows.len() {
-        let (set, document, text) = rows[i];
-        let whole = Asked {
-            base: base(set),
-            limits: limits(set),
-            ..Asked::of(Task::Convert, form, document)
-        };
-        if is_of(set, form) && !is_read_cut(alloc, &whole, text) {
-            return Some(i);
+/// Whether the document is read so as this format, however it is cut.
+fn is_read_as(alloc: Global, form: Form, row: &Row) -> bool {
+    let (set, document, text) = *row;
+    let whole = Asked {
+        base: base(set),
+        limits: limits(set),
+        ..Asked::of(Task::Convert, form, document)
+    };
+    is_read_cut(alloc, &whole, text)
+}
+
+/// The first document of this format that is not read so, if there is one.
+fn misread(alloc: Global, form: Form) -> Option<&'static [u8]> {
+    for row in documents() {
+        let (set, document, _) = *row;
+        if is_of(set, form) && !is_read_as(alloc, form, row) {
+            return Some(document);
         }
     }
     None
 }
 
 #[test]
-fn a_document_is_read_however_it_is_cut(rt: HostRuntime) {
-    for form in [Form::NTriples, Form::NQuads, Form::Turtle, Form::TriG] {
-        assert_eq!(rt; misread(rt.alloc(), form), None, "{form:?}");
-    }
+fn a_document_of_ntriples_is_read_however_it_is_cut(rt: HostRuntime) {
+    let misread = misread(rt.alloc(), Form::NTriples);
+    assert!(rt;
+        misread.is_none(),
+        "{}",
+        misread.unwrap_or(b"").escape_ascii()
+    );
+}
+
+#[test]
+fn a_document_of_nquads_is_read_however_it_is_cut(rt: HostRuntime) {
+    let misread = misread(rt.alloc(), Form::NQuads);
+    assert!(rt;
+        misread.is_none(),
+        "{}",
+        misread.unwrap_or(b"").escape_ascii()
+    );
+}
+
+#[test]
+fn a_document_of_turtle_is_read_however_it_is_cut(rt: HostRuntime) {
+    let misread = misread(rt.alloc(), Form::Turtle);
+    assert!(rt;
+        misread.is_none(),
+        "{}",
+        misread.unwrap_or(b"").escape_ascii()
+    );
+}
+
+#[test]
+fn a_document_of_trig_is_read_however_it_is_cut(rt: HostRuntime) {
+    let misread = misread(rt.alloc(), Form::TriG);
+    assert!(rt;
+        misread.is_none(),
+        "{}",
+        misread.unwrap_or(b"").escape_ascii()
+    );
 }
 
 /// Whether `show` writes and reports this text, however the document is cut.
@@ -173,40 +183,51 @@ fn devices_of_one_byte_a_call_change_nothing(rt: HostRuntime) {
     }
 }
 
-/// Whether a run whose devices fail after these calls writes and reports this text, and a check reports the same.
-fn is_stopped(alloc: Global, row: &Failing) -> bool {
-    let [depth, iri] = row.limits;
-    let Some(limits) = Limits::new(100, depth, 10, iri) else {
-        return false;
-    };
-    let asked = Asked {
-        limits,
+/// A run over a document that comes a byte a call, with these limits of open brackets and of an IRI.
+fn slow_run(task: Task, form: Form, [depth, iri]: [u64; 2], document: &str) -> Asked<'_> {
+    Asked {
+        limits: Limits::new(100, depth, 10, iri).unwrap_or_default(),
         cut: 0,
-        fills: row.fills,
-        puts: row.puts,
-        ..Asked::of(row.task, row.form, row.document.as_bytes())
-    };
-    let stopped = run(alloc, alloc, &asked);
-    let checked = run(alloc, alloc, &asked.to(Task::Check));
-    stopped.text.as_slice() == row.text.as_bytes()
-        && stopped.flushed == stopped.is_sent()
-        && (row.task == Task::Show || is_checked(&checked, &stopped))
+        ..Asked::of(task, form, document.as_bytes())
+    }
 }
 
-/// The first row of which something else is written or reported, if there is one.
-fn misreported(alloc: Global) -> Option<usize> {
-    let rows = FAILING.as_slice();
-    for i in 0..rows.len() {
-        if !is_stopped(alloc, &rows[i]) {
-            return Some(i);
-        }
-    }
-    None
+/// Whether a run whose devices may fail writes and reports this text, and a check reports the same.
+fn is_stopped(alloc: Global, asked: &Asked<'_>, text: &str) -> bool {
+    let stopped = run(alloc, alloc, asked);
+    let checked = run(alloc, alloc, &asked.to(Task::Check));
+    stopped.text.as_slice() == text.as_bytes()
+        && stopped.flushed == stopped.is_sent()
+        && (asked.task == Task::Show || is_checked(&checked, &stopped))
 }
 
 #[test]
-fn what_was_read_before_a_device_failed_decides(rt: HostRuntime) {
-    assert_eq!(rt; misreported(rt.alloc()), None);
+fn what_was_read_before_a_source_failed_decides(rt: HostRuntime) {
+    for (task, form, document, fills, text) in FAILING.as_slice() {
+        let asked = Asked {
+            fills: *fills,
+            ..slow_run(*task, *form, [9, 1000], document)
+        };
+        assert!(rt;
+            is_stopped(rt.alloc(), &asked, text),
+            "{task:?} of {form:?} in {fills} calls: {document}"
+        );
+    }
+}
+
+#[test]
+fn a_limit_that_is_passed_before_a_device_failed_decides(rt: HostRuntime) {
+    for (form, limits, document, fills, puts, text) in LIMITED.as_slice() {
+        let asked = Asked {
+            fills: *fills,
+            puts: *puts,
+            ..slow_run(Task::Convert, *form, *limits, document)
+        };
+        assert!(rt;
+            is_stopped(rt.alloc(), &asked, text),
+            "{form:?}: {document}"
+        );
+    }
 }
 
 #[test]

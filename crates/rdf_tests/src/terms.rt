@@ -249,15 +249,12 @@ fn means(alloc: Global, inside: Inside, text: &str, wanted: Option<&str>) -> boo
     }
 }
 
+#[rattlefmt::skip]
 static MEANT: [(Inside, &str, Option<&str>); 30] = [
     (Inside::String, "", Some("")),
     (Inside::String, "é", Some("é")),
     (Inside::String, "a\\tb\\u00E9", Some("a\tbé")),
-    (
-        Inside::String,
-        "\\b\\n\\r\\f\\\"\\'\\\\",
-        Some("\u{8}\n\r\u{C}\"'\\"),
-    ),
+    (Inside::String, "\\b\\n\\r\\f\\\"\\'\\\\", Some("\u{8}\n\r\u{C}\"'\\")),
     (Inside::String, "\\U0010ffff", Some("\u{10FFFF}")),
     (Inside::String, "\\", None),
     (Inside::String, "\\a", None),
@@ -266,11 +263,7 @@ static MEANT: [(Inside, &str, Option<&str>); 30] = [
     (Inside::String, "\\uD800", None),
     (Inside::String, "\\U00110000", None),
     (Inside::Iri, "http://a/é", Some("http://a/é")),
-    (
-        Inside::Iri,
-        "\\u0068ttp://a/\\U000000e9",
-        Some("http://a/é"),
-    ),
+    (Inside::Iri, "\\u0068ttp://a/\\U000000e9", Some("http://a/é")),
     (Inside::Iri, "http://a/\\u003E", None),
     (Inside::Iri, "http://a/>", None),
     (Inside::Iri, "http://a/\\u0020", None),
@@ -300,37 +293,17 @@ fn an_inside_means_its_value(rt: HostRuntime) {
     }
 }
 
+#[rattlefmt::skip]
 static KNOWN: [(Known, &str); 9] = [
-    (
-        Known::RdfType,
-        "http://www.w3.org/1999/02/22-rdf-syntax-ns#type",
-    ),
-    (
-        Known::RdfFirst,
-        "http://www.w3.org/1999/02/22-rdf-syntax-ns#first",
-    ),
-    (
-        Known::RdfRest,
-        "http://www.w3.org/1999/02/22-rdf-syntax-ns#rest",
-    ),
-    (
-        Known::RdfNil,
-        "http://www.w3.org/1999/02/22-rdf-syntax-ns#nil",
-    ),
+    (Known::RdfType, "http://www.w3.org/1999/02/22-rdf-syntax-ns#type"),
+    (Known::RdfFirst, "http://www.w3.org/1999/02/22-rdf-syntax-ns#first"),
+    (Known::RdfRest, "http://www.w3.org/1999/02/22-rdf-syntax-ns#rest"),
+    (Known::RdfNil, "http://www.w3.org/1999/02/22-rdf-syntax-ns#nil"),
     (Known::XsdString, "http://www.w3.org/2001/XMLSchema#string"),
-    (
-        Known::XsdInteger,
-        "http://www.w3.org/2001/XMLSchema#integer",
-    ),
-    (
-        Known::XsdDecimal,
-        "http://www.w3.org/2001/XMLSchema#decimal",
-    ),
+    (Known::XsdInteger, "http://www.w3.org/2001/XMLSchema#integer"),
+    (Known::XsdDecimal, "http://www.w3.org/2001/XMLSchema#decimal"),
     (Known::XsdDouble, "http://www.w3.org/2001/XMLSchema#double"),
-    (
-        Known::XsdBoolean,
-        "http://www.w3.org/2001/XMLSchema#boolean",
-    ),
+    (Known::XsdBoolean, "http://www.w3.org/2001/XMLSchema#boolean"),
 ];
 
 #[test]
@@ -402,8 +375,8 @@ fn of_iris(iri: IriView<'_>) -> QuadRef<'_> {
     }
 }
 
-const COPIED: &str =
-    "<http://g/> <http://www.w3.org/1999/02/22-rdf-syntax-ns#first> \"1\"^^<http://www.w3.org/2001/XMLSchema#integer> <http://g/> .\n";
+const COPIED: &str = "<http://g/> <http://www.w3.org/1999/02/22-rdf-syntax-ns#first> \
+    \"1\"^^<http://www.w3.org/2001/XMLSchema#integer> <http://g/> .\n";
 
 /// Whether a list of a copy of the quad has its line.
 fn copies_quad(alloc: Global, iri: IriView<'_>) -> bool {

@@ -9,7 +9,7 @@ use std::alloc::{AllocError, Global};
 
 // What a call answers: the kind, the offset, the line and the number of bytes of a token; of a plain name the place
 // after its colon too.
-#[derive(Clone, Copy, PartialEq, Eq)]
+#[derive(Clone, Copy, PartialEq, Eq, Debug)]
 enum Answer {
     Started,
     Took(usize),
@@ -89,7 +89,7 @@ fn next(scanner: &mut Scanner) -> Answer {
 }
 
 /// What is done with a scanner.
-#[derive(Clone, Copy)]
+#[derive(Clone, Copy, Debug)]
 enum Step {
     /// Takes a new scanner of a dialect and of tokens of so many characters in its place.
     Start(Dialect, u64),
@@ -259,7 +259,8 @@ static STEPS: [(Step, Answer); 301] = [
     (Step::Start(Dialect::Turtle, 128), Answer::Started),
     (
         Step::Push(
-            b"; \"a\\nb\"^^x:t \"\"\"a\"b\"\"\" x:\xC3\xA9t\xC3\xA9-1:b%2F\\~.c, x:\xCE\xA9\xD0\xB0\xE6\x88\x91\xEA\xB0\x80.b x:a\xC3\xB7 ;",
+            b"; \"a\\nb\"^^x:t \"\"\"a\"b\"\"\" x:\xC3\xA9t\xC3\xA9-1:b%2F\\~.c, \
+                x:\xCE\xA9\xD0\xB0\xE6\x88\x91\xEA\xB0\x80.b x:a\xC3\xB7 ;",
         ),
         Answer::Took(66),
     ),
@@ -472,13 +473,15 @@ static STEPS: [(Step, Answer); 301] = [
     (Step::Next, Answer::Fault(Reason::TokenTooLong, 0)),
 ];
 
-/// The first of the steps that is answered otherwise, if there is one.
-fn misanswered(alloc: Global, steps: &[(Step, Answer)]) -> Option<usize> {
+/// The first of the steps that is answered otherwise, if there is one: how many stand before it, the step, and the
+/// answer.
+fn misanswered(alloc: Global, steps: &[(Step, Answer)]) -> Option<(usize, Step, Answer)> {
     let mut scanner = Scanner::new(alloc, Dialect::Turtle, 1);
     for i in 0..steps.len() {
-        let (step, answer) = steps[i];
-        if take(alloc, &mut scanner, step) != answer {
-            return Some(i);
+        let (step, wanted) = steps[i];
+        let answer = take(alloc, &mut scanner, step);
+        if answer != wanted {
+            return Some((i, step, answer));
         }
     }
     None
@@ -486,7 +489,8 @@ fn misanswered(alloc: Global, steps: &[(Step, Answer)]) -> Option<usize> {
 
 #[test]
 fn a_scanner_answers_each_step(rt: HostRuntime) {
-    assert_eq!(rt; misanswered(rt.alloc(), STEPS.as_slice()), None);
+    let misanswered = misanswered(rt.alloc(), STEPS.as_slice());
+    assert!(rt; misanswered.is_none(), "{misanswered:?}");
 }
 
 // Takes answers until the scanner waits or stops.
@@ -660,73 +664,19 @@ fn cuts_change_no_example(rt: HostRuntime) {
 }
 
 /// Strings with escapes, the most characters that a token may have, and the first answer to them.
+#[rattlefmt::skip]
 static STRINGS: [(Dialect, &str, u64, Answer); 11] = [
-    (
-        Dialect::Lines,
-        "\"ab\\\"c\\u00E9d\\U0001F600\\té\" .",
-        64,
-        Answer::Token(Kind::ShortString, 0, 1, 28),
-    ),
-    (
-        Dialect::Turtle,
-        "\"ab\\\"c\\u00E9d\\U0001F600\\té\" .",
-        64,
-        Answer::Token(Kind::ShortString, 0, 1, 28),
-    ),
-    (
-        Dialect::Turtle,
-        "'ab\\'c\\u00E9d\\U0001F600\\té' .",
-        64,
-        Answer::Token(Kind::ShortString, 0, 1, 28),
-    ),
-    (
-        Dialect::Lines,
-        "\"ab\\\"c\\u00E9d\\U0001F600\\té\" .",
-        27,
-        Answer::Token(Kind::ShortString, 0, 1, 28),
-    ),
-    (
-        Dialect::Turtle,
-        "'ab\\'c\\u00E9d\\U0001F600\\té' .",
-        27,
-        Answer::Token(Kind::ShortString, 0, 1, 28),
-    ),
-    (
-        Dialect::Lines,
-        "\"ab\\\"c\\u00E9d\\U0001F600\\té\" .",
-        26,
-        Answer::Fault(Reason::TokenTooLong, 0),
-    ),
-    (
-        Dialect::Turtle,
-        "'ab\\'c\\u00E9d\\U0001F600\\té' .",
-        26,
-        Answer::Fault(Reason::TokenTooLong, 0),
-    ),
-    (
-        Dialect::Lines,
-        "\"abc\\uD800defghijklmnop\" .",
-        64,
-        Answer::Fault(Reason::BadEscape, 0),
-    ),
-    (
-        Dialect::Turtle,
-        "'abc\\t\\U00110000de\\n' .",
-        64,
-        Answer::Fault(Reason::BadEscape, 0),
-    ),
-    (
-        Dialect::Lines,
-        "\"abc\\t\\xde\" .",
-        64,
-        Answer::Fault(Reason::NoToken, 0),
-    ),
-    (
-        Dialect::Turtle,
-        "\"abc\\u00E9\n\" .",
-        64,
-        Answer::Fault(Reason::NoToken, 0),
-    ),
+    (Dialect::Lines, "\"ab\\\"c\\u00E9d\\U0001F600\\té\" .", 64, Answer::Token(Kind::ShortString, 0, 1, 28)),
+    (Dialect::Turtle, "\"ab\\\"c\\u00E9d\\U0001F600\\té\" .", 64, Answer::Token(Kind::ShortString, 0, 1, 28)),
+    (Dialect::Turtle, "'ab\\'c\\u00E9d\\U0001F600\\té' .", 64, Answer::Token(Kind::ShortString, 0, 1, 28)),
+    (Dialect::Lines, "\"ab\\\"c\\u00E9d\\U0001F600\\té\" .", 27, Answer::Token(Kind::ShortString, 0, 1, 28)),
+    (Dialect::Turtle, "'ab\\'c\\u00E9d\\U0001F600\\té' .", 27, Answer::Token(Kind::ShortString, 0, 1, 28)),
+    (Dialect::Lines, "\"ab\\\"c\\u00E9d\\U0001F600\\té\" .", 26, Answer::Fault(Reason::TokenTooLong, 0)),
+    (Dialect::Turtle, "'ab\\'c\\u00E9d\\U0001F600\\té' .", 26, Answer::Fault(Reason::TokenTooLong, 0)),
+    (Dialect::Lines, "\"abc\\uD800defghijklmnop\" .", 64, Answer::Fault(Reason::BadEscape, 0)),
+    (Dialect::Turtle, "'abc\\t\\U00110000de\\n' .", 64, Answer::Fault(Reason::BadEscape, 0)),
+    (Dialect::Lines, "\"abc\\t\\xde\" .", 64, Answer::Fault(Reason::NoToken, 0)),
+    (Dialect::Turtle, "\"abc\\u00E9\n\" .", 64, Answer::Fault(Reason::NoToken, 0)),
 ];
 
 // The first answer to a text that comes in three pieces.

@@ -37,50 +37,29 @@ fn a_node_is_named_by_its_style(rt: HostRuntime) {
     assert!(rt; is_named(rt.alloc(), cell, Style::Kept, None));
 }
 
-/// A quad of a node and its line. Its subject has this label, its literal this lexical form and the tag `en` or the
-/// IRI as its type, which is also its predicate and its graph.
-struct Row {
-    escapes: Escapes,
-    label: &'static str,
-    iri: &'static str,
-    lexical: &'static str,
-    is_tagged: bool,
-    line: &'static str,
-}
+/// A quad and its line: which characters are written as escapes; the label of its subject; the IRI that is its
+/// predicate and its graph; the lexical form of its literal; whether that has the tag `en`, and else the IRI as its
+/// type; and the line.
+type Row = (
+    Escapes,
+    &'static str,
+    &'static str,
+    &'static str,
+    bool,
+    &'static str,
+);
 
+#[rattlefmt::skip]
 static ROWS: [Row; 4] = [
-    Row {
-        escapes: Escapes::Plain,
-        label: "x",
-        iri: "a:b",
-        lexical: "A",
-        is_tagged: true,
-        line: "_:x <a:b> \"A\"@en <a:b> .\n",
-    },
-    Row {
-        escapes: Escapes::Plain,
-        label: "x",
-        iri: "a:b",
-        lexical: "1",
-        is_tagged: false,
-        line: "_:x <a:b> \"1\"^^<a:b> <a:b> .\n",
-    },
-    Row {
-        escapes: Escapes::Plain,
-        label: "\u{E9}",
-        iri: "http://www.w3.org/2001/XMLSchema#string",
-        lexical: "\u{E9}\"\\\n\r\t' and more bytes than are seen at once\n",
-        is_tagged: false,
-        line: "_:\u{E9} <http://www.w3.org/2001/XMLSchema#string> \"\u{E9}\\\"\\\\\\n\\r\t' and more bytes than are seen at once\\n\" <http://www.w3.org/2001/XMLSchema#string> .\n",
-    },
-    Row {
-        escapes: Escapes::Ascii,
-        label: "\u{E9}",
-        iri: "http://a/\u{E9}",
-        lexical: "\u{1F600}\u{FFFF}\u{10000}\n\u{7F}",
-        is_tagged: false,
-        line: "_:\u{E9} <http://a/\\u00E9> \"\\U0001F600\\uFFFF\\U00010000\\n\u{7F}\"^^<http://a/\\u00E9> <http://a/\\u00E9> .\n",
-    },
+    (Escapes::Plain, "x", "a:b", "A", true, "_:x <a:b> \"A\"@en <a:b> .\n"),
+    (Escapes::Plain, "x", "a:b", "1", false, "_:x <a:b> \"1\"^^<a:b> <a:b> .\n"),
+    (Escapes::Plain, "\u{E9}", "http://www.w3.org/2001/XMLSchema#string",
+        "\u{E9}\"\\\n\r\t' and more bytes than are seen at once\n", false, "\
+        _:\u{E9} <http://www.w3.org/2001/XMLSchema#string> \"\u{E9}\\\"\\\\\\n\\r\t' and more bytes than are seen at \
+        once\\n\" <http://www.w3.org/2001/XMLSchema#string> .\n"),
+    (Escapes::Ascii, "\u{E9}", "http://a/\u{E9}", "\u{1F600}\u{FFFF}\u{10000}\n\u{7F}", false, "\
+        _:\u{E9} <http://a/\\u00E9> \"\\U0001F600\\uFFFF\\U00010000\\n\u{7F}\"^^<http://a/\\u00E9> \
+        <http://a/\\u00E9> .\n"),
 ];
 
 fn quad<'a>(label: LabelView<'a>, iri: IriView<'a>, object: TermRef<'a>) -> QuadRef<'a> {
@@ -102,33 +81,30 @@ fn has_line(alloc: Global, quad: QuadRef<'_>, escapes: Escapes, line: &str) -> b
 }
 
 fn is_written(alloc: Global, row: &Row) -> bool {
-    let Ok(label) = Label::new(alloc, row.label) else {
+    let (escapes, label, iri, lexical, is_tagged, line) = *row;
+    let Ok(label) = Label::new(alloc, label) else {
         return false;
     };
-    let Ok(iri) = Iri::new(alloc, row.iri) else {
+    let Ok(iri) = Iri::new(alloc, iri) else {
         return false;
     };
     let Ok(tag) = Tag::new(alloc, "en") else {
         return false;
     };
-    let tail = if row.is_tagged {
+    let tail = if is_tagged {
         TailRef::Lang(tag.view())
     } else {
         TailRef::Typed(iri.view())
     };
-    let object = TermRef::Literal(LiteralRef::new(row.lexical, tail));
-    has_line(
-        alloc,
-        quad(label.view(), iri.view(), object),
-        row.escapes,
-        row.line,
-    )
+    let object = TermRef::Literal(LiteralRef::new(lexical, tail));
+    has_line(alloc, quad(label.view(), iri.view(), object), escapes, line)
 }
 
 #[test]
 fn a_line_has_its_escapes_its_tag_or_its_type(rt: HostRuntime) {
     for row in ROWS.as_slice() {
-        assert!(rt; is_written(rt.alloc(), row));
+        let (.., line) = row;
+        assert!(rt; is_written(rt.alloc(), row), "{line}");
     }
 }
 

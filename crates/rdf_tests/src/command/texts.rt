@@ -66,33 +66,20 @@ The status of several documents is the greatest of theirs.
 pub(crate) const VERSION: &str =
     "rdfconv 1.0.0, proved with rattle-kit-13f logic dac8208d650f15bf\n";
 
-/// The help of a subcommand, in its three parts.
-pub(crate) struct Help {
-    pub(crate) name: &'static str,
-    pub(crate) first: &'static str,
-    pub(crate) options: &'static str,
-    pub(crate) notes: &'static str,
-}
+/// The help of a subcommand: its name, and the text in three parts, which are what it begins with, its options and its
+/// notes.
+pub(crate) type Help = (&'static str, &'static str, &'static str, &'static str);
 
+#[rattlefmt::skip]
 pub(crate) static COMMANDS: [Help; 3] = [
-    Help {
-        name: "check",
-        first: "Read documents to their ends, and count the quads and bytes of each\n\nUsage: rdfconv check [OPTIONS] [FILE]...\n",
-        options: CHECK_HELP,
-        notes: CHECK_NOTES,
-    },
-    Help {
-        name: "show",
-        first: "Write a line for each token: its offset, its characters and its kind\n\nUsage: rdfconv show [OPTIONS] [FILE]\n",
-        options: SHOW_HELP,
-        notes: SHOW_NOTES,
-    },
-    Help {
-        name: "convert",
-        first: "Write the quads of a document as lines of N-Quads\n\nUsage: rdfconv convert [OPTIONS] [FILE]\n",
-        options: CONVERT_HELP,
-        notes: CONVERT_NOTES,
-    },
+    ("check", "\
+        Read documents to their ends, and count the quads and bytes of each\n\n\
+        Usage: rdfconv check [OPTIONS] [FILE]...\n", CHECK_HELP, CHECK_NOTES),
+    ("show", "\
+        Write a line for each token: its offset, its characters and its kind\n\n\
+        Usage: rdfconv show [OPTIONS] [FILE]\n", SHOW_HELP, SHOW_NOTES),
+    ("convert", "Write the quads of a document as lines of N-Quads\n\nUsage: rdfconv convert [OPTIONS] [FILE]\n",
+        CONVERT_HELP, CONVERT_NOTES),
 ];
 
 /// What follows these lines in the help of `check`.
@@ -214,189 +201,88 @@ Usage: rdfconv <COMMAND>
 For more information, try '--help'.
 ";
 
-const NO_COMMAND: &str = "\
-error: 'rdfconv' requires a subcommand but one was not provided
-  [subcommands: check, show, convert, help]
+// What is said of the usage after an error, and where nothing is.
+const COMMAND: &str = "Usage: rdfconv <COMMAND>\n\n";
 
-Usage: rdfconv <COMMAND>
+const CHECK: &str = "Usage: rdfconv check [OPTIONS] [FILE]...\n\n";
 
-For more information, try '--help'.
-";
+pub(crate) const SHOW: &str = "Usage: rdfconv show [OPTIONS] [FILE]\n\n";
 
-/// Words that are no task, and all that is reported of them.
-pub(crate) struct Refused {
-    /// The words, with a space after each but the last; it is empty where there are none.
-    pub(crate) line: &'static str,
-    pub(crate) reported: &'static str,
-}
+const CONVERT: &str = "Usage: rdfconv convert [OPTIONS] [FILE]\n\n";
 
-pub(crate) static REFUSED: [Refused; 42] = [
-    Refused {
-        line: "",
-        reported: NO_COMMAND,
-    },
-    Refused {
-        line: "rdfconv",
-        reported: NO_COMMAND,
-    },
-    Refused {
-        line: "rdfconv delete --format nt",
-        reported: "error: unrecognized subcommand 'delete'\n\nUsage: rdfconv <COMMAND>\n\nFor more information, try '--help'.\n",
-    },
-    Refused {
-        line: "rdfconv convert --format xml",
-        reported: "error: invalid value 'xml' for '--format <FORMAT>'\n  [possible values: nt, nq, ttl, trig, name]\n\nFor more information, try '--help'.\n",
-    },
-    Refused {
-        line: "rdfconv check --format --help",
-        reported: "error: a value is required for '--format <FORMAT>' but none was supplied\n  [possible values: nt, nq, ttl, trig, name]\n\nFor more information, try '--help'.\n",
-    },
-    Refused {
-        line: "rdfconv convert --format=nt --format=nt",
-        reported: "error: the argument '--format <FORMAT>' cannot be used multiple times\n\nUsage: rdfconv convert [OPTIONS] [FILE]\n\nFor more information, try '--help'.\n",
-    },
-    Refused {
-        line: "rdfconv show a.nt b.nt",
-        reported: "error: unexpected argument 'b.nt' found\n\nUsage: rdfconv show [OPTIONS] [FILE]\n\nFor more information, try '--help'.\n",
-    },
-    Refused {
-        line: "rdfconv check --colour x",
-        reported: "error: unexpected argument '--colour' found\n\n  tip: to pass '--colour' as a value, use '-- --colour'\n\nUsage: rdfconv check [OPTIONS] [FILE]...\n\nFor more information, try '--help'.\n",
-    },
-    Refused {
-        line: "rdfconv show --prefixes ex.txt",
-        reported: "error: unexpected argument '--prefixes' found\n\n  tip: to pass '--prefixes' as a value, use '-- --prefixes'\n\nUsage: rdfconv show [OPTIONS] [FILE]\n\nFor more information, try '--help'.\n",
-    },
-    Refused {
-        line: "rdfconv check --ascii",
-        reported: "error: unexpected argument '--ascii' found\n\n  tip: to pass '--ascii' as a value, use '-- --ascii'\n\nUsage: rdfconv check [OPTIONS] [FILE]...\n\nFor more information, try '--help'.\n",
-    },
-    Refused {
-        line: "rdfconv show --ascii",
-        reported: "error: unexpected argument '--ascii' found\n\n  tip: to pass '--ascii' as a value, use '-- --ascii'\n\nUsage: rdfconv show [OPTIONS] [FILE]\n\nFor more information, try '--help'.\n",
-    },
-    Refused {
-        line: "rdfconv convert --ascii --ascii",
-        reported: "error: the argument '--ascii' cannot be used multiple times\n\nUsage: rdfconv convert [OPTIONS] [FILE]\n\nFor more information, try '--help'.\n",
-    },
-    Refused {
-        line: "rdfconv convert --ascii=true",
-        reported: "error: unexpected value 'true' for '--ascii' found; no more were expected\n\nUsage: rdfconv convert --ascii [FILE]\n\nFor more information, try '--help'.\n",
-    },
-    Refused {
-        line: "rdfconv check --node-prefix a",
-        reported: "error: unexpected argument '--node-prefix' found\n\n  tip: to pass '--node-prefix' as a value, use '-- --node-prefix'\n\nUsage: rdfconv check [OPTIONS] [FILE]...\n\nFor more information, try '--help'.\n",
-    },
-    Refused {
-        line: "rdfconv show --node-prefix=a",
-        reported: "error: unexpected argument '--node-prefix' found\n\n  tip: to pass '--node-prefix' as a value, use '-- --node-prefix'\n\nUsage: rdfconv show [OPTIONS] [FILE]\n\nFor more information, try '--help'.\n",
-    },
-    Refused {
-        line: "rdfconv convert --node-prefix",
-        reported: "error: a value is required for '--node-prefix <WORD>' but none was supplied\n\nFor more information, try '--help'.\n",
-    },
-    Refused {
-        line: "rdfconv convert --node-prefix=a --node-prefix=b",
-        reported: "error: the argument '--node-prefix <WORD>' cannot be used multiple times\n\nUsage: rdfconv convert [OPTIONS] [FILE]\n\nFor more information, try '--help'.\n",
-    },
-    Refused {
-        line: "rdfconv check -o out.nq",
-        reported: "error: unexpected argument '-o' found\n\n  tip: to pass '-o' as a value, use '-- -o'\n\nUsage: rdfconv check [OPTIONS] [FILE]...\n\nFor more information, try '--help'.\n",
-    },
-    Refused {
-        line: "rdfconv convert -o a.nq --output=b.nq",
-        reported: "error: the argument '--output <OUTPUT>' cannot be used multiple times\n\nUsage: rdfconv convert [OPTIONS] [FILE]\n\nFor more information, try '--help'.\n",
-    },
-    Refused {
-        line: "rdfconv convert --token=0",
-        reported: "error: invalid value '0' for '--token <N>': 0 is not in 1..=268435456\n\nFor more information, try '--help'.\n",
-    },
-    Refused {
-        line: "rdfconv convert --depth=1048577",
-        reported: "error: invalid value '1048577' for '--depth <N>': 1048577 is not in 0..=1048576\n\nFor more information, try '--help'.\n",
-    },
-    Refused {
-        line: "rdfconv convert --bindings=16777217",
-        reported: "error: invalid value '16777217' for '--bindings <N>': 16777217 is not in 0..=16777216\n\nFor more information, try '--help'.\n",
-    },
-    Refused {
-        line: "rdfconv convert --iri=18446744073709551615",
-        reported: "error: invalid value '18446744073709551615' for '--iri <N>': 18446744073709551615 is not in 1..=268435456\n\nFor more information, try '--help'.\n",
-    },
-    Refused {
-        line: "rdfconv convert --token 18446744073709551616",
-        reported: "error: invalid value '18446744073709551616' for '--token <N>': number too large to fit in target type\n\nFor more information, try '--help'.\n",
-    },
-    Refused {
-        line: "rdfconv convert --iri=ten",
-        reported: "error: invalid value 'ten' for '--iri <N>': invalid digit found in string\n\nFor more information, try '--help'.\n",
-    },
-    Refused {
-        line: "rdfconv convert --format=nt --base s",
-        reported: "rdfconv: bad base\n",
-    },
-    Refused {
-        line: "rdfconv convert --format=nt --base ",
-        reported: "rdfconv: bad base\n",
-    },
-    Refused {
-        line: "rdfconv convert --iri=9 --base=http://a/b",
-        reported: "rdfconv: bad base\n",
-    },
-    Refused {
-        line: "rdfconv convert --node-prefix a-b",
-        reported: "rdfconv: bad node prefix\n",
-    },
-    Refused {
-        line: "rdfconv convert --node-prefix é",
-        reported: "rdfconv: bad node prefix\n",
-    },
-    Refused {
-        line: "rdfconv convert --node-prefix=",
-        reported: "rdfconv: bad node prefix\n",
-    },
-    Refused {
-        line: "rdfconv convert --graph g",
-        reported: "rdfconv: bad graph\n",
-    },
-    Refused {
-        line: "rdfconv convert --graph=",
-        reported: "rdfconv: bad graph\n",
-    },
-    Refused {
-        line: "rdfconv convert --graph a:12345678 --iri 9",
-        reported: "rdfconv: bad graph\n",
-    },
-    Refused {
-        line: "rdfconv check --graph a:g",
-        reported: "error: unexpected argument '--graph' found\n\n  tip: to pass '--graph' as a value, use '-- --graph'\n\nUsage: rdfconv check [OPTIONS] [FILE]...\n\nFor more information, try '--help'.\n",
-    },
-    Refused {
-        line: "rdfconv convert --skip bad.nt data.nt",
-        reported: "rdfconv: --skip takes one document of nt or nq\n",
-    },
-    Refused {
-        line: "rdfconv check --format name --skip=bad.nt a.nt b.nt",
-        reported: "rdfconv: --skip takes one document of nt or nq\n",
-    },
-    Refused {
-        line: "rdfconv show --skip bad.nt",
-        reported: "error: unexpected argument '--skip' found\n\n  tip: to pass '--skip' as a value, use '-- --skip'\n\nUsage: rdfconv show [OPTIONS] [FILE]\n\nFor more information, try '--help'.\n",
-    },
-    Refused {
-        line: "rdfconv convert --format name data.nt.gz",
-        reported: "rdfconv: no format in the name data.nt.gz\n",
-    },
-    Refused {
-        line: "rdfconv show --format=name",
-        reported: "rdfconv: no format in the name -\n",
-    },
-    Refused {
-        line: "rdfconv check --format=name -",
-        reported: "rdfconv: no format in the name -\n",
-    },
-    Refused {
-        line: "rdfconv check --format=name a.nt b.ttl nt c.trig",
-        reported: "rdfconv: no format in the name nt\n",
-    },
+const CONVERT_ASCII: &str = "Usage: rdfconv convert --ascii [FILE]\n\n";
+
+const NO_USAGE: &str = "";
+
+/// The error where no command is named.
+const NO_COMMAND: &str =
+    "'rdfconv' requires a subcommand but one was not provided\n  [subcommands: check, show, convert, help]";
+
+/// Lines with an option that their command does not take: the line, the option, and what is said of the usage. In a
+/// line here and below there is a space between each two words.
+pub(crate) static UNEXPECTED: [(&str, &str, &str); 9] = [
+    ("rdfconv check --colour x", "--colour", CHECK),
+    ("rdfconv show --prefixes ex.txt", "--prefixes", SHOW),
+    ("rdfconv check --ascii", "--ascii", CHECK),
+    ("rdfconv show --ascii", "--ascii", SHOW),
+    ("rdfconv check --node-prefix a", "--node-prefix", CHECK),
+    ("rdfconv show --node-prefix=a", "--node-prefix", SHOW),
+    ("rdfconv check -o out.nq", "-o", CHECK),
+    ("rdfconv check --graph a:g", "--graph", CHECK),
+    ("rdfconv show --skip bad.nt", "--skip", SHOW),
+];
+
+/// Other lines that are no task: the line, which is empty where there are no words; the error; and what is said of the
+/// usage.
+#[rattlefmt::skip]
+pub(crate) static MISUSED: [(&str, &str, &str); 18] = [
+    ("", NO_COMMAND, COMMAND),
+    ("rdfconv", NO_COMMAND, COMMAND),
+    ("rdfconv delete --format nt", "unrecognized subcommand 'delete'", COMMAND),
+    ("rdfconv convert --format xml",
+        "invalid value 'xml' for '--format <FORMAT>'\n  [possible values: nt, nq, ttl, trig, name]", NO_USAGE),
+    ("rdfconv check --format --help", "\
+        a value is required for '--format <FORMAT>' but none was supplied\n  [possible values: nt, nq, \
+        ttl, trig, name]", NO_USAGE),
+    ("rdfconv convert --format=nt --format=nt", "the argument '--format <FORMAT>' cannot be used multiple times",
+        CONVERT),
+    ("rdfconv show a.nt b.nt", "unexpected argument 'b.nt' found", SHOW),
+    ("rdfconv convert --ascii --ascii", "the argument '--ascii' cannot be used multiple times", CONVERT),
+    ("rdfconv convert --ascii=true", "unexpected value 'true' for '--ascii' found; no more were expected",
+        CONVERT_ASCII),
+    ("rdfconv convert --node-prefix", "a value is required for '--node-prefix <WORD>' but none was supplied", NO_USAGE),
+    ("rdfconv convert --node-prefix=a --node-prefix=b",
+        "the argument '--node-prefix <WORD>' cannot be used multiple times", CONVERT),
+    ("rdfconv convert -o a.nq --output=b.nq", "the argument '--output <OUTPUT>' cannot be used multiple times",
+        CONVERT),
+    ("rdfconv convert --token=0", "invalid value '0' for '--token <N>': 0 is not in 1..=268435456", NO_USAGE),
+    ("rdfconv convert --depth=1048577", "invalid value '1048577' for '--depth <N>': 1048577 is not in 0..=1048576",
+        NO_USAGE),
+    ("rdfconv convert --bindings=16777217",
+        "invalid value '16777217' for '--bindings <N>': 16777217 is not in 0..=16777216", NO_USAGE),
+    ("rdfconv convert --iri=18446744073709551615",
+        "invalid value '18446744073709551615' for '--iri <N>': 18446744073709551615 is not in 1..=268435456", NO_USAGE),
+    ("rdfconv convert --token 18446744073709551616",
+        "invalid value '18446744073709551616' for '--token <N>': number too large to fit in target type", NO_USAGE),
+    ("rdfconv convert --iri=ten", "invalid value 'ten' for '--iri <N>': invalid digit found in string", NO_USAGE),
+];
+
+/// Lines whose words are a command with a text that is refused, and why.
+#[rattlefmt::skip]
+pub(crate) static REFUSED: [(&str, &str); 15] = [
+    ("rdfconv convert --format=nt --base s", "bad base"),
+    ("rdfconv convert --format=nt --base ", "bad base"),
+    ("rdfconv convert --iri=9 --base=http://a/b", "bad base"),
+    ("rdfconv convert --node-prefix a-b", "bad node prefix"),
+    ("rdfconv convert --node-prefix é", "bad node prefix"),
+    ("rdfconv convert --node-prefix=", "bad node prefix"),
+    ("rdfconv convert --graph g", "bad graph"),
+    ("rdfconv convert --graph=", "bad graph"),
+    ("rdfconv convert --graph a:12345678 --iri 9", "bad graph"),
+    ("rdfconv convert --skip bad.nt data.nt", "--skip takes one document of nt or nq"),
+    ("rdfconv check --format name --skip=bad.nt a.nt b.nt", "--skip takes one document of nt or nq"),
+    ("rdfconv convert --format name data.nt.gz", "no format in the name data.nt.gz"),
+    ("rdfconv show --format=name", "no format in the name -"),
+    ("rdfconv check --format=name -", "no format in the name -"),
+    ("rdfconv check --format=name a.nt b.ttl nt c.trig", "no format in the name nt"),
 ];

@@ -12,38 +12,15 @@ use refusing_alloc::Refusing;
 use std::alloc::{Allocator, Global};
 
 /// Formats, limits of open brackets, and documents.
+#[rattlefmt::skip]
 static DOCUMENTS: [(Form, u64, &str); 11] = [
-    (
-        Form::TriG,
-        9,
-        "<http://g/> { <http://a/s> <http://a/p> <http://a/s> }",
-    ),
-    (
-        Form::TriG,
-        9,
-        "PREFIX : <http://e/>\n:s :p [ :q ( 1 2 ) ] .",
-    ),
-    (
-        Form::TriG,
-        9,
-        "@prefix x: <http://x/> . x:a x:b%20\\~c x:d.e.",
-    ),
-    (
-        Form::TriG,
-        1,
-        "<http://a/s> <http://a/p> [ <http://a/q> [] ] .",
-    ),
-    (
-        Form::NQuads,
-        9,
-        "<http://a/s> <http://a/p> <http://a/s> . <http://a/s> <http://a/p> <http://a/s> .",
-    ),
+    (Form::TriG, 9, "<http://g/> { <http://a/s> <http://a/p> <http://a/s> }"),
+    (Form::TriG, 9, "PREFIX : <http://e/>\n:s :p [ :q ( 1 2 ) ] ."),
+    (Form::TriG, 9, "@prefix x: <http://x/> . x:a x:b%20\\~c x:d.e."),
+    (Form::TriG, 1, "<http://a/s> <http://a/p> [ <http://a/q> [] ] ."),
+    (Form::NQuads, 9, "<http://a/s> <http://a/p> <http://a/s> . <http://a/s> <http://a/p> <http://a/s> ."),
     (Form::TriG, 9, "<http://a/s> <http://a/p> ( \"a\" ( ) ) ."),
-    (
-        Form::TriG,
-        9,
-        "PREFIX x: <http://x/>\nx:s x:p x:o .\nPREFIX x: <http://y/>\nx:s x:p x:o .",
-    ),
+    (Form::TriG, 9, "PREFIX x: <http://x/>\nx:s x:p x:o .\nPREFIX x: <http://y/>\nx:s x:p x:o ."),
     (Form::NTriples, 9, LINES),
     (Form::NQuads, 9, LINES_OF_GRAPHS),
     (Form::Turtle, 9, STATEMENTS),
@@ -51,9 +28,10 @@ static DOCUMENTS: [(Form, u64, &str); 11] = [
 ];
 
 /// Each kind of term of N-Triples, and each escape.
-const LINES: &str =
-    "\u{FEFF}# c\n<http://a/\\u0073\\U00000074> <http://a/p> \"\\t\\b\\n\\r\\f\\\"\\'\\\\\\u00e9\\U0001F600'\"@en-GB . # c\r
-\n_:x.y <a:p> _:\u{E9} .\n<a:s> <a:p> \"x\"^^<a:\\u0074> .\n<a:s> <a:p> \"\"^^<http://www.w3.org/2001/XMLSchema#string> .\n<a:s> <a:p> \"\u{1F600}\" .";
+const LINES: &str = "\u{FEFF}# c\n\
+    <http://a/\\u0073\\U00000074> <http://a/p> \"\\t\\b\\n\\r\\f\\\"\\'\\\\\\u00e9\\U0001F600'\"@en-GB . # c\r\n\n\
+    _:x.y <a:p> _:\u{E9} .\n<a:s> <a:p> \"x\"^^<a:\\u0074> .\n\
+    <a:s> <a:p> \"\"^^<http://www.w3.org/2001/XMLSchema#string> .\n<a:s> <a:p> \"\u{1F600}\" .";
 
 /// The same with graphs.
 const LINES_OF_GRAPHS: &str =
@@ -62,21 +40,25 @@ const LINES_OF_GRAPHS: &str =
 
 /// Directives of both spellings, a base and a prefix given anew, and each kind of term, string, escape, number and
 /// bracket of Turtle.
-const STATEMENTS: &str = "@base <http://h/b/c> .\nBASE <../d/>\n@prefix : <#> .\nPREFIX x: <e?q#f>
-:s a x:b%20\\~c, <s\\u0061>, _:l.x ; x:p 'a\\'\\t\\b\\n\\r\\f\\\"\\\\\\u00e9\\U0001F600'@en-GB, \"b\"^^x:t, \"c\", '''a'
-\"\\\"b''\\n''', \"\"\" \"\" \\u0041\"\"\"^^<t>, 1, -1.5, +.5e-3, true, false ; ; .
-@prefix x: <http://y/> .\n[ x:p [ x:q ( 1 [ ] ( ( \"a\" ) ) () ) ] ] x:r () .\n( 1 [ x:p x:o ; a x:c ] ) x:p [] .\n[ x:p x:o ] .";
+const STATEMENTS: &str =
+    "@base <http://h/b/c> .\nBASE <../d/>\n@prefix : <#> .\nPREFIX x: <e?q#f>\n\
+    :s a x:b%20\\~c, <s\\u0061>, _:l.x ; x:p 'a\\'\\t\\b\\n\\r\\f\\\"\\\\\\u00e9\\U0001F600'@en-GB, \
+    \"b\"^^x:t, \"c\", '''a'\n\
+    \"\\\"b''\\n''', \"\"\" \"\" \\u0041\"\"\"^^<t>, 1, -1.5, +.5e-3, true, false ; ; .\n\
+    @prefix x: <http://y/> .\n[ x:p [ x:q ( 1 [ ] ( ( \"a\" ) ) () ) ] ] x:r () .\n\
+    ( 1 [ x:p x:o ; a x:c ] ) x:p [] .\n[ x:p x:o ] .";
 
 /// Blocks of each kind of graph, with what a block has of TriG and what stands between them.
 const BLOCKS: &str =
-    "@prefix : <http://e/> .\n{ :s :p :o . :s :p 'x'@en }\n:g { :s :p ( 1 [ :q :r ] ) . }
-GRAPH _:g { [ :p :o ] a :c . }\n[] { :s :p \"\"\"a\"b\"\"\" }\nBASE <http://h/b>\nGRAPH <g> { }\n<g> { <s> <p> <o>, <?q> ; <r> 1.5 }\n_:x :p _:g .";
+    "@prefix : <http://e/> .\n{ :s :p :o . :s :p 'x'@en }\n:g { :s :p ( 1 [ :q :r ] ) . }\n\
+    GRAPH _:g { [ :p :o ] a :c . }\n[] { :s :p \"\"\"a\"b\"\"\" }\nBASE <http://h/b>\nGRAPH <g> { }\n\
+    <g> { <s> <p> <o>, <?q> ; <r> 1.5 }\n_:x :p _:g .";
 
 /// More growths or calls than any of these runs makes.
 const MOST: u64 = 5000;
 
 /// What a run meets after some calls: a growth that is refused, a fill that fails, or a put.
-#[derive(Clone, Copy, PartialEq, Eq)]
+#[derive(Clone, Copy, PartialEq, Eq, Debug)]
 enum Met {
     Growth,
     Fill,
@@ -186,7 +168,7 @@ fn unstopped(alloc: Global, met: Met) -> Option<(&'static str, Task)> {
 #[test]
 fn whichever_call_of_a_device_fails_the_run_ends_there(rt: HostRuntime) {
     for met in [Met::Fill, Met::Put] {
-        assert_eq!(rt; unstopped(rt.alloc(), met), None);
+        assert_eq!(rt; unstopped(rt.alloc(), met), None, "{met:?}");
     }
 }
 

@@ -5,6 +5,7 @@ use rdf_tokens::{Dialect, Kind};
 use std::alloc::Global;
 
 // The bytes from a place on, and what stands there where they are the last.
+#[rattlefmt::skip]
 static ROWS: [(Dialect, &str, Sight); 31] = [
     (Dialect::Turtle, "<http://a/o b> .", Sight::Stop(11)),
     (Dialect::Lines, "<http://a/o b> .", Sight::Stop(11)),
@@ -19,11 +20,7 @@ static ROWS: [(Dialect, &str, Sight); 31] = [
     (Dialect::Turtle, "uthor \"x\"", Sight::Stop(5)),
     (Dialect::Turtle, "\u{feff}<a:b>", Sight::Stop(3)),
     (Dialect::Lines, "\u{feff}", Sight::Stop(0)),
-    (
-        Dialect::Turtle,
-        "a:\u{e9}t\u{e9} ",
-        Sight::Token(Kind::PnameLn, 7),
-    ),
+    (Dialect::Turtle, "a:\u{e9}t\u{e9} ", Sight::Token(Kind::PnameLn, 7)),
     (Dialect::Turtle, "\u{e9}t\u{e9} .", Sight::Stop(5)),
     (Dialect::Turtle, "\u{e9}t\u{e9}\u{d7} .", Sight::Stop(5)),
     (Dialect::Turtle, "\u{e9}t\u{e9}", Sight::Stop(5)),
@@ -31,29 +28,13 @@ static ROWS: [(Dialect, &str, Sight); 31] = [
     (Dialect::Turtle, "'''a''", Sight::Stop(6)),
     (Dialect::Turtle, "", Sight::Unknown),
     (Dialect::Turtle, " # a comment", Sight::Unknown),
-    (
-        Dialect::Turtle,
-        " # a comment\n;",
-        Sight::Token(Kind::Semicolon, 1),
-    ),
+    (Dialect::Turtle, " # a comment\n;", Sight::Token(Kind::Semicolon, 1)),
     (Dialect::Lines, "\r\n\n.", Sight::Token(Kind::LineEnd, 1)),
     (Dialect::Turtle, "\"\\uD800\"", Sight::BadEscape(1)),
-    (
-        Dialect::Lines,
-        "<http://a/\\u0041\\u0020> .",
-        Sight::BadEscape(16),
-    ),
-    (
-        Dialect::Turtle,
-        "'''\u{e9}''\\n\\U00110000'''",
-        Sight::BadEscape(9),
-    ),
+    (Dialect::Lines, "<http://a/\\u0041\\u0020> .", Sight::BadEscape(16)),
+    (Dialect::Turtle, "'''\u{e9}''\\n\\U00110000'''", Sight::BadEscape(9)),
     (Dialect::Turtle, "<a:\\uDFFF>", Sight::BadEscape(3)),
-    (
-        Dialect::Turtle,
-        "<a:b> \"\\uD800\"",
-        Sight::Token(Kind::IriRef, 5),
-    ),
+    (Dialect::Turtle, "<a:b> \"\\uD800\"", Sight::Token(Kind::IriRef, 5)),
     (Dialect::Turtle, "\"a\\z\"", Sight::Stop(3)),
     (Dialect::Turtle, "^a", Sight::Stop(1)),
     (Dialect::Turtle, "_:a.b. ", Sight::Token(Kind::LabelNode, 5)),
@@ -61,9 +42,9 @@ static ROWS: [(Dialect, &str, Sight); 31] = [
 
 #[test]
 fn what_stands_at_a_place_is_told(rt: HostRuntime) {
-    for row in ROWS.as_slice() {
-        let sight = sight_of(rt.alloc(), row.0, 1000, row.1.as_bytes(), true);
-        assert_eq!(rt; sight, Ok(row.2), "{}", row.1);
+    for (dialect, text, told) in ROWS.as_slice() {
+        let sight = sight_of(rt.alloc(), *dialect, 1000, text.as_bytes(), true);
+        assert_eq!(rt; sight, Ok(*told), "{text}");
     }
 }
 
@@ -74,12 +55,12 @@ fn is_told_early(sight: Sight, whole: Sight) -> bool {
 
 #[test]
 fn fewer_bytes_tell_the_same_or_nothing(rt: HostRuntime) {
-    for row in ROWS.as_slice() {
-        let bytes = row.1.as_bytes();
+    for (dialect, text, told) in ROWS.as_slice() {
+        let bytes = text.as_bytes();
         for len in 0..bytes.len() {
-            match sight_of(rt.alloc(), row.0, 1000, &bytes[..len], false) {
-                Ok(sight) => assert!(rt; is_told_early(sight, row.2), "{} {len}", row.1),
-                Err(_) => assert!(rt; false),
+            match sight_of(rt.alloc(), *dialect, 1000, &bytes[..len], false) {
+                Ok(sight) => assert!(rt; is_told_early(sight, *told), "{len} bytes of {text}"),
+                Err(_) => assert!(rt; false, "no memory for {len} bytes of {text}"),
             }
         }
     }
@@ -116,15 +97,16 @@ static LONG: [(usize, u64); 7] = [
 fn a_long_string_is_read_in_parts(rt: HostRuntime) {
     for (len, count) in LONG.as_slice() {
         let open = long_sight(rt.alloc(), (Dialect::Lines, 100_000), *len, b"\n<a:b>");
-        assert_eq!(rt; open, Some(Sight::Stop(*count)));
+        assert_eq!(rt; open, Some(Sight::Stop(*count)), "{len} open");
         let over = long_sight(rt.alloc(), (Dialect::Turtle, 1000), *len, b"\n<a:b>");
-        assert_eq!(rt; over, Some(Sight::Unknown));
+        assert_eq!(rt; over, Some(Sight::Unknown), "{len} over the limit");
         let closed = long_sight(rt.alloc(), (Dialect::Turtle, 100_000), *len, b"\" .");
         assert_eq!(rt;
             closed,
-            Some(Sight::Token(Kind::ShortString, count.saturating_add(1)))
+            Some(Sight::Token(Kind::ShortString, count.saturating_add(1))),
+            "{len} closed"
         );
         let broken = long_sight(rt.alloc(), (Dialect::Turtle, 100_000), *len, b"\xff\" .");
-        assert_eq!(rt; broken, Some(Sight::Unknown));
+        assert_eq!(rt; broken, Some(Sight::Unknown), "{len} and a bad byte");
     }
 }

@@ -7,14 +7,17 @@ use std::alloc::Global;
 
 /// Good lines and bad ones, with each kind of line end; a byte order mark in front of one; and no end after the last.
 const DOCUMENT: &[u8] =
-    b"<a:s> <a:p> <a:o> .\n<a:s> <a:p> .\n# a comment\r\n<a:s> <a:p> \"\\q\" .\r\xEF\xBB\xBF<a:s> <a:p> <a:o> .\n<a:s> <a:q> <a:o> .\n<a:s";
+    b"<a:s> <a:p> <a:o> .\n<a:s> <a:p> .\n# a comment\r\n<a:s> <a:p> \"\\q\" .\r\
+    \xEF\xBB\xBF<a:s> <a:p> <a:o> .\n<a:s> <a:q> <a:o> .\n<a:s";
 
 /// What is written of it.
 const WRITTEN: &[u8] = b"<a:s> <a:p> <a:o> .\n<a:s> <a:q> <a:o> .\n";
 
 /// What is put aside.
-const ASIDE: &[u8] =
-    b"# unexpected token at byte 32, line 2\n<a:s> <a:p> .\n# no token at byte 59, line 4\n<a:s> <a:p> \"\\q\" .\r# no token at byte 66, line 4\n\xEF\xBB\xBF<a:s> <a:p> <a:o> .\n# no token at byte 109, line 6\n<a:s";
+const ASIDE: &[u8] = b"# unexpected token at byte 32, line 2\n<a:s> <a:p> .\n\
+    # no token at byte 59, line 4\n<a:s> <a:p> \"\\q\" .\r\
+    # no token at byte 66, line 4\n\xEF\xBB\xBF<a:s> <a:p> <a:o> .\n\
+    # no token at byte 109, line 6\n<a:s";
 
 /// Whether the good lines are written and the bad ones put aside, where the document is cut there.
 fn is_sifted(alloc: Global, cut: usize) -> bool {

@@ -8,85 +8,13 @@ use rdf_terms::Reason;
 use rdf_trig::DocForm;
 use std::alloc::Global;
 
-/// A document of pieces, each of which comes some times over: how many brackets may be open, how many quads are
-/// put, and why it is refused, at which byte, if it is.
-struct Nested {
-    depth: u64,
-    pieces: &'static [Piece<'static>],
-    quads: u64,
-    refused: Option<(Reason, u64)>,
-}
-
-static NESTED: [Nested; 3] = [
-    Nested {
-        depth: 100000,
-        pieces: &[
-            Piece {
-                bytes: b"<http://a/s> <http://a/p> ",
-                times: 1,
-            },
-            Piece {
-                bytes: b"((((((((((",
-                times: 10000,
-            },
-            Piece {
-                bytes: b"))))))))))",
-                times: 10000,
-            },
-            Piece {
-                bytes: b" .",
-                times: 1,
-            },
-        ],
-        quads: 199999,
-        refused: None,
-    },
-    Nested {
-        depth: 100000,
-        pieces: &[
-            Piece {
-                bytes: b"<http://a/s> <http://a/p> ",
-                times: 1,
-            },
-            Piece {
-                bytes: b"[ <http://a/q> (",
-                times: 50000,
-            },
-            Piece {
-                bytes: b")]",
-                times: 50000,
-            },
-            Piece {
-                bytes: b" .",
-                times: 1,
-            },
-        ],
-        quads: 149999,
-        refused: None,
-    },
-    Nested {
-        depth: 99999,
-        pieces: &[
-            Piece {
-                bytes: b"<http://a/s> <http://a/p> ",
-                times: 1,
-            },
-            Piece {
-                bytes: b"((((((((((",
-                times: 10000,
-            },
-            Piece {
-                bytes: b"))))))))))",
-                times: 10000,
-            },
-            Piece {
-                bytes: b" .",
-                times: 1,
-            },
-        ],
-        quads: 99998,
-        refused: Some((Reason::TooDeep, 100025)),
-    },
+/// Documents with nested brackets: how many may be open; what opens some and what closes them, and how often each
+/// comes; how many quads are put; and why the document is refused, at which byte, if it is.
+#[rattlefmt::skip]
+static NESTED: [(u64, &[u8], &[u8], u32, u64, Option<(Reason, u64)>); 3] = [
+    (100_000, b"((((((((((", b"))))))))))", 10_000, 199_999, None),
+    (100_000, b"[ <http://a/q> (", b")]", 50_000, 149_999, None),
+    (99_999, b"((((((((((", b"))))))))))", 10_000, 99_998, Some((Reason::TooDeep, 100_025))),
 ];
 
 /// What came of a document of pieces under these limits.
@@ -116,14 +44,25 @@ fn is_answered(answer: Result<Summary, Fault>, refused: Option<(Reason, u64)>) -
     }
 }
 
-fn is_nested_so(alloc: Global, nested: &Nested) -> bool {
-    let limits = [100, nested.depth, 9, 100];
+/// Whether a document with these pieces in its object, where so many brackets may be open, puts so many quads and is
+/// refused for that, if it is.
+fn is_nested_so(
+    alloc: Global,
+    depth: u64,
+    [open, close]: [Piece<'_>; 2],
+    quads: u64,
+    refused: Option<(Reason, u64)>,
+) -> bool {
+    let pieces = [
+        Piece(b"<http://a/s> <http://a/p> ", 1),
+        open,
+        close,
+        Piece(b" .", 1),
+    ];
     let mut sink = CountingSink { quads: 0 };
-    match report(alloc, limits, nested.pieces, &mut sink) {
+    match report(alloc, [100, depth, 9, 100], pieces.as_slice(), &mut sink) {
         Some(report) => {
-            is_answered(report.answer, nested.refused)
-                && report.has_ended
-                && sink.quads == nested.quads
+            is_answered(report.answer, refused) && report.has_ended && sink.quads == quads
         }
         None => false,
     }
@@ -131,17 +70,19 @@ fn is_nested_so(alloc: Global, nested: &Nested) -> bool {
 
 #[test]
 fn brackets_nest_as_deep_as_the_limit_says(rt: HostRuntime) {
-    for i in 0..NESTED.len() {
-        assert!(rt; is_nested_so(rt.alloc(), &NESTED[i]), "document {i}");
+    for (depth, open, close, times, quads, refused) in NESTED.as_slice() {
+        let pieces = [Piece(open, *times), Piece(close, *times)];
+        assert!(rt;
+            is_nested_so(rt.alloc(), *depth, pieces, *quads, *refused),
+            "{} where {depth} may be open",
+            open.escape_ascii()
+        );
     }
 }
 
 /// How many bytes are held after a piece.
 fn held_after(alloc: Global, limits: [u64; 4], piece: &str) -> Option<u64> {
-    let pieces = [Piece {
-        bytes: piece.as_bytes(),
-        times: 1,
-    }];
+    let pieces = [Piece(piece.as_bytes(), 1)];
     let mut sink = CountingSink { quads: 0 };
     let report = report(alloc, limits, pieces.as_slice(), &mut sink)?;
     Some(report.held)
@@ -149,18 +90,11 @@ fn held_after(alloc: Global, limits: [u64; 4], piece: &str) -> Option<u64> {
 
 /// Limits, a piece, and how many bytes are held after it. The prefix of a directive is held until another text
 /// takes its place.
+#[rattlefmt::skip]
 static HELD: [([u64; 4], &str, u64); 3] = [
-    (
-        [16, 2, 1, 64],
-        "@base <http://a.org/b> . PREFIX x: <http://x/> ",
-        25,
-    ),
+    ([16, 2, 1, 64], "@base <http://a.org/b> . PREFIX x: <http://x/> ", 25),
     ([1, 0, 0, 1], "", 0),
-    (
-        [100, 9, 9, 100],
-        "<http://a/s> <http://a/p> [ <http://a/p> ( ",
-        30,
-    ),
+    ([100, 9, 9, 100], "<http://a/s> <http://a/p> [ <http://a/p> ( ", 30),
 ];
 
 #[test]
