@@ -1,7 +1,8 @@
 // What a call answers.
 
 ghost use Rattle.std.specs.Prelude.{◌≡◌};
-ghost use Rattle.rdf_c.specs.Numbers.{number_of_binding_reason, number_of_reason, outcome_of_prefixes, outcome_of_status};
+ghost use Rattle.rdf_c.specs.Numbers.{number_of_binding_reason, number_of_reason, outcome_of_prefixes};
+ghost use Rattle.rdf_c.specs.Numbers.{outcome_of_status};
 
 use rdf_stream::{BindingFault, BindingReason};
 use rdf_terms::Reason;

@@ -3,7 +3,8 @@
 ghost use Rattle.std.specs.Prelude.{◌≡◌, IfOk, IfErr, IfSome, IfNone, OnOk};
 ghost use Rattle.rdf_iri.specs.Bindings.{IsReadFrom};
 ghost use Rattle.std.specs.Str.{chars};
-ghost use Rattle.rdf_c.specs.Calls.{AsksFor, IsBaseText, IsWordText, NamesNoBase, NamesNoWord, AsksForNone, FailsToBind};
+ghost use Rattle.rdf_c.specs.Calls.{AsksFor, IsBaseText, IsWordText, NamesNoBase, NamesNoWord, AsksForNone};
+ghost use Rattle.rdf_c.specs.Calls.{FailsToBind};
 ghost use Rattle.rdf_c.specs.Numbers.{base_of, number_of_escapes, number_of_form, IsEscapesNumber, IsFormNumber};
 
 use rdf_iri::read_bindings;

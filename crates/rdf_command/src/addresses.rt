@@ -4,7 +4,8 @@ ghost use Rattle.std.specs.Prelude.{◌≡◌, ◌++◌, ◌≤◌, ◌<◌, IfO
 ghost use Rattle.std.specs.Fmt.{digit_glyph};
 ghost use Rattle.std.specs.Result.{IsErrOf};
 ghost use Rattle.rdf_iri.specs.Texts.{byte_len};
-ghost use Rattle.rdf_command.specs.Addresses.{HasNoAddress, IsAddress, address_of, in_address, in_folder, is_absolute, is_plain, path_of};
+ghost use Rattle.rdf_command.specs.Addresses.{HasNoAddress, IsAddress, address_of, in_address, in_folder, is_absolute};
+ghost use Rattle.rdf_command.specs.Addresses.{is_plain, path_of};
 
 use crate::commands::iri_within;
 use rdf_stream::{Iri, TermFault};

@@ -4,7 +4,8 @@ ghost use Rattle.std.specs.Prelude.{◌≡◌, false, IfErr, IfOk, None, OnOk, S
 ghost use Rattle.rdf_iri.specs.Scope.{BaseFits};
 ghost use Rattle.rdf_stream.specs.Skips.{HasLines};
 ghost use Rattle.rdf_stream.specs.Told.{told, written};
-ghost use Rattle.rdf_command.specs.Asides.{AsideBy, AsideEnds, AsideInto, AsideOnly, AsideOnto, AsideOut, EndsBySkip, IsPutAside, NotPutAside, output_called};
+ghost use Rattle.rdf_command.specs.Asides.{AsideBy, AsideEnds, AsideInto, AsideOnly, AsideOnto, AsideOut, EndsBySkip};
+ghost use Rattle.rdf_command.specs.Asides.{IsPutAside, NotPutAside, output_called};
 ghost use Rattle.rdf_command.specs.RunSteps.{told_by};
 ghost use Rattle.rdf_command.specs.Programs.{outputs_of};
 ghost use Rattle.rdf_command.specs.Reasons.{ReportsStop, broken, device, devices_of, drain_tells, source_tells};

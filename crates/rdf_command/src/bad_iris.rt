@@ -3,7 +3,8 @@
 ghost use Rattle.std.specs.Prelude.{◌≡◌, ◌++◌, IfOk, IfSome, OnOk, encode_utf8, encode_utf8_all, map, option_map};
 ghost use Rattle.std.specs.Str.{chars};
 ghost use Rattle.rdf_iri.specs.Texts.{byte_len};
-ghost use Rattle.rdf_command.specs.BadIris.{bad_char, bad_char_text, bad_iri_text, char_text, iri_front, number_text, quoted_text, shown, too_long_text, why_bad};
+ghost use Rattle.rdf_command.specs.BadIris.{bad_char, bad_char_text, bad_iri_text, char_text, iri_front, number_text};
+ghost use Rattle.rdf_command.specs.BadIris.{quoted_text, shown, too_long_text, why_bad};
 
 use crate::addresses::hex_digit;
 use rdf_stream::put_number;

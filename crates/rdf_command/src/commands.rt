@@ -1,6 +1,7 @@
 // The task that the words of the command line ask for.
 
-ghost use Rattle.std.specs.Prelude.{◌≡◌, ◌⊎◌, ◌<◌, ◌≤◌, ◌^◌, IfErr, IfOk, IfSome, OnOk, Some, Option, chars, codes, false, true, cond, map, option_map, string_bytes, ℕ, List};
+ghost use Rattle.std.specs.Prelude.{◌≡◌, ◌⊎◌, ◌<◌, ◌≤◌, ◌^◌, IfErr, IfOk, IfSome, OnOk, Some, Option, chars, codes};
+ghost use Rattle.std.specs.Prelude.{false, true, cond, map, option_map, string_bytes, ℕ, List};
 ghost use Rattle.std.specs.Result.{IsErrOf};
 ghost use Rattle.clap.specs.Words.{App, Text, all_of, first_of, found_of, kind_of, rows_of, subcommand_rows_of};
 ghost use Rattle.clap.specs.declared.builder.value_parser.ValueParser.{ValueParser};
@@ -13,11 +14,13 @@ ghost use Rattle.rdf_stream.specs.Skips.{HasLines};
 ghost use Rattle.rdf_command.specs.BadIris.{lines_by, lines_for, lines_of};
 ghost use Rattle.rdf_command.specs.RunSteps.{IsOfIri};
 ghost use Rattle.rdf_command.specs.Programs.{IsTaskOf, IsNoTaskOf, IsToldBy};
-ghost use Rattle.rdf_command.specs.Words.{GivesNone, GivesTask, HasSizes, IsBase, IsTaskBy, IsUsageOf, IsWord, number_of};
+ghost use Rattle.rdf_command.specs.Words.{GivesNone, GivesTask, HasSizes, IsBase, IsTaskBy, IsUsageOf, IsWord};
+ghost use Rattle.rdf_command.specs.Words.{number_of};
 ghost use Rattle.rdf_command.specs.WordSteps.{HasLimits, HasNumber, IsEntered};
 ghost use Rattle.rdf_command.specs.Words.{SkipFits, base_by, escapes_by, file_by, is_addressed, is_given};
 ghost use Rattle.rdf_command.specs.WordSteps.{NoBaseOf, NoFormOf, NoFormsOf, NoGraphOf, NoSkipOf, NoTaskBy, NoWordOf};
-ghost use Rattle.rdf_command.specs.Words.{AreDocuments, CanSkip, IsFormBy, format_names, further_by, further_of, name_by};
+ghost use Rattle.rdf_command.specs.Words.{AreDocuments, CanSkip, IsFormBy, format_names, further_by, further_of};
+ghost use Rattle.rdf_command.specs.Words.{name_by};
 ghost use Rattle.rdf_command.specs.WordSteps.{IsFormatWord};
 
 use crate::bad_iris::bad_iri_lines;

@@ -1,13 +1,16 @@
 // The whole program, over what it is started with.
 
-ghost use Rattle.std.specs.Prelude.{◌≡◌, ◌⊎◌, ◌≤◌, false, IfErr, IfOk, IfSome, List, map, Option, option_map, Some, string_bytes, ℕ};
+ghost use Rattle.std.specs.Prelude.{◌≡◌, ◌⊎◌, ◌≤◌, false, IfErr, IfOk, IfSome, List, map, Option, option_map, Some};
+ghost use Rattle.std.specs.Prelude.{string_bytes, ℕ};
 ghost use Rattle.clap.specs.Words.{Text};
 ghost use Rattle.rdf_iri.specs.Scope.{BaseFits};
 ghost use Rattle.std.specs.Result.{IsErrOf};
 ghost use Rattle.rdf_iri.specs.Texts.{byte_len};
 ghost use Rattle.rdf_command.specs.Addresses.{IsAddress, LacksAddress};
 ghost use Rattle.rdf_command.specs.RunSteps.{IsOfIri};
-ghost use Rattle.rdf_command.specs.Programs.{HasPrefixes, HostEnds, IsGiven, IsNotGiven, IsNoTaskOf, IsTaskOf, IsToldBy, OneEnds, OneEndsAt, TaskEnds, file_of, folders_of, outputs_of, prefixes_of, shut_of};
+ghost use Rattle.rdf_command.specs.Programs.{HasPrefixes, HostEnds, IsGiven, IsNotGiven, IsNoTaskOf, IsTaskOf};
+ghost use Rattle.rdf_command.specs.Programs.{IsToldBy, OneEnds, OneEndsAt, TaskEnds, file_of, folders_of, outputs_of};
+ghost use Rattle.rdf_command.specs.Programs.{prefixes_of, shut_of};
 ghost use Rattle.rdf_command.specs.Reasons.{devices_of, drain_tells};
 ghost use Rattle.rdf_command.specs.Runs.{AreFresh, AsWritten, files_told};
 ghost use Rattle.rdf_command.specs.Words.{SkipFits};

@@ -1,6 +1,7 @@
 // What the program is started with, and the process that starts it.
 
-ghost use Rattle.std.specs.Prelude.{◌≡◌, false, true, IfErr, IfOk, List, is_some, map, None, OnErr, OnOk, Option, option_map, Some, string_bytes, ℕ, ⊤};
+ghost use Rattle.std.specs.Prelude.{◌≡◌, false, true, IfErr, IfOk, List, is_some, map, None, OnErr, OnOk, Option};
+ghost use Rattle.std.specs.Prelude.{option_map, Some, string_bytes, ℕ, ⊤};
 ghost use Rattle.clap.specs.Words.{Text};
 ghost use Rattle.rdf_command.specs.Outputs.{IsEmpty};
 ghost use Rattle.rdf_command.specs.Reasons.{OneTells};

@@ -2,9 +2,11 @@
 
 ghost use Rattle.std.specs.Prelude.{◌≡◌, ◌⊎◌, ◌++◌, codes, decimal, false, true, IfOk, OnOk, Option, option_map};
 ghost use Rattle.clap.specs.Words.{Text};
-ghost use Rattle.rdf_command.specs.Reasons.{ReportsBindings, ReportsFailed, ReportsFailedOf, ReportsNoOutput, ReportsShut, ReportsShutOf, ReportsStop, ReportsStopOf};
+ghost use Rattle.rdf_command.specs.Reasons.{ReportsBindings, ReportsFailed, ReportsFailedOf, ReportsNoOutput};
+ghost use Rattle.rdf_command.specs.Reasons.{ReportsShut, ReportsShutOf, ReportsStop, ReportsStopOf};
 ghost use Rattle.rdf_command.specs.Reasons.{bad_prefixes_text, device, reason_line};
-ghost use Rattle.rdf_command.specs.Statuses.{Reports, ReportsLoad, ReportsOf, load_status, output_status, prefixes_text};
+ghost use Rattle.rdf_command.specs.Statuses.{Reports, ReportsLoad, ReportsOf, load_status, output_status};
+ghost use Rattle.rdf_command.specs.Statuses.{prefixes_text};
 ghost use Rattle.rdf_stream.specs.Messages.{report_text};
 ghost use Rattle.rdf_stream.specs.declared.fault.LoadFault.{LoadFault};
 ghost use Rattle.rdf_stream.specs.declared.fault.StreamFault.{StreamFault};

@@ -5,8 +5,11 @@ ghost use Rattle.rdf_stream.specs.Messages.{report_text};
 ghost use Rattle.rdf_stream.specs.declared.fault.StreamFault.{StreamFault};
 ghost use Rattle.rdf_command.specs.BadIris.{RefusesWith};
 ghost use Rattle.rdf_command.specs.RunSteps.{IsOfIri};
-ghost use Rattle.rdf_command.specs.Statuses.{GoesTo, RefusesWords, Reports, ReportsExplained, ReportsExplainedOf, ReportsLoad, ReportsNoAddressOf, ReportsOf, address_status, address_text, explanation, load_status};
-ghost use Rattle.rdf_command.specs.Statuses.{ReportsCounts, counts_text, no_format_text, prefixes_text, skip_status, status_of};
+ghost use Rattle.rdf_command.specs.Statuses.{GoesTo, RefusesWords, Reports, ReportsExplained, ReportsExplainedOf};
+ghost use Rattle.rdf_command.specs.Statuses.{ReportsLoad, ReportsNoAddressOf, ReportsOf, address_status, address_text};
+ghost use Rattle.rdf_command.specs.Statuses.{explanation, load_status};
+ghost use Rattle.rdf_command.specs.Statuses.{ReportsCounts, counts_text, no_format_text, prefixes_text, skip_status};
+ghost use Rattle.rdf_command.specs.Statuses.{status_of};
 
 use crate::task::WordsFault;
 use clap::Error;

@@ -1,6 +1,7 @@
 // A run over the documents of a task.
 
-ghost use Rattle.std.specs.Prelude.{◌≡◌, ◌++◌, [], None, false, true, IfErr, IfOk, IfSome, OnErr, OnOk, is_err, option_map};
+ghost use Rattle.std.specs.Prelude.{◌≡◌, ◌++◌, [], None, false, true, IfErr, IfOk, IfSome, OnErr, OnOk, is_err};
+ghost use Rattle.std.specs.Prelude.{option_map};
 ghost use Rattle.std.specs.Io.KnownBytes.{Appends};
 ghost use Rattle.rdf_iri.specs.Scope.{BaseFits};
 ghost use Rattle.rdf_stream.specs.Converts.{IsConverted, IsPrompt, StopsFor};
@@ -10,7 +11,8 @@ ghost use Rattle.rdf_stream.specs.Jobs.{word_of};
 ghost use Rattle.rdf_stream.specs.Languages.{conversion_of};
 ghost use Rattle.rdf_stream.specs.Told.{AsTold, told};
 ghost use Rattle.rdf_command.specs.Reasons.{devices_of, standard_output};
-ghost use Rattle.rdf_command.specs.Runs.{AreFresh, AsWritten, Does, HandsOver, IsCheckedAs, RunEnds, SendsOn, StartsNot, StopsAction, StopsCheckAs, asked_near};
+ghost use Rattle.rdf_command.specs.Runs.{AreFresh, AsWritten, Does, HandsOver, IsCheckedAs, RunEnds, SendsOn};
+ghost use Rattle.rdf_command.specs.Runs.{StartsNot, StopsAction, StopsCheckAs, asked_near};
 ghost use Rattle.rdf_command.specs.RunSteps.{IsJobOf};
 ghost use Rattle.rdf_command.specs.Runs.{TellsEvidence, TellsOf, accepted_text, files_told, front_of};
 

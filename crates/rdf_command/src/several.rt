@@ -1,6 +1,7 @@
 // A check of several documents, one after the other.
 
-ghost use Rattle.std.specs.Prelude.{◌≡◌, ◌⊎◌, false, true, IfErr, IfOk, IfSome, List, None, OnErr, Option, Some, map, option_map, string_bytes, ℕ};
+ghost use Rattle.std.specs.Prelude.{◌≡◌, ◌⊎◌, false, true, IfErr, IfOk, IfSome, List, None, OnErr, Option, Some, map};
+ghost use Rattle.std.specs.Prelude.{option_map, string_bytes, ℕ};
 ghost use Rattle.rdf_iri.specs.Scope.{BaseFits};
 ghost use Rattle.rdf_stream.specs.Devices.{Reading};
 ghost use Rattle.rdf_stream.specs.Loads.{LoadStops};
@@ -10,7 +11,8 @@ ghost use Rattle.rdf_command.specs.Addresses.{IsFolderFor};
 ghost use Rattle.rdf_command.specs.Programs.{SeveralEnd, documents_of, folders_of, shut_of};
 ghost use Rattle.rdf_command.specs.Reasons.{devices_of};
 ghost use Rattle.rdf_command.specs.Runs.{AsWritten, StartsNot};
-ghost use Rattle.rdf_command.specs.Several.{AcceptsOne, BindsNotFrom, EndsAt, EndsEach, EndsOne, GivesBindings, IsCheckJob, StopsOne, has_failed_output, status_after, worse};
+ghost use Rattle.rdf_command.specs.Several.{AcceptsOne, BindsNotFrom, EndsAt, EndsEach, EndsOne, GivesBindings};
+ghost use Rattle.rdf_command.specs.Several.{IsCheckJob, StopsOne, has_failed_output, status_after, worse};
 ghost use Rattle.rdf_command.specs.RunSteps.{shared_of};
 
 use crate::addresses::address_within;

@@ -2,7 +2,8 @@
 
 ghost use Rattle.std.specs.Prelude.{◌≡◌, true, false, OnOk, IfOk, IfErr};
 ghost use Rattle.rdf_stream.specs.Checks.{CheckStops, IsAllAccepted};
-ghost use Rattle.rdf_stream.specs.CheckRuns.{BeginsToRead, CheckAccepts, CheckEnds, CheckHalts, HasChecked, IsChecking, ReadingStops};
+ghost use Rattle.rdf_stream.specs.CheckRuns.{BeginsToRead, CheckAccepts, CheckEnds, CheckHalts, HasChecked, IsChecking};
+ghost use Rattle.rdf_stream.specs.CheckRuns.{ReadingStops};
 ghost use Rattle.rdf_stream.specs.Expected.{ExpectsFor, NoDetails, trees_of};
 ghost use Rattle.rdf_stream.specs.ExpectedRuns.{RunExpects, Stands};
 ghost use Rattle.rdf_stream.specs.Faults.{IsRefusal};

@@ -1,7 +1,8 @@
 // From a document to the lines of its quads.
 
 ghost use Rattle.std.specs.Prelude.{◌≡◌, ◌++◌, true, false, OnOk, IfOk, IfErr, IfSome};
-ghost use Rattle.rdf_stream.specs.Converting.{Begins, ConversionStops, Converts, ConvertsWhole, IsConverting, IsPutting, KeepsPrompt, RunEnds, RunHalts, Starts, WholeStops};
+ghost use Rattle.rdf_stream.specs.Converting.{Begins, ConversionStops, Converts, ConvertsWhole, IsConverting};
+ghost use Rattle.rdf_stream.specs.Converting.{IsPutting, KeepsPrompt, RunEnds, RunHalts, Starts, WholeStops};
 ghost use Rattle.rdf_stream.specs.Converts.{AcceptsAll, IsPrompt, StopsFor};
 ghost use Rattle.rdf_stream.specs.Expected.{ExpectsFor, NoDetails, trees_of};
 ghost use Rattle.rdf_stream.specs.ExpectedRuns.{RunExpects, Stands};

@@ -1,6 +1,7 @@
 // Where bytes come from and where they go, and std's readers and writers in these places.
 
-ghost use Rattle.std.specs.Prelude.{◌≡◌, ℕ, ◌<◌, ◌≤◌, List, length, true, false, is_err, is_ok, is_some, Option, Bool, IfOk, OnErr};
+ghost use Rattle.std.specs.Prelude.{◌≡◌, ℕ, ◌<◌, ◌≤◌, List, length, true, false, is_err, is_ok, is_some, Option, Bool};
+ghost use Rattle.std.specs.Prelude.{IfOk, OnErr};
 ghost use Rattle.std.specs.Io.KnownBytes.{Keeps, ReadConsumes, WriteAppends};
 ghost use Rattle.rdf_stream.specs.Devices.{Reading, ReportsEnd, Written};
 

@@ -3,8 +3,11 @@
 ghost use Rattle.std.specs.Prelude.{◌≡◌, ◌||◌, ◌&&◌, ◌++◌, IfOk, OnOk, Some, drop, length, not, option_map};
 ghost use Rattle.rdf_driver.specs.Kinds.{has};
 ghost use Rattle.std.specs.List.{list_all};
-ghost use Rattle.rdf_stream.specs.Explains.{between, bytes_text, column_text, escape_len, escape_text, expected_text, explain_text, found_text, front_text, is_graphic, limit_of, limit_text, listed, name_of, note_text};
-ghost use Rattle.rdf_stream.specs.Explains.{only_said, open_text, opened_text, quoted_text, said, shown_text, sight_text, stop_text, stopped_text, told_text, word_of, words_for};
+ghost use Rattle.rdf_stream.specs.Explains.{between, bytes_text, column_text, escape_len, escape_text, expected_text};
+ghost use Rattle.rdf_stream.specs.Explains.{explain_text, found_text, front_text, is_graphic, limit_of, limit_text};
+ghost use Rattle.rdf_stream.specs.Explains.{listed, name_of, note_text};
+ghost use Rattle.rdf_stream.specs.Explains.{only_said, open_text, opened_text, quoted_text, said, shown_text};
+ghost use Rattle.rdf_stream.specs.Explains.{sight_text, stop_text, stopped_text, told_text, word_of, words_for};
 ghost use Rattle.rdf_stream.specs.ExplainTexts.{texts_of};
 
 use crate::brackets::Opened;

@@ -1,6 +1,7 @@
 // The sink that hands lines on to a drain.
 
-ghost use Rattle.std.specs.Prelude.{◌≡◌, ◌↔◌, [], ◌<◌, ◌≤◌, length, take, true, false, Bool, List, ℕ, Option, is_err, OnOk, OnErr, IfErr, IfOk};
+ghost use Rattle.std.specs.Prelude.{◌≡◌, ◌↔◌, [], ◌<◌, ◌≤◌, length, take, true, false, Bool, List, ℕ, Option, is_err};
+ghost use Rattle.std.specs.Prelude.{OnOk, OnErr, IfErr, IfOk};
 ghost use Rattle.std.specs.Io.KnownBytes.{Appends};
 ghost use Rattle.rdf_terms.specs.Views.{iris_quad, quad_of};
 ghost use Rattle.rdf_lines.specs.Canonical.{without_crs, written_as};
@@ -8,7 +9,8 @@ ghost use Rattle.rdf_stream.specs.Converting.{Reports};
 ghost use Rattle.rdf_stream.specs.Devices.{AppendsFront};
 ghost use Rattle.rdf_stream.specs.Faults.{IsSentOn};
 ghost use Rattle.rdf_tokens.specs.Scans.{token_of};
-ghost use Rattle.rdf_stream.specs.LineOut.{Leaves, LeavesBytes, PutHalts, SameOut, Takes, TakesBytes, Writes, line_bytes, most_waiting};
+ghost use Rattle.rdf_stream.specs.LineOut.{Leaves, LeavesBytes, PutHalts, SameOut, Takes, TakesBytes, Writes};
+ghost use Rattle.rdf_stream.specs.LineOut.{line_bytes, most_waiting};
 ghost use Rattle.rdf_stream.specs.Outputs.{line_of};
 ghost use Rattle.rdf_stream.specs.Passes.{RewritesText};
 ghost use Rattle.rdf_stream.specs.Showing.{LeavesToken, TakesToken};

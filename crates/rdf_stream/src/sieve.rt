@@ -1,10 +1,12 @@
 // Lines of a line format: good ones are converted, and bad ones are put aside.
 
-ghost use Rattle.std.specs.Prelude.{◌≡◌, ◌+◌, ◌<◌, ◌≤◌, ◌++◌, [], ◌∷◌, List, ℕ, true, false, length, take, drop, OnErr, IfOk, IfErr, IfSome, None};
+ghost use Rattle.std.specs.Prelude.{◌≡◌, ◌+◌, ◌<◌, ◌≤◌, ◌++◌, [], ◌∷◌, List, ℕ, true, false, length, take, drop, OnErr};
+ghost use Rattle.std.specs.Prelude.{IfOk, IfErr, IfSome, None};
 ghost use Rattle.rdf_tokens.specs.Scans.{most_bytes};
 ghost use Rattle.rdf_lines.specs.SplitLines.{split_lines};
 ghost use Rattle.rdf_lines.specs.declared.form.Style.{Style};
-ghost use Rattle.rdf_stream.specs.Sieves.{HasMarkBytes, HasNoMark, HasRoom, HasSifted, IsEndedFront, IsTried, PutBadFails, PutGoodFails, PutsBad, PutsGood, PutsNone, SiftFails, start_of};
+ghost use Rattle.rdf_stream.specs.Sieves.{HasMarkBytes, HasNoMark, HasRoom, HasSifted, IsEndedFront, IsTried};
+ghost use Rattle.rdf_stream.specs.Sieves.{PutBadFails, PutGoodFails, PutsBad, PutsGood, PutsNone, SiftFails, start_of};
 ghost use Rattle.rdf_stream.specs.Skips.{comment_text, fault_from, place_after};
 ghost use Rattle.rdf_stream.specs.declared.fault.StreamFault.TheVariants.{Memory};
 

@@ -1,6 +1,7 @@
 // Going on after bad lines.
 
-ghost use Rattle.std.specs.Prelude.{◌≡◌, ◌↔◌, ◌+◌, ◌-◌, ◌<◌, ◌≤◌, ◌++◌, ◌==◌, [], List, ℕ, true, false, length, take, drop, count_by, OnOk, IfOk, IfErr};
+ghost use Rattle.std.specs.Prelude.{◌≡◌, ◌↔◌, ◌+◌, ◌-◌, ◌<◌, ◌≤◌, ◌++◌, ◌==◌, [], List, ℕ, true, false, length, take};
+ghost use Rattle.std.specs.Prelude.{drop, count_by, OnOk, IfOk, IfErr};
 ghost use Rattle.rdf_lines.specs.declared.form.Style.{Style};
 ghost use Rattle.rdf_tokens.specs.Scans.{most_bytes};
 ghost use Rattle.rdf_stream.specs.Languages.{conversion_of};

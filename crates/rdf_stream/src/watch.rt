@@ -1,12 +1,14 @@
 // What is kept of the bytes of a document, to tell of the place of a refusal.
 
-ghost use Rattle.std.specs.Prelude.{◌≡◌, ◌≤◌, ◌<◌, ◌+◌, ◌^◌, ◌++◌, [], List, ℕ, None, Some, false, true, length, take, IfOk, IfSome};
+ghost use Rattle.std.specs.Prelude.{◌≡◌, ◌≤◌, ◌<◌, ◌+◌, ◌^◌, ◌++◌, [], List, ℕ, None, Some, false, true, length, take};
+ghost use Rattle.std.specs.Prelude.{IfOk, IfSome};
 ghost use Rattle.rdf_terms.specs.declared.kind.Dialect.{Dialect};
 ghost use Rattle.rdf_tokens.specs.Good.{tokens_of};
 ghost use Rattle.rdf_tokens.specs.Scans.{IsWaiting};
 ghost use Rattle.rdf_stream.specs.Brackets.{IsOpenBefore};
 ghost use Rattle.rdf_stream.specs.Opening.{HasOpen};
-ghost use Rattle.rdf_stream.specs.Places.{HandsOut, IsNear, column_after, last_of, line_after, line_rest, next_column, reach};
+ghost use Rattle.rdf_stream.specs.Places.{HandsOut, IsNear, column_after, last_of, line_after, line_rest, next_column};
+ghost use Rattle.rdf_stream.specs.Places.{reach};
 ghost use Rattle.rdf_stream.specs.Watches.{is_asked};
 ghost use Rattle.rdf_stream.specs.Kept.{Watches};
 ghost use Rattle.rdf_stream.specs.Watches.{IsNearFault, IsToldOf, WatchesAll};
