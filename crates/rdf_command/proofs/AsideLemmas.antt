@@ -10,7 +10,8 @@ use Rattle.rdf_command.specs.Reasons.{Device, Devices, ReportsStop, broken, devi
 use Rattle.rdf_command.specs.Runs.{Ending, FilesRead, StartsWith, job_of}
 use Rattle.rdf_command.specs.Words.{name_of}
 
-module _ (says : Outputs) (devices : Devices) (bad : Text) (t : Task) (prefixes : Option (Option (List ℕ))) (known : Option (List ℕ)) (before : Option Reading) (source : Reading) (e : Ending) where
+module _ (says : Outputs) (devices : Devices) (bad : Text) (t : Task) (prefixes : Option (Option (List ℕ))) (known : Option (List ℕ))
+    (before : Option Reading) (source : Reading) (e : Ending) where
   -- what a run is told, with these names of its document and of its output
   abbrev with_names : Text → Text → Told
   with_names document called = record { action = t.action; explain = t.explain; document = document; output = called; bad = bad }
@@ -26,7 +27,8 @@ module _ (says : Outputs) (devices : Devices) (bad : Text) (t : Task) (prefixes 
       inl (bindings, starts, subst (λ o. AsideBy o says devices (told_of t bad) (job_of t bindings) known source e) to by_output)
 
 -- What is said of such a run of a task with another name for bad lines is said of the task.
-pub aside_of : (t other : Task) (says : Outputs) (devices : Devices) (bad : Text) (prefixes : Option (Option (List ℕ))) (known : Option (List ℕ)) (left : FilesRead) (e : Ending)
+pub aside_of : (t other : Task) (says : Outputs) (devices : Devices) (bad : Text) (prefixes : Option (Option (List ℕ)))
+    (known : Option (List ℕ)) (left : FilesRead) (e : Ending)
     → AsideEnds says devices bad (record t { skip = other.skip }) prefixes known left e → AsideEnds says devices bad t prefixes known left e
 aside_of t other says devices bad prefixes known left e (inl h) = inl h
 aside_of t other says devices bad prefixes known left e (inr p) =
@@ -43,7 +45,8 @@ module _ (says : Outputs) (source : Reading → Option Text → Type 0) (one oth
 
   stops : StopsAside says these how job known left e → StopsAside says those how job known left e
   stops s =
-      let reports : Device → Type 0 = λ d. ReportsStop how.explain (device how.document (source left)) d s.fault s.evidence e.err_old e.err.contents e.err.has_failed in
+      let reports : Device → Type 0 =
+      λ d. ReportsStop how.explain (device how.document (source left)) d s.fault s.evidence e.err_old e.err.contents e.err.has_failed in
       let bad = device how.bad (says.output s.bad) in
       let of_bad = subst (λ b. reports (broken b (device how.output (one e.out)) bad)) live s.reported in
       record {

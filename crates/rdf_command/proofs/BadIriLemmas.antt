@@ -17,28 +17,36 @@ use Rattle.rdf_command.specs.Words.{TakesFormats, base_by, is_given, number_of}
 use Rattle.rdf_command.proofs.GivenLemmas.{same_some}
 
 -- a text that begins with a character that may stand in an IRI
-pub good_step : (c : ℕ) (w : List ℕ) → has iri_char c ≡ true → (bad_char (c ∷ w) ≡ bad_char w) × (byte_len (iri_front (c ∷ w)) ≡ length (encode_utf8 c) + byte_len (iri_front w))
-good_step c w e =
-    (ap (λ b. cond b (bad_char w) (Some c)) e, ap (λ b. byte_len (cond b (c ∷ iri_front w) [])) e ∙ length-append (encode_utf8 c) (encode_utf8_all (iri_front w)))
+pub good_step : (c : ℕ) (w : List ℕ) → has iri_char c ≡ true → (bad_char (c ∷ w) ≡ bad_char w)
+    × (byte_len (iri_front (c ∷ w)) ≡ length (encode_utf8 c) + byte_len (iri_front w))
+good_step c w e = (
+  ap (λ b. cond b (bad_char w) (Some c)) e,
+  ap (λ b. byte_len (cond b (c ∷ iri_front w) [])) e
+      ∙ length-append (encode_utf8 c) (encode_utf8_all (iri_front w)),
+)
 
 -- and with one that can't
 pub bad_step : (c : ℕ) (w : List ℕ) → has iri_char c ≡ false → (bad_char (c ∷ w) ≡ Some c) × (byte_len (iri_front (c ∷ w)) ≡ 0)
 bad_step c w e = (ap (λ b. cond b (bad_char w) (Some c)) e, ap (λ b. byte_len (cond b (c ∷ iri_front w) [])) e)
 
 -- the lines about a text of the matches, where they ask for an explanation
-module _ (rows : List Row) (fault : WordsFault) (most : ℕ) (text : Option Text) (asked : is_given (first_of (codes "explain") rows) ≡ true) (limit : number_of (codes "iri") rows ≡ Some most) where
+module _ (rows : List Row) (fault : WordsFault) (most : ℕ) (text : Option Text) (asked : is_given (first_of (codes "explain") rows) ≡ true)
+    (limit : number_of (codes "iri") rows ≡ Some most) where
   by_rows : lines_by rows fault ≡ lines_about rows fault
   by_rows = ap (λ b. cond b (lines_about rows fault) None) asked
 
-  pub lines_of_base : fault ≡ BadBase → text ≡ base_by (first_of (codes "base") rows) → lines_of (codes "rdfconv: bad base\n") text (Some most) ≡ lines_by rows fault
+  pub lines_of_base : fault ≡ BadBase → text ≡ base_by (first_of (codes "base") rows) →
+      lines_of (codes "rdfconv: bad base\n") text (Some most) ≡ lines_by rows fault
   lines_of_base is same =
       sym (by_rows ∙ (ap (lines_about rows) is
-      ∙ (ap (λ t. lines_of (codes "rdfconv: bad base\n") t (number_of (codes "iri") rows)) (sym same) ∙ ap (lines_of (codes "rdfconv: bad base\n") text) limit)))
+      ∙ (ap (λ t. lines_of (codes "rdfconv: bad base\n") t (number_of (codes "iri") rows)) (sym same)
+      ∙ ap (lines_of (codes "rdfconv: bad base\n") text) limit)))
 
   pub lines_of_graph : fault ≡ BadGraph → text ≡ first_of (codes "graph") rows → lines_of (codes "rdfconv: bad graph\n") text (Some most) ≡ lines_by rows fault
   lines_of_graph is same =
       sym (by_rows ∙ (ap (lines_about rows) is
-      ∙ (ap (λ t. lines_of (codes "rdfconv: bad graph\n") t (number_of (codes "iri") rows)) (sym same) ∙ ap (lines_of (codes "rdfconv: bad graph\n") text) limit)))
+      ∙ (ap (λ t. lines_of (codes "rdfconv: bad graph\n") t (number_of (codes "iri") rows)) (sym same)
+      ∙ ap (lines_of (codes "rdfconv: bad graph\n") text) limit)))
 
 -- the lines that a parse gives, where it does
 pub told_by : {S E : Type 0} (bytes : S → List ℕ) (parser : ValueParser) (words : List Text) (fault : WordsFault) (r : Result (Option S) E) (told : Option S)
@@ -58,7 +66,8 @@ module _ {S : Type 0} (bytes : S → List ℕ) where
 
   -- what is reported with what is told is what is reported with the lines
   pub refuses_with : (told : Option S) (lines : Option (List ℕ)) (fault : WordsFault) (status : ℕ) (old new : Option (List ℕ)) (failed : Bool)
-      → IfSome told (λ s. lines ≡ Some (bytes s)) → RefusesWith (option_map bytes told) fault status old new failed → RefusesWith lines fault status old new failed
+      → IfSome told (λ s. lines ≡ Some (bytes s)) → RefusesWith (option_map bytes told) fault status old new failed →
+      RefusesWith lines fault status old new failed
   refuses_with (Some s) lines fault status old new failed is r = subst (λ l. RefusesWith l fault status old new failed) (sym is) r
   refuses_with None None fault status old new failed is r = r
   refuses_with None (Some l) fault status old new failed is r = inr r

@@ -118,7 +118,13 @@ module _ (names : Bor (List (Bor Text))) (known : texts names.now ≡ format_nam
                   (refl, set),
                   (
                     (refl, flag),
-                    ((refl, set), ((refl, set), ((refl, flag), ((refl, set), ((refl, set), ((refl, set), ((refl, set), ((refl, inr (inr (inr refl))), tt)))))))),
+                    (
+                      (refl, set),
+                      (
+                        (refl, set),
+                        ((refl, flag), ((refl, set), ((refl, set), ((refl, set), ((refl, set), ((refl, inr (inr (inr refl))), tt)))))),
+                      ),
+                    ),
                   ),
                 ),
               ),
@@ -165,19 +171,23 @@ module _ (names : Bor (List (Bor Text))) (known : texts names.now ≡ format_nam
     unfolding clap_on_literals
     format-of =
         let format = value-of (options a) _ rows (are_read a).0.0 holds.pass (holds.defaults.0 (omega arith)) in
-        let among : list_any (λ name. bytes_eq name format.0) (texts names.now) ≡ true = sym (list_any-map (λ name. bytes_eq name format.0) (λ (s : Bor Text). s.now) names.now) ∙ format.2 in
+        let among : list_any (λ name. bytes_eq name format.0) (texts names.now) ≡ true =
+        sym (list_any-map (λ name. bytes_eq name format.0) (λ (s : Bor Text). s.now) names.now) ∙ format.2 in
         (format.0, format.1, format_word forms format.0 (subst (λ xs. list_any (λ name. bytes_eq name format.0) xs ≡ true) known among))
 
   -- the subcommand that the words name, with its matches
-  pub entered : (words : List Text) → fault_of (rdfconv (Names names)) words ≡ [] → (p : Entered) × (subcommand_of (rdfconv (Names names)) words ≡ Some p) × IsEntered p
+  pub entered : (words : List Text) → fault_of (rdfconv (Names names)) words ≡ [] →
+      (p : Entered) × (subcommand_of (rdfconv (Names names)) words ≡ Some p) × IsEntered p
   entered words none =
-      let at = enters (built (rdfconv (Names names))) IsAction is_ready_leaf subcommands (argument_words (rdfconv (Names names)) words) needs_subcommand offers_help none in
+      let at = enters (built (rdfconv (Names names))) IsAction is_ready_leaf subcommands
+      (argument_words (rdfconv (Names names)) words) needs_subcommand offers_help none in
       let rows = rows_after at.0.rules [] at.1 in
       let holds : LevelHolds (options at.2.0) rows = subst (λ rules. LevelHolds rules rows) at.2.2 at.4 in
       ((at.0.name, rows), at.3, record { action = (at.2.0, at.2.1); format = format-of at.2.0 rows holds; limits = limits-of at.2.0 rows holds })
 
   -- the same, of what a parse was seen to enter
-  pub entered-at : (words : List Text) (p : Entered) → fault_of (rdfconv (Names names)) words ≡ [] → subcommand_of (rdfconv (Names names)) words ≡ Some p → IsEntered p
+  pub entered-at : (words : List Text) (p : Entered) → fault_of (rdfconv (Names names)) words ≡ [] →
+      subcommand_of (rdfconv (Names names)) words ≡ Some p → IsEntered p
   entered-at words p none is =
       let met = entered words none in
       subst IsEntered (same_some met.0 p (sym met.1 ∙ is)) met.2
@@ -195,7 +205,8 @@ unfolding clap_on_literals
 is_ready f = refl
 
 -- where the parse of a command that reads as the program's enters a subcommand, the definition has no fault and enters it
-pub enters-at : (names : Bor (List (Bor Text))) (a : App) (words : List Text) (m : ArgMatches) (o : Option (Bor Text × Bor ArgMatches)) (met : Bor Text × Bor ArgMatches)
+pub enters-at : (names : Bor (List (Bor Text))) (a : App) (words : List Text) (m : ArgMatches) (o : Option (Bor Text × Bor ArgMatches))
+    (met : Bor Text × Bor ArgMatches)
     → a ≡ rdfconv (Names names) → (is_simple_and_free a ≡ true → fault_of a words ≡ []) → HasMatchesOf a words m → o ≡ Some met
     → option_map (λ p. p.0.now) o ≡ subcommand_name_of m → option_map (λ p. rows_of (found_of p.1.now)) o ≡ option_map (λ p. p.1) (subcommand_rows_of m)
     → (fault_of (rdfconv (Names names)) words ≡ []) × (subcommand_of (rdfconv (Names names)) words ≡ Some (met.0.now, rows_of (found_of met.1.now)))

@@ -79,7 +79,8 @@ refuses a words e h = go (kind_of e) refl
     go k is = let other : kind_of e ≢ OutOfMemory = λ m. true≢false (sym (ap is_memory m) ∙ ap is_memory is) in (other, among other)
 
 -- words that clap takes, but that are no task, are refused for this reason
-pub refused_by : (a : App) (words : List Text) (p : Entered) (fault : WordsFault) → fault_of a words ≡ [] → subcommand_of a words ≡ Some p → NoTaskBy p fault → GivesNone a words fault
+pub refused_by : (a : App) (words : List Text) (p : Entered) (fault : WordsFault) → fault_of a words ≡ [] → subcommand_of a words ≡ Some p →
+    NoTaskBy p fault → GivesNone a words fault
 refused_by a words p (Usage e) none is h = absurd h
 refused_by a words p BadBase none is h = record { entered = p; taken = none; matches = is; holds = h }
 refused_by a words p BadNodePrefix none is h = record { entered = p; taken = none; matches = is; holds = h }
@@ -89,7 +90,8 @@ refused_by a words p (NoFormat name) none is h = record { entered = p; taken = n
 refused_by a words p Memory none is h = tt
 
 -- a base that is none is the base of the matches
-pub no_task : (p : Entered) (most : ℕ) (base : Option Text) (fault : WordsFault) → base ≡ base_by (first_of (codes "base") p.1) → number_of (codes "iri") p.1 ≡ Some most → NoBaseOf most base fault → NoTaskBy p fault
+pub no_task : (p : Entered) (most : ℕ) (base : Option Text) (fault : WordsFault) → base ≡ base_by (first_of (codes "base") p.1) →
+    number_of (codes "iri") p.1 ≡ Some most → NoBaseOf most base fault → NoTaskBy p fault
 no_task p most base (Usage e) is limit h = absurd h
 no_task p most base BadBase is limit h = (h.0, most, sym is ∙ h.1, limit, h.2)
 no_task p most base BadNodePrefix is limit h = absurd h
@@ -109,7 +111,8 @@ no_word p word (NoFormat name) is h = absurd h
 no_word p word Memory is h = tt
 
 -- a graph that is none is the graph of the matches
-pub no_graph : (p : Entered) (most : ℕ) (graph : Option Text) (fault : WordsFault) → graph ≡ first_of (codes "graph") p.1 → number_of (codes "iri") p.1 ≡ Some most → NoGraphOf most graph fault → NoTaskBy p fault
+pub no_graph : (p : Entered) (most : ℕ) (graph : Option Text) (fault : WordsFault) → graph ≡ first_of (codes "graph") p.1 →
+    number_of (codes "iri") p.1 ≡ Some most → NoGraphOf most graph fault → NoTaskBy p fault
 no_graph p most graph (Usage e) is limit h = absurd h
 no_graph p most graph BadBase is limit h = absurd h
 no_graph p most graph BadNodePrefix is limit h = absurd h
@@ -119,7 +122,8 @@ no_graph p most graph (NoFormat name) is limit h = absurd h
 no_graph p most graph Memory is limit h = tt
 
 -- a first document without a format is that of the matches
-pub no_form : (p : Entered) (word : Text) (first : Option Text) (fault : WordsFault) → first_of (codes "format") p.1 ≡ Some word → first ≡ first_of (codes "file") p.1
+pub no_form : (p : Entered) (word : Text) (first : Option Text) (fault : WordsFault) → first_of (codes "format") p.1 ≡ Some word →
+    first ≡ first_of (codes "file") p.1
     → NoFormOf word (name_by first) fault → NoTaskBy p fault
 no_form p word first (Usage e) given is h = absurd h
 no_form p word first BadBase given is h = absurd h
@@ -158,13 +162,15 @@ no_skip p word f skip further Memory given form is are h = tt
 -- ---- documents
 
 -- a name that has no format is among the names
-pub formless_among : (word name : Text) (front rest names : List Text) (fault : WordsFault) → names ≡ front ++ name ∷ rest → NoFormOf word name fault → NoFormsOf word names fault
+pub formless_among : (word name : Text) (front rest names : List Text) (fault : WordsFault) → names ≡ front ++ name ∷ rest →
+    NoFormOf word name fault → NoFormsOf word names fault
 formless_among word name front rest names (Usage e) is h = absurd h
 formless_among word name front rest names BadBase is h = absurd h
 formless_among word name front rest names BadNodePrefix is h = absurd h
 formless_among word name front rest names BadGraph is h = absurd h
 formless_among word name front rest names BadSkip is h = absurd h
-formless_among word name front rest names (NoFormat at) is h = (subst (IsFormless word) (sym h.0) h.1, (front, rest, is ∙ ap (λ n. front ++ n ∷ rest) (sym h.0)))
+formless_among word name front rest names (NoFormat at) is h =
+    (subst (IsFormless word) (sym h.0) h.1, (front, rest, is ∙ ap (λ n. front ++ n ∷ rest) (sym h.0)))
 formless_among word name front rest names Memory is h = tt
 
 -- the text behind a reference
@@ -187,4 +193,5 @@ next_document word all left rest x docs d is form name before tail are =
 pub name_among : (names : List (Bor Text)) (i : ℕ) (x : Bor Text) (rest : List (Bor Text)) → drop i names ≡ x ∷ rest
     → map now_of names ≡ map now_of (take i names) ++ x.now ∷ map now_of rest
 name_among names i x rest is =
-    sym (ap (map now_of) (take-append-drop i names)) ∙ (map-append now_of (take i names) (drop i names) ∙ ap (λ ys. map now_of (take i names) ++ map now_of ys) is)
+    sym (ap (map now_of) (take-append-drop i names))
+    ∙ (map-append now_of (take i names) (drop i names) ∙ ap (λ ys. map now_of (take i names) ++ map now_of ys) is)

@@ -19,11 +19,13 @@ use Rattle.rdf_command.proofs.WalkLemmas.{StopsNamed, settled-passes, walk-named
 -- ---- rows that stay
 
 -- values that are added for one argument keep the rows of all others
-with_values-keeps : (id key : Text) (how : Reading) (s : ValueSource) (values : List Text) (rows : List Row) → has_row id rows ≡ true → has_row id (with_values key how s values rows) ≡ true
+with_values-keeps : (id key : Text) (how : Reading) (s : ValueSource) (values : List Text) (rows : List Row) → has_row id rows ≡ true →
+    has_row id (with_values key how s values rows) ≡ true
 with_values-keeps id key how s values [] has = absurd (true≢false (sym has))
 with_values-keeps id key how s values (r ∷ rs) has = go (bytes_eq r.id key) (with_values-keeps id key how s values rs)
   where
-    other : (b : Bool) → (b || has_row id rs) ≡ true → (has_row id rs ≡ true → has_row id (with_values key how s values rs) ≡ true) → (b || has_row id (with_values key how s values rs)) ≡ true
+    other : (b : Bool) → (b || has_row id rs) ≡ true → (has_row id rs ≡ true → has_row id (with_values key how s values rs) ≡ true) →
+        (b || has_row id (with_values key how s values rs)) ≡ true
     other true some rest = refl
     other false some rest = rest some
 
@@ -33,7 +35,8 @@ with_values-keeps id key how s values (r ∷ rs) has = go (bytes_eq r.id key) (w
     go false rest = other (bytes_eq r.id id) has rest
 
 -- values that are added for an argument give it a row
-with_values-adds : (key : Text) (how : Reading) (s : ValueSource) (values : List Text) (rows : List Row) → has_row key (with_values key how s values rows) ≡ true
+with_values-adds : (key : Text) (how : Reading) (s : ValueSource) (values : List Text) (rows : List Row) →
+    has_row key (with_values key how s values rows) ≡ true
 with_values-adds key how s values [] = rw ((bytes_eq-Decides key key).1 refl) refl
 with_values-adds key how s values (r ∷ rs) = go (bytes_eq r.id key) refl (with_values-adds key how s values rs)
   where
@@ -57,7 +60,8 @@ default-keeps id a rows has = go (has_row a.id rows) a.defaults
 default-adds : (a : Rule) (rows : List Row) → 0 < length a.defaults → has_row a.id (with_default rows a) ≡ true
 default-adds a rows some = go (has_row a.id rows) refl a.defaults some
   where
-    go : (b : Bool) → has_row a.id rows ≡ b → (defaults : List Text) → 0 < length defaults → has_row a.id (cond b rows (default_rows a.id (reading_by a) defaults rows)) ≡ true
+    go : (b : Bool) → has_row a.id rows ≡ b → (defaults : List Text) → 0 < length defaults →
+        has_row a.id (cond b rows (default_rows a.id (reading_by a) defaults rows)) ≡ true
     go true e defaults some = e
     go false e [] some = absurd (omega arith)
     go false e (v ∷ vs) some = with_values-adds a.id (reading_by a) DefaultValue (v ∷ vs) rows
@@ -71,13 +75,15 @@ not_empty v vs = go (is_empty (v ∷ vs)) refl
     go false e = e
 
 -- a default that has no fault passes its test
-default-passes : (c : List Rule) (a : Rule) (rows : List Row) → arg_by_id c a.id ≡ Some a → default_fault rows a ≡ [] → RowsPass c rows → RowsPass c (with_default rows a)
+default-passes : (c : List Rule) (a : Rule) (rows : List Row) → arg_by_id c a.id ≡ Some a → default_fault rows a ≡ [] → RowsPass c rows →
+    RowsPass c (with_default rows a)
 default-passes c a rows known e h = go (has_row a.id rows) a.defaults e
   where
     values_pass : (v : Text) (vs : List Text) → cond (is_empty (v ∷ vs)) [] (given_default_fault a (v ∷ vs)) ≡ [] → values_fault a (v ∷ vs) ≡ []
     values_pass v vs none = (no_kind (request_kinds (action_of a)) (values_fault a (v ∷ vs)) (rw (not_empty v vs) at none)).1
 
-    go : (b : Bool) (defaults : List Text) → cond (b || is_empty defaults) [] (given_default_fault a defaults) ≡ [] → RowsPass c (cond b rows (default_rows a.id (reading_by a) defaults rows))
+    go : (b : Bool) (defaults : List Text) → cond (b || is_empty defaults) [] (given_default_fault a defaults) ≡ [] →
+        RowsPass c (cond b rows (default_rows a.id (reading_by a) defaults rows))
     go true defaults e = h
     go false [] e = h
     go false (v ∷ vs) e =
@@ -95,7 +101,8 @@ defaults-add [] rows = tt
 defaults-add (a ∷ rest) rows = (λ some. defaults-keep a.id rest (with_default rows a) (default-adds a rows some), defaults-add rest (with_default rows a))
 
 -- all of them pass, where no fault is found
-defaults-pass : (c rules : List Rule) (rows : List Row) → Each (IsRead c) rules → defaults_fault rows rules ≡ [] → RowsPass c rows → RowsPass c (fold with_default rows rules)
+defaults-pass : (c rules : List Rule) (rows : List Row) → Each (IsRead c) rules → defaults_fault rows rules ≡ [] → RowsPass c rows →
+    RowsPass c (fold with_default rows rules)
 unfolding defaults_fault
 defaults-pass c [] rows read e h = h
 defaults-pass c (a ∷ rest) rows read e h =
@@ -109,15 +116,18 @@ given-has : (id : Text) (rows : List Row) → is_given id rows ≡ true → has_
 given-has id [] e = absurd (true≢false (sym e))
 given-has id (r ∷ rs) e = go (bytes_eq r.id id) e (given-has id rs)
   where
-    go : (b : Bool) → option_map_or (λ x. explicit_source x.source) (cond b (Some r) (find (λ x. bytes_eq x.id id) rs)) false ≡ true → (is_given id rs ≡ true → has_row id rs ≡ true)
+    go : (b : Bool) → option_map_or (λ x. explicit_source x.source) (cond b (Some r) (find (λ x. bytes_eq x.id id) rs)) false ≡ true →
+        (is_given id rs ≡ true → has_row id rs ≡ true)
         → (b || has_row id rs) ≡ true
     go true e rest = refl
     go false e rest = rest e
 
 -- an argument that is required has a row, where no fault is found
-required-has : (rules : List Rule) (rows : List Row) → list_any (λ a. a.required && not (is_given a.id rows)) rules ≡ false → Each (λ a. a.required ≡ true → has_row a.id rows ≡ true) rules
+required-has : (rules : List Rule) (rows : List Row) → list_any (λ a. a.required && not (is_given a.id rows)) rules ≡ false →
+    Each (λ a. a.required ≡ true → has_row a.id rows ≡ true) rules
 required-has [] rows e = tt
-required-has (a ∷ rest) rows e = (λ needed. given-has a.id rows (go a.required (is_given a.id rows) (or_false _ _ e).0 needed), required-has rest rows (or_false _ _ e).1)
+required-has (a ∷ rest) rows e =
+    (λ needed. given-has a.id rows (go a.required (is_given a.id rows) (or_false _ _ e).0 needed), required-has rest rows (or_false _ _ e).1)
   where
     or_false : (x y : Bool) → (x || y) ≡ false → (x ≡ false) × (y ≡ false)
     or_false true y e = absurd (true≢false e)
@@ -144,7 +154,8 @@ pub record LevelHolds (c : List Rule) (rows : List Row) : Type 0 where
   pub required : Each (λ a. a.required ≡ true → has_row a.id rows ≡ true) c
 
 -- after each parse without a fault the rows pass, and what is required is there
-pub level-holds : (s : Shape) (words : List Text) → Each (IsRead s.rules) s.rules → s.subcommand_negates_reqs ≡ false → level_fault s [] nothing_held words false [] ≡ []
+pub level-holds : (s : Shape) (words : List Text) → Each (IsRead s.rules) s.rules → s.subcommand_negates_reqs ≡ false →
+    level_fault s [] nothing_held words false [] ≡ []
     → LevelHolds s.rules (rows_after s.rules [] words)
 level-holds s words read always e =
     let end = (walk s.rules [] nothing_held words).held in
@@ -191,16 +202,19 @@ not_reversed x y e = go (bytes_eq y x) refl
     go true is = absurd (true≢false (sym ((bytes_eq-Decides x y).1 (sym (same_text y x is))) ∙ e))
 
 -- A built command that needs a subcommand has met one, by the stop of its walk, where there is no fault.
-module _ (a : App) (Q : Shape → Type 0) (ready : (s : Shape) → Q s → Each (IsRead s.rules) s.rules × (s.subcommand_negates_reqs ≡ false)) (subs : Each (λ s. Q s ⊎ IsHelp s) a.subs) where
+module _ (a : App) (Q : Shape → Type 0) (ready : (s : Shape) → Q s → Each (IsRead s.rules) s.rules × (s.subcommand_negates_reqs ≡ false))
+    (subs : Each (λ s. Q s ⊎ IsHelp s) a.subs) where
   found-enters : (stop : Text × List Text) (o : Option Shape) → find (λ s. answers_to stop.0 (label_of s)) a.subs ≡ o → StopsNamed (Some stop)
-      → IfSome o (λ s. Q s ⊎ IsHelp s) → option_map_or (λ s. level_fault s [] nothing_held stop.1 false []) o [] ≡ [] → is_some (option_map (λ s. rows_at s stop.1) o) ≡ true
+      → IfSome o (λ s. Q s ⊎ IsHelp s) → option_map_or (λ s. level_fault s [] nothing_held stop.1 false []) o [] ≡ [] →
+      is_some (option_map (λ s. rows_at s stop.1) o) ≡ true
       → EntersAt Q (option_map (λ s. rows_at s stop.1) o)
   found-enters stop None is named h e some = absurd (true≢false (sym some))
   found-enters stop (Some s) is named (inl q) e some =
       let r = ready s q in
       (s, stop.1, q, refl, level-holds s stop.1 r.0 r.1 e)
   found-enters stop (Some s) is named (inr help) e some =
-      absurd (true≢false (sym (found_by (λ s. answers_to stop.0 (label_of s)) a.subs s is) ∙ rw (help.0, help.1, not_reversed stop.0 (codes "help") named) refl))
+      absurd (true≢false (sym (found_by (λ s. answers_to stop.0 (label_of s)) a.subs s is)
+      ∙ rw (help.0, help.1, not_reversed stop.0 (codes "help") named) refl))
 
   stop-enters : (stop : Option (Text × List Text)) → StopsNamed stop → entered_fault a stop ≡ [] → is_some (entered a stop) ≡ true → EntersAt Q (entered a stop)
   stop-enters None named e some = absurd (true≢false (sym some))
@@ -216,7 +230,8 @@ module _ (a : App) (Q : Shape → Type 0) (ready : (s : Shape) → Q s → Each 
       let settles = no_kind (settle_fault a.top.rules a.top.args_override_self end) _ below.1 in
       let ends = no_kind (defaults_fault (settled a.top.rules end).rows a.top.rules) _ settles.1 in
       let checked = (no_check _ _ _ ends.1).0 in
-      stop-enters stop (walk-named a.top (names_of a) offers (walk_from nothing_held) words walks.0 tt) below.0 (met (is_some (entered a stop)) (rw needs at checked))
+      stop-enters stop (walk-named a.top (names_of a) offers (walk_from nothing_held) words walks.0 tt) below.0
+      (met (is_some (entered a stop)) (rw needs at checked))
     where
       met : (b : Bool) → (not b && true) ≡ false → b ≡ true
       met true e = refl

@@ -12,7 +12,8 @@ use Rattle.rdf_command.specs.Reasons.{Devices, ReportsFailed, device, standard_o
 use Rattle.rdf_command.specs.Runs.{Ending, FilesRead, RunEnds, RunStops, ending}
 use Rattle.rdf_command.specs.Statuses.{load_status}
 
-module _ (says : Outputs) (source : Reading → Option Text → Type 0) (name : Text) (t : Task) (prefixes : Option (Option (List ℕ))) (known : Option (List ℕ)) (left : FilesRead) (first : Option (List ℕ)) (output : Written)
+module _ (says : Outputs) (source : Reading → Option Text → Type 0) (name : Text) (t : Task) (prefixes : Option (Option (List ℕ)))
+    (known : Option (List ℕ)) (left : FilesRead) (first : Option (List ℕ)) (output : Written)
     (err_old : Option (List ℕ)) (err_then err : Written) (empty : IsEmpty first) where
   -- what became of the output of a run that ended so
   abbrev pub Fate : ℕ → Type 0
@@ -24,14 +25,20 @@ module _ (says : Outputs) (source : Reading → Option Text → Type 0) (name : 
 
   pub fate : (own status : ℕ) → Ran own err_then → (own ≢ 0 → (status ≡ own) × (err ≡ err_then))
       → (status ≡ 0 → (own ≡ 0) × (err ≡ err_then) × says.has name output.contents) → (status ≢ 0 → says.is_left name)
-      → (own ≡ 0 → status ≢ 0 → (status ≡ 3) × ReportsFailed t.explain (report_text Write) (device name (says.tells name)) err_then.contents err.contents err.has_failed) → Fate status
+      → (own ≡ 0 → status ≢ 0 → (status ≡ 3) × ReportsFailed t.explain (report_text Write)
+      (device name (says.tells name)) err_then.contents err.contents err.has_failed) → Fate status
   fate zero zero ends stopped kept is_left unnamed =
       let k = kept refl in
       inl (record { output = output; ends = (first, empty, subst (Ran 0) (sym k.1) ends); status_is = refl; has = k.2 })
   fate zero (suc n) ends stopped kept is_left unnamed =
       let some : suc n ≢ 0 = λ e. omega (arith, e) in
       let u = unnamed refl some in
-      inr (inr (record { output = output; err_then = err_then; ends = (first, empty, ends); unnamed = record { status_is = u.0; is_left = is_left some; reported = u.1 } }))
+      inr (inr (record {
+        output = output;
+        err_then = err_then;
+        ends = (first, empty, ends);
+        unnamed = record { status_is = u.0; is_left = is_left some; reported = u.1 };
+      }))
   fate (suc n) status ends stopped kept is_left unnamed =
       let some : suc n ≢ 0 = λ e. omega (arith, e) in
       let s = stopped some in
@@ -50,18 +57,22 @@ module _ (t other : Task) (prefixes : Option (Option (List ℕ))) (known : Optio
   of_stop devices name bindings source e s =
       record { fault = s.fault; status_is = s.status_is; stops = s.stops; sent = s.sent; evidence = s.evidence; expected = s.expected; reported = s.reported }
 
-  run_of : (devices : Devices) (name : Text) (left : FilesRead) (e : Ending) → RunEnds devices name So prefixes known left e → RunEnds devices name t prefixes known left e
+  run_of : (devices : Devices) (name : Text) (left : FilesRead) (e : Ending) → RunEnds devices name So prefixes known left e →
+      RunEnds devices name t prefixes known left e
   run_of devices name left e (inl (bindings, starts, (done, stops, prompt))) =
       inl (bindings, starts, (done, (λ n. of_stop devices name bindings left.document e (stops n)), prompt))
-  run_of devices name left e (inr p) = inr (record { fault = p.fault; stops = p.stops; status_is = p.status_is; unwritten = p.unwritten; reported = p.reported })
+  run_of devices name left e (inr p) =
+      inr (record { fault = p.fault; stops = p.stops; status_is = p.status_is; unwritten = p.unwritten; reported = p.reported })
 
   -- so is what becomes of a file
-  into_of : (says : Outputs) (source : Reading → Option Text → Type 0) (name : Text) (files : Option FilesRead) (status : ℕ) (err_old : Option (List ℕ)) (err : Written)
+  into_of : (says : Outputs) (source : Reading → Option Text → Type 0) (name : Text) (files : Option FilesRead) (status : ℕ)
+      (err_old : Option (List ℕ)) (err : Written)
       → EndsInto says source name So prefixes known files status err_old err → EndsInto says source name t prefixes known files status err_old err
   into_of says source name files status err_old err (inr none) = inr none
   into_of says source name files status err_old err (inl (left, given, fate)) = inl (left, given, go fate)
     where
-      runs : (own : ℕ) (output then : Written) → RunsInto (into says source) name So prefixes known left own output err_old then → RunsInto (into says source) name t prefixes known left own output err_old then
+      runs : (own : ℕ) (output then : Written) → RunsInto (into says source) name So prefixes known left own output err_old then →
+          RunsInto (into says source) name t prefixes known left own output err_old then
       runs own output then r = (r.0, r.1, run_of (into says source) name left (ending own r.0 output err_old then) r.2)
 
       go : IsFiled says source name So prefixes known left status err_old err → IsFiled says source name t prefixes known left status err_old err
@@ -71,7 +82,8 @@ module _ (t other : Task) (prefixes : Option (Option (List ℕ))) (known : Optio
           inr (inr (record { output = u.output; err_then = u.err_then; ends = runs 0 u.output u.err_then u.ends; unnamed = u.unnamed }))
 
   -- so is the end of a task that writes the file of a name, or none
-  pub ends_to : (says : Outputs) (devices : Devices) (files : Option FilesRead) (e : Ending) (name : Option Text) → EndsTo name says devices So prefixes known files e
+  pub ends_to : (says : Outputs) (devices : Devices) (files : Option FilesRead) (e : Ending) (name : Option Text) →
+      EndsTo name says devices So prefixes known files e
       → EndsTo name says devices t prefixes known files e
   ends_to says devices files e None (left, given, ends) = (left, given, run_of devices standard_output left e ends)
   ends_to says devices files e (Some name) (ends, unwritten) = (into_of says devices.source name files e.status e.err_old e.err ends, unwritten)

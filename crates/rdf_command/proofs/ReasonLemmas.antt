@@ -35,20 +35,23 @@ module _ (old new : Option (List ℕ)) (failed : Bool) where
       → (ReportsExplained true document.name known evidence old new failed → ReportsStop true document output known evidence old new failed)
       → ReportsExplained true document.name fault evidence old new failed → ReportsStop true document output fault evidence old new failed
   stop_as document output known fault evidence is so r =
-      subst (λ x. ReportsStop true document output x evidence old new failed) (sym is) (so (subst (λ x. ReportsExplained true document.name x evidence old new failed) is r))
+      subst (λ x. ReportsStop true document output x evidence old new failed) (sym is)
+      (so (subst (λ x. ReportsExplained true document.name x evidence old new failed) is r))
 
   pub stop_as_of : (document output : Device) (known fault : StreamFault) (evidence : Evidence NearRead) → fault ≡ known
       → (ReportsExplainedOf true document.name known evidence old new failed → ReportsStopOf true document output known evidence old new failed)
       → ReportsExplainedOf true document.name fault evidence old new failed → ReportsStopOf true document output fault evidence old new failed
   stop_as_of document output known fault evidence is so r =
-      subst (λ x. ReportsStopOf true document output x evidence old new failed) (sym is) (so (subst (λ x. ReportsExplainedOf true document.name x evidence old new failed) is r))
+      subst (λ x. ReportsStopOf true document output x evidence old new failed) (sym is)
+      (so (subst (λ x. ReportsExplainedOf true document.name x evidence old new failed) is r))
 
   pub bindings_read : (file : Device) (line : List ℕ) (fault : LoadFault) → fault ≡ load.Read → line ≡ report_text Read
       → ReportsFailed true line file old new failed → ReportsBindings true file fault old new failed
   bindings_read file line fault is same r =
       subst (λ x. ReportsBindings true file x old new failed) (sym is) (subst (λ l. ReportsFailed true l file old new failed) same r)
 
-  pub stop_among : (asked : Bool) (document output : Text) (P Q R S : Option Text → Type 0) (fault : StreamFault) (evidence : Evidence NearRead) → Among P Q → Among R S
+  pub stop_among : (asked : Bool) (document output : Text) (P Q R S : Option Text → Type 0) (fault : StreamFault)
+      (evidence : Evidence NearRead) → Among P Q → Among R S
       → ReportsStop asked (device document P) (device output R) fault evidence old new failed
       → ReportsStop asked (device document Q) (device output S) fault evidence old new failed
   stop_among true document output P Q R S Read evidence source drain r = (r.0, source r.0 r.1, r.2)
@@ -58,7 +61,8 @@ module _ (old new : Option (List ℕ)) (failed : Bool) where
   stop_among false document output P Q R S fault evidence source drain r = r
 
   -- the same of one of several documents
-  pub stop_among_of : (asked : Bool) (document output : Text) (P Q R S : Option Text → Type 0) (fault : StreamFault) (evidence : Evidence NearRead) → Among P Q → Among R S
+  pub stop_among_of : (asked : Bool) (document output : Text) (P Q R S : Option Text → Type 0) (fault : StreamFault)
+      (evidence : Evidence NearRead) → Among P Q → Among R S
       → ReportsStopOf asked (device document P) (device output R) fault evidence old new failed
       → ReportsStopOf asked (device document Q) (device output S) fault evidence old new failed
   stop_among_of true document output P Q R S Read evidence source drain r = (r.0, source r.0 r.1, r.2)
@@ -68,12 +72,15 @@ module _ (old new : Option (List ℕ)) (failed : Bool) where
   stop_among_of false document output P Q R S fault evidence source drain r = r
 
   -- the same of the first of two devices where it has failed, and else of the second
-  pub broken_among : (asked is_broken : Bool) (document first second : Text) (P Q R S T U : Option Text → Type 0) (fault : StreamFault) (evidence : Evidence NearRead)
+  pub broken_among : (asked is_broken : Bool) (document first second : Text) (P Q R S T U : Option Text → Type 0) (fault : StreamFault)
+      (evidence : Evidence NearRead)
       → Among P Q → Among R S → Among T U
       → ReportsStop asked (device document P) (broken is_broken (device first R) (device second T)) fault evidence old new failed
       → ReportsStop asked (device document Q) (broken is_broken (device first S) (device second U)) fault evidence old new failed
-  broken_among asked true document first second P Q R S T U fault evidence source one other r = stop_among asked document first P Q R S fault evidence source one r
-  broken_among asked false document first second P Q R S T U fault evidence source one other r = stop_among asked document second P Q T U fault evidence source other r
+  broken_among asked true document first second P Q R S T U fault evidence source one other r =
+      stop_among asked document first P Q R S fault evidence source one r
+  broken_among asked false document first second P Q R S T U fault evidence source one other r =
+      stop_among asked document second P Q T U fault evidence source other r
 
   -- the same of a file of bindings
   pub bindings_among : (asked : Bool) (name : Text) (P Q : Option Text → Type 0) (fault : LoadFault) → Among P Q

@@ -7,7 +7,8 @@ use Rattle.rdf_stream.specs.Places.{NearRead}
 use Rattle.rdf_stream.specs.declared.fault.StreamFault.{StreamFault}
 use Rattle.rdf_command.specs.Statuses.{ReportsExplainedOf, ReportsOf, explanation}
 
-module _ (asked : Bool) (name : List ℕ) (fault : StreamFault) (evidence : Evidence NearRead) (old new : Option (List ℕ)) (failed : Bool) (line text : List ℕ) (same : line ≡ text) where
+module _ (asked : Bool) (name : List ℕ) (fault : StreamFault) (evidence : Evidence NearRead) (old new : Option (List ℕ)) (failed : Bool)
+    (line text : List ℕ) (same : line ≡ text) where
   -- what stands after the program's name
   rest : take (length line - 9) (drop 9 line) ≡ drop 9 text
   rest = take_all (length line - 9) (drop 9 line) (omega (arith, length-drop 9 line)) ∙ ap (drop 9) same

@@ -120,10 +120,15 @@ module _ (c : List Rule) (a : Rule) (known : arg_by_id c a.id ≡ Some a) where
   values_pass-at id values now is same p b e =
       subst (λ x. Passed x now) (some-same b (ap (arg_by_id c) (sym is) ∙ e)) (subst (Passed a) (sym same) p)
 
-  pub with_values-passes : (how : Reading) (s : ValueSource) (values : List Text) (rows : List Row) → Passed a values → RowsPass c rows → RowsPass c (with_values a.id how s values rows)
+  pub with_values-passes : (how : Reading) (s : ValueSource) (values : List Text) (rows : List Row) → Passed a values → RowsPass c rows →
+      RowsPass c (with_values a.id how s values rows)
   with_values-passes how s values rows p h =
       at_row-passes (RowPasses c) a.id (more_values s values) _ rows (values_pass-at a.id values values refl refl p, tt) h
-      (λ r is old. (values_pass-at r.id (r.values ++ values) (r.values ++ values) is refl (passed_also a r.values values (old a (ap (arg_by_id c) is ∙ known)) p), tt))
+      (λ r is old. (
+        values_pass-at r.id (r.values ++ values) (r.values ++ values) is refl
+            (passed_also a r.values values (old a (ap (arg_by_id c) is ∙ known)) p),
+        tt,
+      ))
 
 -- a use of the argument has one value
 abbrev pub HasOne : Rule → Type 0
@@ -167,10 +172,12 @@ flag_value a (v ∷ vs) some = omega arith
 
 module _ (c : List Rule) (again : Bool) where
   -- a use without a fault keeps that the rows pass
-  pub used-passes : (a : Rule) (values : List Text) (rows : List Row) → IsRead c a → use_fault again a values rows ≡ [] → RowsPass c rows → RowsPass c (used a values rows)
+  pub used-passes : (a : Rule) (values : List Text) (rows : List Row) → IsRead c a → use_fault again a values rows ≡ [] → RowsPass c rows →
+      RowsPass c (used a values rows)
   used-passes a values rows read e h = go read.1
     where
-      parts : (range_kinds (unwrap_or_range a.range).start_inclusive (most_values a) (length values) ≡ []) × (action_fault (action_of a) again a (values_or_missing a values) rows ≡ [])
+      parts : (range_kinds (unwrap_or_range a.range).start_inclusive (most_values a) (length values) ≡ [])
+          × (action_fault (action_of a) again a (values_or_missing a values) rows ≡ [])
       parts = no_kind _ _ e
 
       -- the one value of a use
@@ -181,23 +188,28 @@ module _ (c : List Rule) (again : Bool) where
           (found.0, ap (values_or_missing a) found.1)
 
       passed : HasOne a → values_fault a (values_or_missing a values) ≡ [] → Passed a (values_or_missing a values)
-      passed one none = let some : 0 < length (values_or_missing a values) = rw (single one).1 (omega arith) in (some, values_passed a (values_or_missing a values) none)
+      passed one none = let some : 0 < length (values_or_missing a values) = rw (single one).1 (omega arith) in
+          (some, values_passed a (values_or_missing a values) none)
 
       go : TakesOne a ⊎ (IsFlag a ⊎ (TakesMore a ⊎ (action_of a ≡ Help))) → RowsPass c (used a values rows)
       go (inr (inr (inr help))) = absurd (some_kind _ _ (ap (λ x. action_fault x again a (values_or_missing a values) rows) (sym help) ∙ parts.1))
       go (inr (inr (inl more))) =
-          let each : action_fault Append again a (values_or_missing a values) rows ≡ [] = ap (λ x. action_fault x again a (values_or_missing a values) rows) (sym more.0) ∙ parts.1 in
+          let each : action_fault Append again a (values_or_missing a values) rows ≡ [] =
+          ap (λ x. action_fault x again a (values_or_missing a values) rows) (sym more.0) ∙ parts.1 in
           subst (λ x. RowsPass c (used_as x a.id (reading_by a) (values_or_missing a values) rows)) (sym more.0)
           (with_values-passes c a read.0 (reading_by a) CommandLine (values_or_missing a values) rows (passed more.1 each) h)
       go (inr (inl flag)) =
-          let set : action_fault SetTrue again a (values_or_missing a values) rows ≡ [] = ap (λ x. action_fault x again a (values_or_missing a values) rows) (sym flag.0) ∙ parts.1 in
+          let set : action_fault SetTrue again a (values_or_missing a values) rows ≡ [] =
+          ap (λ x. action_fault x again a (values_or_missing a values) rows) (sym flag.0) ∙ parts.1 in
           let pass : Passed a (values_or_missing a values) = (flag_value a values flag.1, values_passed a (values_or_missing a values) (no_kind _ _ set).1) in
           subst (λ x. RowsPass c (used_as x a.id (reading_by a) (values_or_missing a values) rows)) (sym flag.0)
           (with_values-passes c a read.0 (reading_by a) CommandLine (values_or_missing a values) (without a.id rows) pass (without-passes c a.id rows h))
       go (inl one) =
-          let set : action_fault Set again a (values_or_missing a values) rows ≡ [] = ap (λ x. action_fault x again a (values_or_missing a values) rows) (sym one.0) ∙ parts.1 in
+          let set : action_fault Set again a (values_or_missing a values) rows ≡ [] =
+          ap (λ x. action_fault x again a (values_or_missing a values) rows) (sym one.0) ∙ parts.1 in
           subst (λ x. RowsPass c (used_as x a.id (reading_by a) (values_or_missing a values) rows)) (sym one.0)
-          (with_values-passes c a read.0 (reading_by a) CommandLine (values_or_missing a values) (without a.id rows) (passed one.1 (no_kind _ _ set).1) (without-passes c a.id rows h))
+          (with_values-passes c a read.0 (reading_by a) CommandLine (values_or_missing a values) (without a.id rows)
+          (passed one.1 (no_kind _ _ set).1) (without-passes c a.id rows h))
 
 -- ---- what is read of rows that pass
 
@@ -213,6 +225,7 @@ value-of c a (r ∷ rs) known h has = go (bytes_eq r.id a.id) refl has (value-of
 
     go : (b : Bool) → bytes_eq r.id a.id ≡ b → (b || has_row a.id rs) ≡ true
         → (has_row a.id rs ≡ true → (t : Text) × (first_of a.id rs ≡ Some t) × (value_passes a t ≡ true))
-        → (t : Text) × (option_and_then (λ (x : Row). slice_get x.values 0) (cond b (Some r) (find (λ x. bytes_eq x.id a.id) rs)) ≡ Some t) × (value_passes a t ≡ true)
+        → (t : Text) × (option_and_then (λ (x : Row). slice_get x.values 0) (cond b (Some r) (find (λ x. bytes_eq x.id a.id) rs)) ≡ Some t)
+        × (value_passes a t ≡ true)
     go true e some rest = first r.values (h.0 a (ap (arg_by_id c) (same_text r.id a.id e) ∙ known))
     go false e some rest = rest some

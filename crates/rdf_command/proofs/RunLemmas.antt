@@ -22,7 +22,8 @@ some_status Read e = omega (arith, e)
 some_status Write e = omega (arith, e)
 some_status Memory e = omega (arith, e)
 
-module _ (devices : Devices) (name : Text) (t : Task) (prefixes : Option (Option (List ℕ))) (left : Option Reading) (bindings : List (List ℕ × List ℕ)) (starts : StartsWith t.limits prefixes left bindings)
+module _ (devices : Devices) (name : Text) (t : Task) (prefixes : Option (Option (List ℕ))) (left : Option Reading)
+    (bindings : List (List ℕ × List ℕ)) (starts : StartsWith t.limits prefixes left bindings)
     (job : JobRead) (is : job ≡ job_of t bindings) (known : Option (List ℕ)) (source : Reading) (out_old : Option (List ℕ)) (out : Written)
     (err_old : Option (List ℕ)) (err : Written) (prompt : HandsOver t.action job known source out_old out.contents) where
   -- the run ended with this status
@@ -35,9 +36,18 @@ module _ (devices : Devices) (name : Text) (t : Task) (prefixes : Option (Option
 
   pub run_done : IfSome known (λ bytes. Does t.action job bytes out_old out.contents) → out.is_flushed ≡ true → Ends 0
   run_done done flushed =
-      inl (bindings, starts, ((λ e. (subst (λ j. IfSome known (λ bytes. Does t.action j bytes out_old out.contents)) is done, flushed)), (λ n. absurd (n refl)), prompt_so))
+      inl (
+        bindings,
+        starts,
+        (
+          (λ e. (subst (λ j. IfSome known (λ bytes. Does t.action j bytes out_old out.contents)) is done, flushed)),
+          (λ n. absurd (n refl)),
+          prompt_so,
+        ),
+      )
 
-  pub run_stopped : (fault : StreamFault) (status : ℕ) → status ≡ status_of fault → StopsAction t.action fault job known source out_old out.contents out.has_failed
+  pub run_stopped : (fault : StreamFault) (status : ℕ) → status ≡ status_of fault →
+      StopsAction t.action fault job known source out_old out.contents out.has_failed
       → SendsOn t.action fault out.is_flushed → (evidence : Evidence NearRead) → TellsEvidence t.explain t.action fault job known source evidence
       → ReportsStop t.explain (device (name_of t) (devices.source source)) (device name (devices.output out)) fault evidence err_old err.contents err.has_failed
       → Ends status
@@ -61,7 +71,8 @@ module _ (devices : Devices) (name : Text) (t : Task) (prefixes : Option (Option
       )
 
 -- the line about an accepted document, of which a beginning was written
-pub front_told : (known : Option (List ℕ)) (job : JobRead) (s : Summary) (front text : List ℕ) (old new : Option (List ℕ)) → IfSome known (λ bytes. IsAccepted (language_of job) bytes s)
+pub front_told : (known : Option (List ℕ)) (job : JobRead) (s : Summary) (front text : List ℕ) (old new : Option (List ℕ)) →
+    IfSome known (λ bytes. IsAccepted (language_of job) bytes s)
     → text ≡ front ++ accepted_text s → AppendsFront old new text
     → IfSome known (λ bytes. (x : Summary) × IsAccepted (language_of job) bytes x × AppendsFront old new (front ++ accepted_text x))
 front_told None job s front text old new accepted is written = tt

@@ -27,7 +27,8 @@ module _ (has_document : Option (List ℕ) → Option (List ℕ) → Type 0) (sh
 
   -- a document more
   pub next_completes : (d : Form × List ℕ) (left : List (Form × List ℕ)) (so_far own : ℕ) (failed : Bool) (out_now err_now out_next err_next : Written)
-      → Completes (d ∷ left) false so_far out_now err_now → EndsAt shared.folder has_document shut shared d (ending own out_now.contents out_next err_now.contents err_next)
+      → Completes (d ∷ left) false so_far out_now err_now → EndsAt shared.folder has_document shut shared d
+      (ending own out_now.contents out_next err_now.contents err_next)
       → failed ≡ has_failed_output out_next err_next → Completes left failed (status_after so_far own failed) out_next err_next
   next_completes d left so_far own failed out_now err_now out_next err_next before one is status out err rest =
       before status out err (own, out_next, err_next, one, subst (λ b. Either b Stops Goes) is (go failed rest))
@@ -51,7 +52,8 @@ module _ (has_document : Option (List ℕ) → Option (List ℕ) → Type 0) (sh
   completed so_far true out_now err_now c = c so_far out_now err_now (refl, refl, refl)
   completed so_far false out_now err_now c = c so_far out_now err_now (refl, refl, refl)
 
-  pub stopped : (left : List (Form × List ℕ)) (so_far : ℕ) (failed : Bool) (out_now err_now : Written) → failed ≡ true → Completes left failed so_far out_now err_now
+  pub stopped : (left : List (Form × List ℕ)) (so_far : ℕ) (failed : Bool) (out_now err_now : Written) → failed ≡ true →
+      Completes left failed so_far out_now err_now
       → EndsEach has_document shut shared whole (ending so_far out_old out_now err_old err_now)
   stopped left so_far true out_now err_now e c = c so_far out_now err_now (refl, refl, refl)
   stopped left so_far false out_now err_now e c = absurd (false≢true e)
@@ -69,13 +71,15 @@ both_live false b failed e f = (refl, sym e ∙ f)
 -- ---- the file of bindings
 
 -- the source of the file did not give all its bytes
-pub none_by_source : (fault : LoadFault) (sizes : Sizes) (known : Option (List ℕ)) (left : Reading) → ReadsNot fault known left → LoadStops fault sizes known left
+pub none_by_source : (fault : LoadFault) (sizes : Sizes) (known : Option (List ℕ)) (left : Reading) → ReadsNot fault known left →
+    LoadStops fault sizes known left
 none_by_source (Bad f) sizes known left r = absurd r
 none_by_source Read sizes known left r = r
 none_by_source Memory sizes known left r = r
 
 -- the bytes that it gave are no bindings
-pub none_by_bytes : (fault : LoadFault) (sizes : Sizes) (known : Option (List ℕ)) (left : Reading) (bytes : List ℕ) → HasGivenAll known left bytes → BindsNot fault sizes bytes
+pub none_by_bytes : (fault : LoadFault) (sizes : Sizes) (known : Option (List ℕ)) (left : Reading) (bytes : List ℕ) →
+    HasGivenAll known left bytes → BindsNot fault sizes bytes
     → LoadStops fault sizes known left
 none_by_bytes (Bad f) sizes known left bytes h r = (bytes, h, r)
 none_by_bytes Read sizes known left bytes h r = absurd r
@@ -84,14 +88,17 @@ none_by_bytes Memory sizes known left bytes h r = record { bytes = bytes; consum
 -- ---- a task
 
 -- A task with further documents ends as a check of several does.
-pub several_end : (more : List Document) (folders : Folders) (has_document : Option (List ℕ) → Option (List ℕ) → Type 0) (shut : Shut) (says : Outputs) (t : Task) (e : Ending)
+pub several_end : (more : List Document) (folders : Folders) (has_document : Option (List ℕ) → Option (List ℕ) → Type 0) (shut : Shut)
+    (says : Outputs) (t : Task) (e : Ending)
     → (length more == 0) ≡ false → SeveralEnd folders has_document shut t e → EndsBy more folders has_document shut says t None e
 several_end [] folders has_document shut says t e some ends = absurd (true≢false some)
 several_end (d ∷ ds) folders has_document shut says t e some ends = (refl, ends)
 
 -- one without ends as its run does
-pub one_ends : (more : List Document) (folders : Folders) (has_document : Option (List ℕ) → Option (List ℕ) → Type 0) (shut : Shut) (says : Outputs) (t : Task) (files : Option FilesRead)
-    (e : Ending) → (length more == 0) ≡ true → OneEndsAt t.addressed folders has_document shut says t files e → EndsBy more folders has_document shut says t files e
+pub one_ends : (more : List Document) (folders : Folders) (has_document : Option (List ℕ) → Option (List ℕ) → Type 0) (shut : Shut)
+    (says : Outputs) (t : Task) (files : Option FilesRead)
+    (e : Ending) → (length more == 0) ≡ true → OneEndsAt t.addressed folders has_document shut says t files e →
+    EndsBy more folders has_document shut says t files e
 one_ends [] folders has_document shut says t files e none ends = ends
 one_ends (d ∷ ds) folders has_document shut says t files e none ends =
     let same : length (d ∷ ds) ≡ 0 = eqb-true _ _ none in absurd (omega arith)

@@ -15,28 +15,34 @@ module _ (c : List Rule) (again : Bool) (read : Each (IsRead c) c) where
   pub settled-passes : (h : Held) → settle_fault c again h ≡ [] → RowsPass c h.rows → RowsPass c (settled c h).rows
   settled-passes h e rows = go h.pending e
     where
-      use_by : (o : Option Rule) (values : List Text) → IfSome o (IsRead c) → option_map_or (λ a. use_fault again a values h.rows) o [] ≡ [] → RowsPass c (used_by_id o values h.rows)
+      use_by : (o : Option Rule) (values : List Text) → IfSome o (IsRead c) →
+          option_map_or (λ a. use_fault again a values h.rows) o [] ≡ [] → RowsPass c (used_by_id o values h.rows)
       use_by None values is e = rows
       use_by (Some a) values is e = used-passes c again a values h.rows is e rows
 
-      go : (p : Option (Text × List Text)) → option_map_or (λ q. option_map_or (λ a. use_fault again a q.1 h.rows) (arg_by_id c q.0) []) p [] ≡ [] → RowsPass c (settled_rows c p h.rows)
+      go : (p : Option (Text × List Text)) → option_map_or (λ q. option_map_or (λ a. use_fault again a q.1 h.rows) (arg_by_id c q.0) []) p
+          [] ≡ [] → RowsPass c (settled_rows c p h.rows)
       go None e = rows
       go (Some q) e = use_by (arg_by_id c q.0) q.1 (found_holds (IsRead c) _ c read) e
 
-  reacted-passes : (a : Rule) (values : List Text) (h : Held) → IsRead c a → react_fault c again a values h ≡ [] → RowsPass c h.rows → RowsPass c (reacted c a values h).rows
+  reacted-passes : (a : Rule) (values : List Text) (h : Held) → IsRead c a → react_fault c again a values h ≡ [] → RowsPass c h.rows →
+      RowsPass c (reacted c a values h).rows
   reacted-passes a values h is e rows =
       let parts = no_kind (settle_fault c again h) (use_fault again a values (settled c h).rows) e in
       used-passes c again a values (settled c h).rows is parts.1 (settled-passes h parts.0 rows)
 
-  option-passes : (a : Rule) (v : Option Text) (h : Held) → IsRead c a → option_fault c again a v h ≡ [] → RowsPass c h.rows → RowsPass c (option_met c a v h).0.rows
+  option-passes : (a : Rule) (v : Option Text) (h : Held) → IsRead c a → option_fault c again a v h ≡ [] → RowsPass c h.rows →
+      RowsPass c (option_met c a v h).0.rows
   option-passes a (Some v) h is e rows = reacted-passes a (v ∷ []) h is e rows
   option-passes a None h is e rows = settled-passes h e rows
 
-  flag-passes : (a : Rule) (v : Option Text) (h : Held) → IsRead c a → cond (is_some v) (TooManyValues ∷ []) (react_fault c again a [] h) ≡ [] → RowsPass c h.rows → RowsPass c (flag_met c a v h).0.rows
+  flag-passes : (a : Rule) (v : Option Text) (h : Held) → IsRead c a → cond (is_some v) (TooManyValues ∷ []) (react_fault c again a [] h)
+      ≡ [] → RowsPass c h.rows → RowsPass c (flag_met c a v h).0.rows
   flag-passes a (Some v) h is e rows = rows
   flag-passes a None h is e rows = reacted-passes a [] h is e rows
 
-  long-passes : (o : Option Rule) (v : Option Text) (h : Held) → IfSome o (IsRead c) → long_fault c again o v h ≡ [] → RowsPass c h.rows → RowsPass c (long_met c o v h).0.rows
+  long-passes : (o : Option Rule) (v : Option Text) (h : Held) → IfSome o (IsRead c) → long_fault c again o v h ≡ [] → RowsPass c h.rows →
+      RowsPass c (long_met c o v h).0.rows
   long-passes None v h is e rows = rows
   long-passes (Some a) v h is e rows = go (takes_values a) e
     where
@@ -67,7 +73,8 @@ module _ (c : List Rule) (again : Bool) (read : Each (IsRead c) c) where
   bundle_met-passes (suc k) flags skip so_far h e rows = go (slice_get (chars flags) 0) skip e (bundle_met-passes k)
     where
       go : (x : Option ℕ) (skip : ℕ) → bundle_step_fault c again x flags skip h (flags_fault c again k) ≡ []
-          → ((flags : Text) (skip : ℕ) (so_far : Outcome) (h : Held) → flags_fault c again k flags skip h ≡ [] → RowsPass c h.rows → RowsPass c (bundle_met c k flags skip so_far h).0.rows)
+          → ((flags : Text) (skip : ℕ) (so_far : Outcome) (h : Held) → flags_fault c again k flags skip h ≡ [] → RowsPass c h.rows →
+          RowsPass c (bundle_met c k flags skip so_far h).0.rows)
           → RowsPass c (bundle_step c x flags skip so_far h (bundle_met c k)).0.rows
       go None skip e rest = rows
       go (Some x) zero e rest =
@@ -92,13 +99,16 @@ module _ (c : List Rule) (again : Bool) (read : Each (IsRead c) c) where
   after_flag-passes waiting word h plain rows = plain-passes waiting word h rows
   after_flag-passes waiting word h refused rows = plain-passes waiting word h rows
 
-  short_or_plain-passes : (waiting : Waiting) (word : Text) (o : Option Text) (h : Held) → option_map_or (λ flags. bundle_fault c again flags h) o [] ≡ [] → RowsPass c h.rows
+  short_or_plain-passes : (waiting : Waiting) (word : Text) (o : Option Text) (h : Held) →
+      option_map_or (λ flags. bundle_fault c again flags h) o [] ≡ [] → RowsPass c h.rows
       → RowsPass c (short_or_plain c waiting word o h).0.rows
   short_or_plain-passes waiting word None h e rows = plain-passes waiting word h rows
   short_or_plain-passes waiting word (Some flags) h e rows =
-      after_flag-passes waiting word (bundle c flags h).0 (bundle c flags h).1 (bundle_met-passes (length flags) flags h.skip plain (record h { skip = 0 }) e rows)
+      after_flag-passes waiting word (bundle c flags h).0 (bundle c flags h).1
+      (bundle_met-passes (length flags) flags h.skip plain (record h { skip = 0 }) e rows)
 
-  long_or_other-passes : (waiting : Waiting) (word : Text) (o : Option (Text × Option Text)) (h : Held) → flag_word_fault c again o word h ≡ [] → RowsPass c h.rows
+  long_or_other-passes : (waiting : Waiting) (word : Text) (o : Option (Text × Option Text)) (h : Held) →
+      flag_word_fault c again o word h ≡ [] → RowsPass c h.rows
       → RowsPass c (long_or_other c waiting word o h).0.rows
   long_or_other-passes waiting word (Some p) h e rows =
       let met = long_met c (arg_by_long c p.0) p.1 h in
@@ -116,12 +126,14 @@ module _ (s : Shape) (names : Names) (read : Each (IsRead s.rules) s.rules) wher
       go true e = rows
       go false e = long_or_other-passes s.rules s.args_override_self read waiting word (long_of word) h e rows
 
-  word-passes : (is_trailing : Bool) (waiting : Waiting) (position : ℕ) (word : Text) (h : Held) → word_fault s names is_trailing waiting word h ≡ [] → RowsPass s.rules h.rows
+  word-passes : (is_trailing : Bool) (waiting : Waiting) (position : ℕ) (word : Text) (h : Held) →
+      word_fault s names is_trailing waiting word h ≡ [] → RowsPass s.rules h.rows
       → RowsPass s.rules (word_met s.rules names is_trailing waiting position word h).0.rows
   word-passes true waiting position word h e rows = rows
   word-passes false waiting position word h e rows = other-passes (subcommand_met names waiting word) waiting position word h e rows
 
-  positional-passes : (o : Option Rule) (word : Text) (w : Walk) (h : Held) (stray : Kinds) → option_map_or (λ a. positional_fault s.rules s.args_override_self a h) o stray ≡ [] → RowsPass s.rules h.rows
+  positional-passes : (o : Option Rule) (word : Text) (w : Walk) (h : Held) (stray : Kinds) →
+      option_map_or (λ a. positional_fault s.rules s.args_override_self a h) o stray ≡ [] → RowsPass s.rules h.rows
       → RowsPass s.rules (to_positional s.rules o word w h).held.rows
   positional-passes None word w h stray e rows = rows
   positional-passes (Some a) word w h stray e rows = go (is_pending a h.pending && takes_several a) e
@@ -130,20 +142,23 @@ module _ (s : Shape) (names : Names) (read : Each (IsRead s.rules) s.rules) wher
       go true e = rows
       go false e = settled-passes s.rules s.args_override_self read h e rows
 
-  step-passes : (step : Step) (word : Text) (w : Walk) (h : Held) → step_fault s w.position h step ≡ [] → RowsPass s.rules h.rows → RowsPass s.rules (after_step s.rules word w h step).held.rows
+  step-passes : (step : Step) (word : Text) (w : Walk) (h : Held) → step_fault s w.position h step ≡ [] → RowsPass s.rules h.rows →
+      RowsPass s.rules (after_step s.rules word w h step).held.rows
   step-passes (next waiting) word w h e rows = rows
   step-passes (trailing position) word w h e rows = rows
   step-passes (subcommand name) word w h e rows = rows
   step-passes value word w h e rows = positional-passes (arg_by_index s.rules w.position) word w h _ e rows
 
-  turn-passes : (w : Walk) (word : Text) → turn_fault s names w word ≡ [] → RowsPass s.rules w.held.rows → RowsPass s.rules (walked s.rules names w word).held.rows
+  turn-passes : (w : Walk) (word : Text) → turn_fault s names w word ≡ [] → RowsPass s.rules w.held.rows →
+      RowsPass s.rules (walked s.rules names w word).held.rows
   unfolding walked
   turn-passes w word e rows = go w.stopped e
     where
       met : Held × Step
       met = word_met s.rules names w.is_trailing w.waiting w.position word w.held
 
-      go : (stopped : Option (Text × List Text)) → cond (is_some stopped) [] (or_else (word_fault s names w.is_trailing w.waiting word w.held) (step_fault s w.position met.0 met.1)) ≡ []
+      go : (stopped : Option (Text × List Text)) → cond (is_some stopped) []
+          (or_else (word_fault s names w.is_trailing w.waiting word w.held) (step_fault s w.position met.0 met.1)) ≡ []
           → RowsPass s.rules (walked_from s.rules names stopped w word).held.rows
       go (Some p) e = rows
       go None e =
@@ -151,7 +166,8 @@ module _ (s : Shape) (names : Names) (read : Each (IsRead s.rules) s.rules) wher
           step-passes met.1 word w met.0 parts.1 (word-passes w.is_trailing w.waiting w.position word w.held parts.0 rows)
 
   -- the rows at the end of the words pass
-  pub walk-passes : (w : Walk) (words : List Text) → walk_fault s names w words ≡ [] → RowsPass s.rules w.held.rows → RowsPass s.rules (fold (walked s.rules names) w words).held.rows
+  pub walk-passes : (w : Walk) (words : List Text) → walk_fault s names w words ≡ [] → RowsPass s.rules w.held.rows →
+      RowsPass s.rules (fold (walked s.rules names) w words).held.rows
   unfolding walk_fault
   walk-passes w [] e rows = rows
   walk-passes w (word ∷ rest) e rows =
@@ -185,12 +201,14 @@ module _ (c : List Rule) where
   short_or_plain-names waiting word None h = plain-names waiting word h
   short_or_plain-names waiting word (Some flags) h = after_flag-names waiting word (bundle c flags h).0 (bundle c flags h).1
 
-  long_or_other-names : (waiting : Waiting) (word : Text) (o : Option (Text × Option Text)) (h : Held) → names_subcommand (long_or_other c waiting word o h).1 ≡ false
+  long_or_other-names : (waiting : Waiting) (word : Text) (o : Option (Text × Option Text)) (h : Held) →
+      names_subcommand (long_or_other c waiting word o h).1 ≡ false
   long_or_other-names waiting word (Some p) h = after_flag-names waiting word _ (long_met c (arg_by_long c p.0) p.1 h).1
   long_or_other-names waiting word None h = short_or_plain-names waiting word (short_of word) h
 
   -- after a step that names no subcommand the walk stands where it stood
-  step-goes_on : (step : Step) (word : Text) (w : Walk) (h : Held) → names_subcommand step ≡ false → w.stopped ≡ None → (after_step c word w h step).stopped ≡ None
+  step-goes_on : (step : Step) (word : Text) (w : Walk) (h : Held) → names_subcommand step ≡ false → w.stopped ≡ None →
+      (after_step c word w h step).stopped ≡ None
   step-goes_on (next waiting) word w h other none = none
   step-goes_on (trailing position) word w h other none = none
   step-goes_on (subcommand name) word w h other none = absurd (true≢false other)
@@ -201,7 +219,8 @@ module _ (c : List Rule) where
       go (Some a) = refl
 
 module _ (s : Shape) (names : Names) (offers : s.disable_help_subcommand ≡ false) where
-  named : (name : Text) → cond (bytes_eq name (codes "help") && not s.disable_help_subcommand) (DisplayHelp ∷ InvalidSubcommand ∷ []) [] ≡ [] → bytes_eq name (codes "help") ≡ false
+  named : (name : Text) → cond (bytes_eq name (codes "help") && not s.disable_help_subcommand) (DisplayHelp ∷ InvalidSubcommand ∷ []) []
+      ≡ [] → bytes_eq name (codes "help") ≡ false
   named name e = go (bytes_eq name (codes "help")) (rw offers at e)
     where
       go : (b : Bool) → cond (b && true) (DisplayHelp ∷ InvalidSubcommand ∷ []) [] ≡ [] → b ≡ false
@@ -213,17 +232,20 @@ module _ (s : Shape) (names : Names) (offers : s.disable_help_subcommand ≡ fal
   none-named (Some p) e = absurd (true≢false (ap is_some e))
 
   other-named : (met : Option Text) (word : Text) (w : Walk) → w.stopped ≡ None → other_fault s met word w.held ≡ []
-      → StopsNamed (after_step s.rules word w (subcommand_or_other s.rules met w.waiting w.position word w.held).0 (subcommand_or_other s.rules met w.waiting w.position word w.held).1).stopped
+      → StopsNamed (after_step s.rules word w (subcommand_or_other s.rules met w.waiting w.position word w.held).0
+      (subcommand_or_other s.rules met w.waiting w.position word w.held).1).stopped
   other-named (Some name) word w none e = named name e
   other-named None word w none e = go (bytes_eq word (45 ∷ 45 ∷ []))
     where
-      go : (b : Bool) → StopsNamed (after_step s.rules word w (cond b (w.held, trailing w.position) (long_or_other s.rules w.waiting word (long_of word) w.held)).0
+      go : (b : Bool) → StopsNamed
+          (after_step s.rules word w (cond b (w.held, trailing w.position) (long_or_other s.rules w.waiting word (long_of word) w.held)).0
           (cond b (w.held, trailing w.position) (long_or_other s.rules w.waiting word (long_of word) w.held)).1).stopped
       go true = none-named _ none
       go false = none-named _ (step-goes_on s.rules _ word w _ (long_or_other-names s.rules w.waiting word (long_of word) w.held) none)
 
   word-named : (is_trailing : Bool) (word : Text) (w : Walk) → w.stopped ≡ None → word_fault s names is_trailing w.waiting word w.held ≡ []
-      → StopsNamed (after_step s.rules word w (word_met s.rules names is_trailing w.waiting w.position word w.held).0 (word_met s.rules names is_trailing w.waiting w.position word w.held).1).stopped
+      → StopsNamed (after_step s.rules word w (word_met s.rules names is_trailing w.waiting w.position word w.held).0
+      (word_met s.rules names is_trailing w.waiting w.position word w.held).1).stopped
   word-named true word w none e = none-named _ (step-goes_on s.rules value word w w.held refl none)
   word-named false word w none e = other-named (subcommand_met names w.waiting word) word w none e
 
@@ -238,10 +260,12 @@ module _ (s : Shape) (names : Names) (offers : s.disable_help_subcommand ≡ fal
           → cond (is_some stopped) [] (or_else (word_fault s names w.is_trailing w.waiting word w.held) (step_fault s w.position met.0 met.1)) ≡ []
           → StopsNamed stopped → StopsNamed (walked_from s.rules names stopped w word).stopped
       go (Some p) is e named = named
-      go None is e named = word-named w.is_trailing word w is (no_kind (word_fault s names w.is_trailing w.waiting word w.held) (step_fault s w.position met.0 met.1) e).0
+      go None is e named = word-named w.is_trailing word w is
+          (no_kind (word_fault s names w.is_trailing w.waiting word w.held) (step_fault s w.position met.0 met.1) e).0
 
   -- the subcommand that the words name is not `help`
-  pub walk-named : (w : Walk) (words : List Text) → walk_fault s names w words ≡ [] → StopsNamed w.stopped → StopsNamed (fold (walked s.rules names) w words).stopped
+  pub walk-named : (w : Walk) (words : List Text) → walk_fault s names w words ≡ [] → StopsNamed w.stopped →
+      StopsNamed (fold (walked s.rules names) w words).stopped
   unfolding walk_fault
   walk-named w [] e named = named
   walk-named w (word ∷ rest) e named =

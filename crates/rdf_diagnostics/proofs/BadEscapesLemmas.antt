@@ -90,7 +90,8 @@ stop_go i (means d) b n c u y v e f =
 stop_go i fails b n c u y v e f = absurd (none_is_some v e)
 
 -- the walk passes a text with a value
-pub stop-append : (i : Inside) (s : EscapeState) (b n : ℕ) (u y v : List ℕ) → value i s u ≡ Some v → stop_from i s b n (u ++ y) ≡ stop_from i outside 0 (n + size u) y
+pub stop-append : (i : Inside) (s : EscapeState) (b n : ℕ) (u y v : List ℕ) → value i s u ≡ Some v →
+    stop_from i s b n (u ++ y) ≡ stop_from i outside 0 (n + size u) y
 stop-append i outside b n [] y v e = stop_now i b 0 n y ∙ ap (λ k. stop_from i outside 0 k y) (omega arith)
 stop-append i slash b n [] y v e = absurd (none_is_some v e)
 stop-append i (digits k m) b n [] y v e = absurd (none_is_some v e)
@@ -120,7 +121,8 @@ last_digit of_iri m = by (scalar m) (has iri_char m)
     by false r = inl refl
 
 -- within its digits
-digits_stop : (i : Inside) (k m b n : ℕ) (hexes y : List ℕ) → length hexes ≡ suc k → all_have (has hex_digit) hexes ≡ true → value i (digits (suc k) m) hexes ≡ None →
+digits_stop : (i : Inside) (k m b n : ℕ) (hexes y : List ℕ) → length hexes ≡ suc k → all_have (has hex_digit) hexes ≡ true →
+    value i (digits (suc k) m) hexes ≡ None →
     stop_from i (digits (suc k) m) b n (hexes ++ y) ≡ Some b
 digits_stop i k m b n [] y l h e = absurd (omega arith)
 digits_stop i zero m b n (x ∷ []) y l h e =
@@ -366,7 +368,8 @@ iri_parted d w m =
       bytes = refl;
       after = refl;
       plain = refl;
-      unfit = split of_iri x.0 (all_map (Matches (one iri_char ∣ uchar)) (IsPart of_iri) (λ p y. ⊎_elim (λ z. iri_part p z) (λ z. uchar_part of_iri p z) y) x.0 x.1);
+      unfit = split of_iri x.0 (all_map (Matches (one iri_char ∣ uchar)) (IsPart of_iri)
+          (λ p y. ⊎_elim (λ z. iri_part p z) (λ z. uchar_part of_iri p z) y) x.0 x.1);
     }
 
 -- a string between two quotes
@@ -390,7 +393,8 @@ short_parted q k w e z n m =
     }
 
 -- and one between three quotes on each side
-long_parted : (q : ℕ) (other : (q == 92) ≡ false) (k : Class) (w : List ℕ) → (q == 60) ≡ false → (size (q ∷ q ∷ q ∷ []) ≡ 3) × (1 + size (q ∷ q ∷ []) ≡ 3) → has k 92 ≡ false →
+long_parted : (q : ℕ) (other : (q == 92) ≡ false) (k : Class) (w : List ℕ) → (q == 60) ≡ false →
+    (size (q ∷ q ∷ q ∷ []) ≡ 3) × (1 + size (q ∷ q ∷ []) ≡ 3) → has k 92 ≡ false →
     Matches (one (the q) · (one (the q) · (one (the q) · (many (optional (one (the q) ∣ one (the q) · one (the q)) · (one k ∣ (echar ∣ uchar)))
     · (one (the q) · (one (the q) · one (the q))))))) w → Parted of_string 3 false w
 long_parted q other k w e z n m =
@@ -399,9 +403,11 @@ long_parted q other k w e z n m =
     let f = m.3.3.3.3 in
     let x = long_parts q other k n ps m.3.3.3.2.1 in
     let ends : end ≡ q ∷ q ∷ q ∷ [] =
-    f.4 ∙ (ap (λ u. u ++ f.1) (the_one q f.0 f.2) ∙ ap (λ v. q ∷ v) (f.3.4 ∙ (ap (λ u. u ++ f.3.1) (the_one q f.3.0 f.3.2) ∙ ap (λ v. q ∷ v) (the_one q f.3.1 f.3.3)))) in
+    f.4 ∙ (ap (λ u. u ++ f.1) (the_one q f.0 f.2)
+    ∙ ap (λ v. q ∷ v) (f.3.4 ∙ (ap (λ u. u ++ f.3.1) (the_one q f.3.0 f.3.2) ∙ ap (λ v. q ∷ v) (the_one q f.3.1 f.3.3)))) in
     let rest : m.3.1 ≡ q ∷ (concat x.0 ++ (q ∷ q ∷ q ∷ [])) =
-    m.3.3.4 ∙ (ap (λ u. u ++ m.3.3.1) (the_one q m.3.3.0 m.3.3.2) ∙ ap (λ v. q ∷ v) (m.3.3.3.4 ∙ (ap (λ u. u ++ end) (m.3.3.3.2.2 ∙ x.2) ∙ ap (λ v. concat x.0 ++ v) ends))) in
+    m.3.3.4 ∙ (ap (λ u. u ++ m.3.3.1) (the_one q m.3.3.0 m.3.3.2)
+    ∙ ap (λ v. q ∷ v) (m.3.3.3.4 ∙ (ap (λ u. u ++ end) (m.3.3.3.2.2 ∙ x.2) ∙ ap (λ v. concat x.0 ++ v) ends))) in
     record {
       first = q;
       others = q ∷ q ∷ [];
@@ -433,7 +439,8 @@ value_of of_string w v m = (string_means w v).1 m
 value_of of_iri w v m = (iri_means w v).1 m
 
 -- no front of a bad escape means a character
-digits_cut : (i : Inside) (k m n : ℕ) (hexes y : List ℕ) → length hexes ≡ suc k → all_have (has hex_digit) hexes ≡ true → value i (digits (suc k) m) hexes ≡ None →
+digits_cut : (i : Inside) (k m n : ℕ) (hexes y : List ℕ) → length hexes ≡ suc k → all_have (has hex_digit) hexes ≡ true →
+    value i (digits (suc k) m) hexes ≡ None →
     value i (digits (suc k) m) (take n (hexes ++ y)) ≡ None
 digits_cut i k m n [] y l h e = absurd (omega arith)
 digits_cut i k m zero (x ∷ w) y l h e = refl
@@ -542,7 +549,8 @@ module _ (d : Dialect) (x : List ℕ) (len : ℕ) (k : Kind) (token : IsLongest 
       let parts : x ≡ (opened ++ s.front) ++ (s.bad ++ later) = all ∙ sym (append_assoc opened s.front (s.bad ++ later)) in
       let long : length (opened ++ s.front) ≡ m + at = length-append opened s.front ∙ ap (λ n. n + at) p.opens in
       let taken : take (m + at) x ≡ opened ++ s.front = ap (take (m + at)) parts ∙ take_at (opened ++ s.front) (s.bad ++ later) (m + at) long in
-      let both : size (opened ++ s.front) ≡ size opened + size s.front = ap length (encodes-append opened s.front) ∙ length-append (encode_utf8_all opened) (encode_utf8_all s.front) in
+      let both : size (opened ++ s.front) ≡ size opened + size s.front =
+      ap length (encodes-append opened s.front) ∙ length-append (encode_utf8_all opened) (encode_utf8_all s.front) in
       record {
         kind = k;
         len = len;
@@ -587,7 +595,8 @@ long_cases Turtle w m = ⊎_elim
     m
 
 -- In a text whose first token is not fit the walk finds its first bad escape.
-pub found : (d : Dialect) (x : List ℕ) → IsUnfit d x → (n : ℕ) × (stop_from (inside_of (get_or x 0 0 == 60)) outside 0 1 (drop 1 x) ≡ Some n) × HasBadEscape d x n
+pub found : (d : Dialect) (x : List ℕ) → IsUnfit d x →
+    (n : ℕ) × (stop_from (inside_of (get_or x 0 0 == 60)) outside 0 1 (drop 1 x) ≡ Some n) × HasBadEscape d x n
 unfolding is_fit
 found d x (len, k, token, e) = by k token e
   where
@@ -603,7 +612,8 @@ pub walk_found : (d : Dialect) (x y : List ℕ) (first : ℕ) (r : Option ℕ) �
     r ≡ stop_from (inside_of (first == 60)) outside 0 1 y → MatchOption r ⊥ (λ n. HasBadEscape d x n)
 walk_found d x y first r u a b e =
     let f = found d x u in
-    let is : r ≡ Some f.0 = e ∙ (ap (λ w. stop_from (inside_of (first == 60)) outside 0 1 w) b ∙ (ap (λ c. stop_from (inside_of (c == 60)) outside 0 1 (drop 1 x)) (sym a) ∙ f.1)) in
+    let is : r ≡ Some f.0 = e ∙ (ap (λ w. stop_from (inside_of (first == 60)) outside 0 1 w) b
+    ∙ (ap (λ c. stop_from (inside_of (c == 60)) outside 0 1 (drop 1 x)) (sym a) ∙ f.1)) in
     subst (λ r. MatchOption r ⊥ (λ n. HasBadEscape d x n)) (sym is) f.2
 
 -- the first character of a text

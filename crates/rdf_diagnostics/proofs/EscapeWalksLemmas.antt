@@ -76,4 +76,5 @@ module _ (i : Inside) (s : EscapeState) (b n c : ℕ) (w : List ℕ) where
 -- what is known of a digit
 pub some_digit : (r : Option ℕ) (v c : ℕ) → r ≡ Some v → SomeIff r (has hex_digit c ≡ true) (hex_value c) → IfSome r (λ v. v < 16) →
     (has hex_digit c ≡ true) × (v ≡ hex_value c) × (v < 16)
-some_digit r v c e h s = let k = subst (λ r. SomeIff r (has hex_digit c ≡ true) (hex_value c)) e h in let l = subst (λ r. IfSome r (λ v. v < 16)) e s in (k.0, k.1, l)
+some_digit r v c e h s = let k = subst (λ r. SomeIff r (has hex_digit c ≡ true) (hex_value c)) e h in let l =
+    subst (λ r. IfSome r (λ v. v < 16)) e s in (k.0, k.1, l)

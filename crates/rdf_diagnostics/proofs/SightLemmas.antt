@@ -29,10 +29,14 @@ use Rattle.rdf_diagnostics.specs.Sights.{reading_from, HasNone, IsOpen, IsLonges
 use Rattle.rdf_diagnostics.specs.SightRuns.{IsOther, IsSeen, IsSeenOf, seen_for, Sees, SeesEnd, SeesPart, HasTaken}
 
 -- Bytes that leave a token open do so too where fewer have come.
-pub shorter : (d : Dialect) (limit : ℕ) (front more : List ℕ) → HasNone (reading_from d limit (front ++ more) false) undecided → HasNone (reading_from d limit front false) undecided
+pub shorter : (d : Dialect) (limit : ℕ) (front more : List ℕ) → HasNone (reading_from d limit (front ++ more) false) undecided →
+    HasNone (reading_from d limit front false) undecided
 shorter d limit front more h =
     let l = lengthens d limit (code " " ∷ front) more false in
-    record { tokens = none (reading_from d limit front false).tokens l.0.0 (sym l.0.1 ∙ h.tokens); outcome = at (reading_from d limit front false).outcome refl }
+    record {
+      tokens = none (reading_from d limit front false).tokens l.0.0 (sym l.0.1 ∙ h.tokens);
+      outcome = at (reading_from d limit front false).outcome refl;
+    }
   where
     none : (ts us : List Read) → ts ++ us ≡ [] → ts ≡ []
     none [] us e = refl
@@ -52,7 +56,8 @@ shorter d limit front more h =
     at bad_escape e = e ∙ decided bad_escape e (λ u. (cc))
 
 -- What bytes begin with, where it is decided, they begin with when more have come.
-pub longer : (d : Dialect) (limit : ℕ) (front more : List ℕ) (e : Bool) (s : Seen) → IsSeen (reading_from d limit front false) s → s ≢ Open → IsSeen (reading_from d limit (front ++ more) e) s
+pub longer : (d : Dialect) (limit : ℕ) (front more : List ℕ) (e : Bool) (s : Seen) → IsSeen (reading_from d limit front false) s →
+    s ≢ Open → IsSeen (reading_from d limit (front ++ more) e) s
 longer d limit front more e Open h n = absurd (n refl)
 longer d limit front more e (First k len) h n =
     let l = lengthens d limit (code " " ∷ front) more e in
@@ -138,7 +143,8 @@ sees_token old new t Other g h = record {
 sees_token old new t s g h = absurd h
 
 -- one that took a part of a piece before
-pub sees_part : (old mid new : Unread) (piece : List ℕ) (n : ℕ) (s : Seen) → IsWaiting old → TakesBytes old piece n mid → Sees mid s new → SeesPart old piece n s new
+pub sees_part : (old mid new : Unread) (piece : List ℕ) (n : ℕ) (s : Seen) → IsWaiting old → TakesBytes old piece n mid → Sees mid s new →
+    SeesPart old piece n s new
 sees_part old mid new piece n s w t x = record {
   same = record { dialect = x.same.dialect ∙ t.same.dialect; limit = x.same.limit ∙ t.same.limit };
   within = t.within;
@@ -176,7 +182,8 @@ unfolding tokens_of
 nothing_yet d limit =
     let bytes : List ℕ = code " " ∷ [] in
     let e = ap
-    (λ n. tokens_at d limit (cond (n == 1) goes_on (cond (is_some (utf8_error_len (drop n bytes))) broken goes_on)) false false first_place (chars (take n bytes)))
+    (λ n. tokens_at d limit (cond (n == 1) goes_on (cond (is_some (utf8_error_len (drop n bytes))) broken goes_on)) false false first_place
+    (chars (take n bytes)))
     (utf8_valid_len-IsUtf8 bytes space_utf8)
     ∙ (ap (tokens_at d limit goes_on false false first_place) space_chars
     ∙ at_stop d limit goes_on false first_place bytes undecided (after_space d limit)) in
@@ -186,7 +193,8 @@ nothing_yet d limit =
 pub took_space : (v w : Unread) (n : ℕ) (s : Seen) (bytes : List ℕ) → HasScanned v [] [] → SeesPart v (code " " ∷ []) n s w → HasTaken w bytes 0
 took_space v w n s bytes b p =
     let one : n ≡ 1 = let within = p.within in let forward = p.forward (omega arith) in omega arith in
-    let h : IsSeen (reading_from v.dialect v.limit [] false) s = subst (λ k. IsSeen (tokens_of v.dialect v.limit (take k (code " " ∷ [])) false) s) one (p.is [] b) in
+    let h : IsSeen (reading_from v.dialect v.limit [] false) s =
+    subst (λ k. IsSeen (tokens_of v.dialect v.limit (take k (code " " ∷ [])) false) s) one (p.is [] b) in
     let waits : s ≡ Open = only_open (reading_from v.dialect v.limit [] false) s h (nothing_yet v.dialect v.limit) in
     record {
       front = record { within = omega arith; none = nothing_yet w.dialect w.limit };
@@ -220,7 +228,8 @@ open_before d limit rest m n l h =
     shorter d limit (take m rest) (drop m (take n rest)) (subst (λ x. HasNone (reading_from d limit x false) undecided) (sym (front_rest rest m n l)) h)
 
 -- a part that decides nothing
-pub took : (v w : Unread) (rest piece : List ℕ) (k most n : ℕ) → piece ≡ take most (drop k rest) → k + most ≤ length rest → HasTaken v rest k → SeesPart v piece n Open w →
+pub took : (v w : Unread) (rest piece : List ℕ) (k most n : ℕ) → piece ≡ take most (drop k rest) → k + most ≤ length rest →
+    HasTaken v rest k → SeesPart v piece n Open w →
     HasTaken w rest (k + n)
 took v w rest piece k most n e l h p =
     let j = joined rest piece k most n e p.within in
@@ -231,14 +240,16 @@ took v w rest piece k most n e l h p =
         within = omega arith;
         none = subst (λ x. HasNone (reading_from w.dialect w.limit x false) undecided) j
             (subst (λ d. HasNone (tokens_of d w.limit (code " " ∷ (take k rest ++ take n piece)) false) undecided) (sym p.same.dialect)
-            (subst (λ m. HasNone (tokens_of v.dialect m (code " " ∷ (take k rest ++ take n piece)) false) undecided) (sym p.same.limit) (p.is (code " " ∷ take k rest) h.scanned)));
+            (subst (λ m. HasNone (tokens_of v.dialect m (code " " ∷ (take k rest ++ take n piece)) false) undecided) (sym p.same.limit)
+            (p.is (code " " ∷ take k rest) h.scanned)));
       };
       waiting = p.waits refl;
       scanned = subst (λ x. HasScanned w (code " " ∷ x) []) j (p.read refl (code " " ∷ take k rest) h.scanned);
     }
 
 -- a part that decides
-pub decided : (v w : Unread) (rest piece : List ℕ) (k most n end : ℕ) (s : Seen) → piece ≡ take most (drop k rest) → k + most ≤ end → HasTaken v rest k → SeesPart v piece n s w →
+pub decided : (v w : Unread) (rest piece : List ℕ) (k most n end : ℕ) (s : Seen) → piece ≡ take most (drop k rest) → k + most ≤ end →
+    HasTaken v rest k → SeesPart v piece n s w →
     s ≢ Open → IsSeen (reading_from v.dialect v.limit (take end rest) false) s
 decided v w rest piece k most n end s e l h p o =
     let within = p.within in
@@ -293,7 +304,8 @@ longest_next d limit rest text i e l b h =
     }
 
 -- a character goes on after i bytes
-pub longest_within : (d : Dialect) (limit : ℕ) (rest text : List ℕ) (i n : ℕ) → text ≡ take (utf8_valid_len rest) rest → i + 1 ≤ length text → (IsCharBoundary text (i + 1) → ⊥) →
+pub longest_within : (d : Dialect) (limit : ℕ) (rest text : List ℕ) (i n : ℕ) → text ≡ take (utf8_valid_len rest) rest →
+    i + 1 ≤ length text → (IsCharBoundary text (i + 1) → ⊥) →
     IsLongestTo d limit rest i n → IsLongestTo d limit rest (i + 1) n
 longest_within d limit rest text i n e l b h = record {
   opens = h.opens;
@@ -305,7 +317,8 @@ longest_within d limit rest text i n e l b h = record {
         let le = utf8_valid_len_le rest in
         let size : length text ≡ utf8_valid_len rest = ap length e ∙ length-take-le (utf8_valid_len rest) rest le in
         let same : take (i + 1) text ≡ take (i + 1) rest = ap (take (i + 1)) e ∙ take-take (i + 1) (utf8_valid_len rest) rest (omega arith) in
-        b (IsCharBoundary-from_take text (i + 1) (subst IsUtf8 (sym e) (good_front rest)) l (subst IsUtf8 (sym same) (subst (λ x. IsUtf8 (take x rest)) q o.characters)))
+        b (IsCharBoundary-from_take text (i + 1) (subst IsUtf8 (sym e) (good_front rest)) l
+        (subst IsUtf8 (sym same) (subst (λ x. IsUtf8 (take x rest)) q o.characters)))
 
 -- more bytes settle it
 pub longest_settled : (d : Dialect) (limit : ℕ) (rest : List ℕ) (i n : ℕ) (s : Seen) → IsSeen (reading_from d limit (take (i + 1) rest) false) s → s ≢ Open →
@@ -313,11 +326,13 @@ pub longest_settled : (d : Dialect) (limit : ℕ) (rest : List ℕ) (i n : ℕ) 
 longest_settled d limit rest i n s h o l = record {
   opens = l.opens;
   longest = λ m x. ⊎_elim (λ k. l.longest m x (omega arith))
-      (λ k. absurd (o (only_open (reading_from d limit (take (i + 1) rest) false) s h (open_before d limit rest (i + 1) m k x.front.none)))) (cases_lt m (i + 1));
+      (λ k. absurd (o (only_open (reading_from d limit (take (i + 1) rest) false) s h (open_before d limit rest (i + 1) m k x.front.none))))
+      (cases_lt m (i + 1));
 }
 
 -- there are no more characters
-pub longest_all : (d : Dialect) (limit : ℕ) (rest text : List ℕ) (n : ℕ) → text ≡ take (utf8_valid_len rest) rest → IsLongestTo d limit rest (length text) n → IsLongestOpen d limit rest n
+pub longest_all : (d : Dialect) (limit : ℕ) (rest text : List ℕ) (n : ℕ) → text ≡ take (utf8_valid_len rest) rest →
+    IsLongestTo d limit rest (length text) n → IsLongestOpen d limit rest n
 unfolding utf8_valid_len
 longest_all d limit rest text n e l = record {
   opens = l.opens;

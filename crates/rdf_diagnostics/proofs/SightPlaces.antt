@@ -32,7 +32,8 @@ unfolding utf8_valid_len
 valid_space rest =
     let bytes = code " " ∷ rest in
     let l = utf8_valid_len_le rest in
-    let more = at_least bytes (length bytes) (suc (utf8_valid_len rest)) (omega arith) (IsUtf8-append (code " " ∷ []) (take (utf8_valid_len rest) rest) space_utf8 (good_front rest)) in
+    let more = at_least bytes (length bytes) (suc (utf8_valid_len rest)) (omega arith)
+    (IsUtf8-append (code " " ∷ []) (take (utf8_valid_len rest) rest) space_utf8 (good_front rest)) in
     let few = at_most (utf8_valid_len bytes) (utf8_valid_len_le bytes) (good_front bytes) in
     omega (arith, more, few)
   where
@@ -155,6 +156,7 @@ module _ (d : Dialect) (limit : ℕ) (rest : List ℕ) (e : Bool) (n : ℕ) (h :
 
   -- so what is found in that text is found there
   pub found_there : (text : List ℕ) (r : Option ℕ) → text ≡ drop (n - 1) (take (utf8_valid_len rest) rest) →
-      ((d : Dialect) → IsUnfit d (chars text) → MatchOption r ⊥ (λ k. HasBadEscape d (chars text) k)) → MatchOption r ⊥ (λ k. HasBadEscape d (rest_of d false (good rest)) k)
+      ((d : Dialect) → IsUnfit d (chars text) → MatchOption r ⊥ (λ k. HasBadEscape d (chars text) k)) →
+      MatchOption r ⊥ (λ k. HasBadEscape d (rest_of d false (good rest)) k)
   found_there text r e f =
       subst (λ w. MatchOption r ⊥ (λ k. HasBadEscape d w k)) (ap chars e ∙ text_is) (f d (subst (λ w. IsUnfit d (chars w)) (sym e) unfit))

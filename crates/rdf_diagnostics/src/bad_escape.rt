@@ -7,7 +7,8 @@ ghost use Rattle.rdf_terms.specs.declared.kind.Dialect.{Dialect};
 ghost use Rattle.rdf_terms.specs.Values.{EscapeState, digit_move, echar_move, allowed, move, outside};
 ghost use Rattle.rdf_tokens.specs.Laws.{IsUnfit};
 ghost use Rattle.rdf_diagnostics.specs.BadEscapes.{HasBadEscape};
-ghost use Rattle.rdf_diagnostics.specs.EscapeWalks.{IsInRoom, IsStepInRoom, begun_at, inside_of, room, stand_of, step_for, stop_from};
+ghost use Rattle.rdf_diagnostics.specs.EscapeWalks.{IsInRoom, IsStepInRoom, begun_at, inside_of, room, stand_of};
+ghost use Rattle.rdf_diagnostics.specs.EscapeWalks.{step_for, stop_from};
 
 use rdf_terms::{hex_value, is_iri_char};
 

@@ -2,7 +2,8 @@
 
 ghost use Rattle.std.specs.Prelude.{◌≡◌, false, nat_eq};
 ghost use Rattle.std.specs.List.{list_any};
-ghost use Rattle.rdf_diagnostics.specs.Causes.{advice_text, bad_escape_rows, bad_utf8_rows, cause_of, first, no_token_rows, row, unbound_rows, unexpected_rows};
+ghost use Rattle.rdf_diagnostics.specs.Causes.{advice_text, bad_escape_rows, bad_utf8_rows, cause_of, first};
+ghost use Rattle.rdf_diagnostics.specs.Causes.{no_token_rows, row, unbound_rows, unexpected_rows};
 
 use crate::signs::{
     has_space_before, has_surrogate, is_badly_escaped, is_direction, is_directive, is_in_directive,

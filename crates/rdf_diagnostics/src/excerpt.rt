@@ -1,7 +1,8 @@
 // The line of a document near a place, as it is shown, with a caret under the place.
 
 ghost use Rattle.std.specs.Prelude.{◌≡◌, ◌++◌, IfOk, OnOk, encode_utf8_all, map};
-ghost use Rattle.rdf_diagnostics.specs.Excerpts.{excerpt_text, first_60, is_hidden, is_unseen, last_60, shown, shown_of, under, with_caret, without_cr};
+ghost use Rattle.rdf_diagnostics.specs.Excerpts.{excerpt_text, first_60, is_hidden, is_unseen, last_60, shown};
+ghost use Rattle.rdf_diagnostics.specs.Excerpts.{shown_of, under, with_caret, without_cr};
 
 use std::alloc::{AllocError, Allocator};
 

@@ -5,7 +5,8 @@ ghost use Rattle.std.specs.Str.{chars};
 ghost use Rattle.std.specs.Str.Lossy.{utf8_valid_len};
 ghost use Rattle.rdf_tokens.specs.Scans.{IsWaiting, SameScan, token_of};
 ghost use Rattle.rdf_diagnostics.specs.Sights.{IsLongestOpen, IsSight, LeavesOpen, reading_from};
-ghost use Rattle.rdf_diagnostics.specs.SightRuns.{HasTaken, StandsFrom, IsSeen, IsSeenOf, Sees, SeesEnd, SeesPart, seen_for};
+ghost use Rattle.rdf_diagnostics.specs.SightRuns.{HasTaken, StandsFrom, IsSeen, IsSeenOf, Sees, SeesEnd, SeesPart};
+ghost use Rattle.rdf_diagnostics.specs.SightRuns.{seen_for};
 
 use crate::bad_escape::bad_escape_in;
 use rdf_terms::{Dialect, Kind, Reason};

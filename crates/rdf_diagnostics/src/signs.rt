@@ -2,9 +2,15 @@
 
 ghost use Rattle.std.specs.Prelude.{◌≡◌, ◌≤◌, false, length, slice_index};
 ghost use Rattle.std.specs.List.{prefix_len, suffix_len};
-ghost use Rattle.rdf_diagnostics.specs.Signs.{begins_packed, ends_in_name, ends_in_tag, has_bad_escape, has_prefix_before, has_space_before, has_surrogate, is_badly_escaped, is_direction, is_directive, is_escape, is_in_directive};
-ghost use Rattle.rdf_diagnostics.specs.Signs.{is_iri_or_space, is_json_ld, is_json_ld_key, is_keyword, is_latin1, is_lone, is_mark, is_month, is_name_byte, is_open_string, is_packed, is_prefix_without_colon, is_slash_in_name};
-ghost use Rattle.rdf_diagnostics.specs.Signs.{is_surrogate, is_tag_byte, is_triple_term, is_turtle, is_underscore_in_tag, is_utf16, is_web_page, is_xml, name_len, starts_word};
+ghost use Rattle.rdf_diagnostics.specs.Signs.{begins_packed, ends_in_name, ends_in_tag, has_bad_escape};
+ghost use Rattle.rdf_diagnostics.specs.Signs.{has_prefix_before, has_space_before, has_surrogate, is_badly_escaped};
+ghost use Rattle.rdf_diagnostics.specs.Signs.{is_direction, is_directive, is_escape, is_in_directive};
+ghost use Rattle.rdf_diagnostics.specs.Signs.{is_iri_or_space, is_json_ld, is_json_ld_key, is_keyword, is_latin1};
+ghost use Rattle.rdf_diagnostics.specs.Signs.{is_lone, is_mark, is_month, is_name_byte, is_open_string, is_packed};
+ghost use Rattle.rdf_diagnostics.specs.Signs.{is_prefix_without_colon, is_slash_in_name};
+ghost use Rattle.rdf_diagnostics.specs.Signs.{is_surrogate, is_tag_byte, is_triple_term, is_turtle};
+ghost use Rattle.rdf_diagnostics.specs.Signs.{is_underscore_in_tag, is_utf16, is_web_page, is_xml, name_len};
+ghost use Rattle.rdf_diagnostics.specs.Signs.{starts_word};
 
 /// The document begins as a file of gzip, bzip2, xz or zip.
 pub(crate) fn is_packed(offset: u64, after: &[u8]) -> bool

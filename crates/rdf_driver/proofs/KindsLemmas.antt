@@ -10,7 +10,9 @@ use Rattle.rdf_driver.specs.Kinds.{has, number}
 
 -- the kinds in their order
 abbrev all : List Kind
-all = IriRef ∷ LabelNode ∷ ShortString ∷ LongString ∷ LangTag ∷ Carets ∷ Dot ∷ LineEnd ∷ Integer ∷ Decimal ∷ Double ∷ True ∷ False ∷ A ∷ AtPrefix ∷ AtBase ∷ Prefix ∷ Base ∷ Graph ∷ PnameNs ∷ PnameLn ∷ Semicolon ∷ Comma ∷ OpenBracket ∷ CloseBracket ∷ OpenParen ∷ CloseParen ∷ OpenBrace ∷ CloseBrace ∷ End ∷ []
+all = IriRef ∷ LabelNode ∷ ShortString ∷ LongString ∷ LangTag ∷ Carets ∷ Dot ∷ LineEnd ∷ Integer ∷ Decimal ∷ Double ∷ True ∷ False ∷ A
+    ∷ AtPrefix ∷ AtBase ∷ Prefix ∷ Base ∷ Graph ∷ PnameNs ∷ PnameLn ∷ Semicolon ∷ Comma ∷ OpenBracket ∷ CloseBracket ∷ OpenParen
+    ∷ CloseParen ∷ OpenBrace ∷ CloseBrace ∷ End ∷ []
 
 -- each stands where its number says
 stands : (k : Kind) → get_or all (number k) End ≡ k

@@ -17,17 +17,21 @@ use Rattle.rdf_driver.specs.Readers.{Driven, HasRead, IsLive}
 use Rattle.rdf_driver.specs.Passing.{can_pass, passed, LeadsBack}
 
 -- Counts are the same where their numbers are.
-summary_same : {a b c d e g : ℕ} → a ≡ b → c ≡ d → e ≡ g → (let x : Summary = record { quads = a; tokens = c; bytes = e } in x) ≡ record { quads = b; tokens = d; bytes = g }
+summary_same : {a b c d e g : ℕ} → a ≡ b → c ≡ d → e ≡ g → (let x : Summary = record { quads = a; tokens = c; bytes = e } in x)
+    ≡ record { quads = b; tokens = d; bytes = g }
 summary_same p q r = cc
 
-module _ {G X I : Type 0} (w : Words G X I) (r : Driven G) (idle : is_idle r.scanner ≡ true) (piece : List ℕ) (more : List I) (tokens : ℕ) (l : LeadsBack w r piece more tokens) where
+module _ {G X I : Type 0} (w : Words G X I) (r : Driven G) (idle : is_idle r.scanner ≡ true) (piece : List ℕ) (more : List I) (tokens : ℕ)
+    (l : LeadsBack w r piece more tokens) where
   -- the reader has read the bytes that it passed
-  pub passed_has_read : (x : X) (bytes : List ℕ) (quads : List I) → HasRead w r x bytes quads → HasRead w (passed r piece (length more) tokens) x (bytes ++ piece) (quads ++ more)
+  pub passed_has_read : (x : X) (bytes : List ℕ) (quads : List I) → HasRead w r x bytes quads →
+      HasRead w (passed r piece (length more) tokens) x (bytes ++ piece) (quads ++ more)
   passed_has_read x bytes quads h =
       let v = r.scanner in
       let now = bytes ++ piece in
       let us = (tokens_of w.dialect v.limit bytes false).tokens in
-      let spells : Spells v.dialect v.limit v.place (chars piece) l.spelled = subst (λ d. Spells d v.limit v.place (chars piece) l.spelled) (sym h.dialect) l.spells in
+      let spells : Spells v.dialect v.limit v.place (chars piece) l.spelled =
+      subst (λ d. Spells d v.limit v.place (chars piece) l.spelled) (sym h.dialect) l.spells in
       let scan = passed_read v bytes piece us l.spelled h.scanned idle l.utf8 spells in
       let d = idle_decides (Pass.passed v piece) now (us ++ l.spelled) idle scan in
       let all : (tokens_of w.dialect v.limit now false).tokens ≡ us ++ l.spelled = ap (λ y. (tokens_of y v.limit now false).tokens) (sym h.dialect) ∙ d.0 in
@@ -35,7 +39,8 @@ module _ {G X I : Type 0} (w : Words G X I) (r : Driven G) (idle : is_idle r.sca
       let tokens_read : r.so_far.tokens ≡ length us = ap (λ s. s.tokens) h.so_far in
       let bytes_read : r.so_far.bytes ≡ length bytes = ap (λ s. s.bytes) h.so_far in
       let count = l.count in
-      let same_tokens : r.so_far.tokens + tokens ≡ length (tokens_of w.dialect v.limit now false).tokens = omega (arith, ap length all, length-append us l.spelled) in
+      let same_tokens : r.so_far.tokens + tokens ≡ length (tokens_of w.dialect v.limit now false).tokens =
+      omega (arith, ap length all, length-append us l.spelled) in
       record {
         running = h.running;
         dialect = h.dialect;
@@ -101,7 +106,8 @@ module _ {G X I : Type 0} (w : Words G X I) (law : Lawful w) (r : Driven G) (i :
   bytes_room = ∥∥₁_elim i.read le_prop (λ y. few_bytes y.0 y.1 y.2 y.3)
 
 -- what `can_pass` says
-pub can_pass-parts : {G : Type 0} (r : Driven G) (len : ℕ) → can_pass r len ≡ true → (r.done ≡ false) × (is_idle r.scanner ≡ true) × (r.scanner.taken.offset + len ≤ most_bytes)
+pub can_pass-parts : {G : Type 0} (r : Driven G) (len : ℕ) → can_pass r len ≡ true →
+    (r.done ≡ false) × (is_idle r.scanner ≡ true) × (r.scanner.taken.offset + len ≤ most_bytes)
 can_pass-parts r len e =
     let a = and_parts (not r.done) (is_idle r.scanner && nat_le (r.scanner.taken.offset + len) most_bytes) e in
     let b = and_parts (is_idle r.scanner) (nat_le (r.scanner.taken.offset + len) most_bytes) a.1 in
@@ -120,8 +126,10 @@ module _ {G X I : Type 0} (w : Words G X I) (r : Driven G) (piece : List ℕ) (q
       subst (λ n. IsLive w (passed r piece n tokens)) (sym l.1) (passed_live w r p.1 piece l.0 tokens l.2 p.2 i)
 
   -- what was read is what stood before and what was passed
-  pub pass_reads : (more : List I) → quads ≡ length more → LeadsBack w r piece more tokens → (x : X) (before : List ℕ) (given : List I) → HasRead w r x before given →
+  pub pass_reads : (more : List I) → quads ≡ length more → LeadsBack w r piece more tokens → (x : X) (before : List ℕ) (given : List I) →
+      HasRead w r x before given →
       HasRead w (passed r piece quads tokens) x (before ++ piece) (given ++ more)
   pass_reads more n l x before given h =
       let p = can_pass-parts r (length piece) can in
-      subst (λ n. HasRead w (passed r piece n tokens) x (before ++ piece) (given ++ more)) (sym n) (passed_has_read w r p.1 piece more tokens l x before given h)
+      subst (λ n. HasRead w (passed r piece n tokens) x (before ++ piece) (given ++ more)) (sym n)
+      (passed_has_read w r p.1 piece more tokens l x before given h)

@@ -88,7 +88,14 @@ second_line_fails sizes = record {
   rest = [];
   entries = None ∷ [];
   cut = (codes "\nx", inr (no_mark, refl), (refl, (tt, (((λ n. omega (arith, n)), tt), tt))));
-  says = (([], inr ((λ f. let k : 0 ≡ length (f.0 ++ 13 ∷ []) = ap length f.1 in omega (arith, k, length-append f.0 (13 ∷ []))), refl), (IsUtf8-nil, inl (ap (all_have is_blank) chars-nil))), tt);
+  says = (
+    (
+      [],
+      inr ((λ f. let k : 0 ≡ length (f.0 ++ 13 ∷ []) = ap length f.1 in omega (arith, k, length-append f.0 (13 ∷ []))), refl),
+      (IsUtf8-nil, inl (ap (all_have is_blank) chars-nil)),
+    ),
+    tt,
+  );
   fits = ((tt, tt), omega arith);
   counted = refl;
   why = letter_alone;

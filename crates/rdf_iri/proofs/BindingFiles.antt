@@ -47,7 +47,8 @@ pub record ReadSoFar (sizes : Sizes) (bytes : List ℕ) (rest : Option (List ℕ
   pub counted : line ≡ length front
 
 -- nothing
-pub nothing_read : (sizes : Sizes) (bytes start : List ℕ) (rest : Option (List ℕ)) (s : InForce) → MarkDropped bytes start → rest ≡ Some start → s ≡ record { base = None; bindings = []; limits = sizes } → ReadSoFar sizes bytes rest 0 s
+pub nothing_read : (sizes : Sizes) (bytes start : List ℕ) (rest : Option (List ℕ)) (s : InForce) → MarkDropped bytes start →
+    rest ≡ Some start → s ≡ record { base = None; bindings = []; limits = sizes } → ReadSoFar sizes bytes rest 0 s
 nothing_read sizes bytes start rest s m r e = record {
   start = start;
   mark = m;
@@ -69,7 +70,8 @@ all_in_both P [] w a b = b
 all_in_both P (x ∷ v) w a b = (a.0, all_in_both P v w a.1 b)
 
 -- lines that say some entries, and one line more
-say_one_more : (lines : List (List ℕ)) (entries : List Entry) (line : List ℕ) (entry : Entry) → AllSay lines entries → Says line entry → AllSay (lines ++ line ∷ []) (entries ++ entry ∷ [])
+say_one_more : (lines : List (List ℕ)) (entries : List Entry) (line : List ℕ) (entry : Entry) → AllSay lines entries → Says line entry →
+    AllSay (lines ++ line ∷ []) (entries ++ entry ∷ [])
 say_one_more [] [] line entry a b = (b, tt)
 say_one_more [] (e ∷ es) line entry a b = absurd a
 say_one_more (l ∷ ls) [] line entry a b = absurd a
@@ -81,7 +83,8 @@ then_one_more [] line w = refl
 then_one_more (l ∷ lines) line w = ap (λ x. l ++ 10 ∷ x) (then_one_more lines line w)
 
 -- one line more
-left_one_more : (lines : List (List ℕ)) (w start : List ℕ) (rest : Option (List ℕ)) → rest ≡ after 10 w → Left lines (Some w) start → Left (lines ++ before 10 w ∷ []) rest start
+left_one_more : (lines : List (List ℕ)) (w start : List ℕ) (rest : Option (List ℕ)) → rest ≡ after 10 w → Left lines (Some w) start →
+    Left (lines ++ before 10 w ∷ []) rest start
 left_one_more lines w start None e l =
     let whole : before 10 w ≡ w = sym (append-nil (before 10 w)) ∙ (ap (λ o. before 10 w ++ suffix 10 o) e ∙ cut_whole 10 w) in
     (lines, before 10 w, refl, ap (then lines) whole ∙ l)
@@ -90,7 +93,8 @@ left_one_more lines w start (Some v) e l =
     then_one_more lines (before 10 w) v ∙ (ap (then lines) whole ∙ l)
 
 -- the map and the limits after one line more
-fits_one_more : (sizes : Sizes) (entries : List Entry) (entry : Entry) (s t : InForce) → s.limits ≡ sizes → AllFit sizes entries → SameMap s.bindings (bindings_of entries) → EntryFits s.limits entry → Enters s entry t →
+fits_one_more : (sizes : Sizes) (entries : List Entry) (entry : Entry) (s t : InForce) → s.limits ≡ sizes → AllFit sizes entries →
+    SameMap s.bindings (bindings_of entries) → EntryFits s.limits entry → Enters s entry t →
     AllFit sizes (entries ++ entry ∷ []) × SameMap t.bindings (bindings_of (entries ++ entry ∷ []))
 fits_one_more sizes entries None s t l f m k e =
     let b : bindings_of (entries ++ None ∷ []) ≡ bindings_of entries = adds_nothing entries in (
@@ -125,7 +129,8 @@ enters_base s t None e = (ap (λ (x : InForce). x.base) e, ap (λ (x : InForce).
 enters_base s t (Some x) e = (e.1.base, e.1.limits)
 
 -- what is kept of a file holds after a line that was taken
-pub one_line_more : (sizes : Sizes) (bytes w text : List ℕ) (rest more : Option (List ℕ)) (line next : ℕ) (s t : InForce) → ReadSoFar sizes bytes rest line s → rest ≡ Some w → more ≡ after 10 w →
+pub one_line_more : (sizes : Sizes) (bytes w text : List ℕ) (rest more : Option (List ℕ)) (line next : ℕ) (s t : InForce) →
+    ReadSoFar sizes bytes rest line s → rest ≡ Some w → more ≡ after 10 w →
     CrDropped (before 10 w) text → TakesLine s text t → next ≡ line + 1 → ReadSoFar sizes bytes more next t
 one_line_more sizes bytes w text rest more line next s t r e m c k n =
     let f = fits_one_more sizes r.entries k.0 s t r.limits r.fits r.same k.2 k.3 in
@@ -146,7 +151,8 @@ one_line_more sizes bytes w text rest more line next s t r e m c k n =
     }
 
 -- lines that end in an LF, and the others
-feeds_then : (front : List (List ℕ)) (line : List ℕ) (more : List (List ℕ)) (start : List ℕ) → then front (with_feeds line more) ≡ start → AllByRecursion (Lacks 10) (front ++ line ∷ more) → IsCut start (front ++ line ∷ more)
+feeds_then : (front : List (List ℕ)) (line : List ℕ) (more : List (List ℕ)) (start : List ℕ) → then front (with_feeds line more) ≡ start →
+    AllByRecursion (Lacks 10) (front ++ line ∷ more) → IsCut start (front ++ line ∷ more)
 feeds_then [] line more start e a = (e, a)
 feeds_then (l ∷ front) line more start e a = (sym (by l front) ∙ e, a)
   where
@@ -155,7 +161,8 @@ feeds_then (l ∷ front) line more start e a = (sym (by l front) ∙ e, a)
     by l (k ∷ front) = ap (λ x. l ++ 10 ∷ x) (by k front)
 
 -- at the end
-pub whole_read : (sizes : Sizes) (bytes : List ℕ) (rest : Option (List ℕ)) (line : ℕ) (s : InForce) (b : BindingMap) → ReadSoFar sizes bytes rest line s → rest ≡ None → b ≡ record { bindings = s.bindings; limits = s.limits } → IsReadFrom sizes bytes b
+pub whole_read : (sizes : Sizes) (bytes : List ℕ) (rest : Option (List ℕ)) (line : ℕ) (s : InForce) (b : BindingMap) →
+    ReadSoFar sizes bytes rest line s → rest ≡ None → b ≡ record { bindings = s.bindings; limits = s.limits } → IsReadFrom sizes bytes b
 whole_read sizes bytes rest line s b r e f =
     let l = subst (λ o. Left r.front o r.start) e r.left in
     let lines : IsCut r.start (l.0 ++ l.1 ∷ []) = feeds_then l.0 l.1 [] r.start l.3 (subst (AllByRecursion (Lacks 10)) l.2 r.lacks) in (
@@ -166,16 +173,19 @@ whole_read sizes bytes rest line s b r e f =
     )
 
 -- what a line that says something says of an IRI
-said_iri : (lines : List (List ℕ)) (entries : List Entry) → AllSay lines entries → (prefix iri : List ℕ) → bound_to (bindings_of entries) prefix ≡ Some iri → IsIri iri
+said_iri : (lines : List (List ℕ)) (entries : List Entry) → AllSay lines entries → (prefix iri : List ℕ) →
+    bound_to (bindings_of entries) prefix ≡ Some iri → IsIri iri
 said_iri [] [] a prefix iri e = absurd (cc)
 said_iri [] (x ∷ es) a prefix iri e = absurd a
 said_iri (l ∷ ls) [] a prefix iri e = absurd a
 said_iri (l ∷ ls) (None ∷ es) a prefix iri e = said_iri ls es a.1 prefix iri e
 said_iri (l ∷ ls) (Some x ∷ es) a prefix iri e =
     ⊎_elim
-    (λ t. said_iri ls es a.1 prefix iri (sym (ap (λ m. bound_to m prefix) (cond-true (is_some (bound_to (bindings_of es) x.0)) (bindings_of es) (x ∷ bindings_of es) t)) ∙ e))
+    (λ t. said_iri ls es a.1 prefix iri
+    (sym (ap (λ m. bound_to m prefix) (cond-true (is_some (bound_to (bindings_of es) x.0)) (bindings_of es) (x ∷ bindings_of es) t)) ∙ e))
     (λ f.
-    let at : bound_to (x ∷ bindings_of es) prefix ≡ Some iri = sym (ap (λ m. bound_to m prefix) (cond-false (is_some (bound_to (bindings_of es) x.0)) (bindings_of es) (x ∷ bindings_of es) f)) ∙ e in
+    let at : bound_to (x ∷ bindings_of es) prefix ≡ Some iri =
+    sym (ap (λ m. bound_to m prefix) (cond-false (is_some (bound_to (bindings_of es) x.0)) (bindings_of es) (x ∷ bindings_of es) f)) ∙ e in
     ⊎_elim
     (λ h.
     let s : Some x.1 ≡ Some iri = sym (cond-true (equal prefix x.0) (Some x.1) (bound_to (bindings_of es) prefix) h) ∙ at in
@@ -185,7 +195,8 @@ said_iri (l ∷ ls) (Some x ∷ es) a prefix iri e =
     (cases_Bool (is_some (bound_to (bindings_of es) x.0)))
 
 -- what the prefixes are bound to are absolute IRIs
-pub read_iris : (sizes : Sizes) (bytes : List ℕ) (rest : Option (List ℕ)) (line : ℕ) (s : InForce) → ReadSoFar sizes bytes rest line s → (prefix iri : List ℕ) → bound_to s.bindings prefix ≡ Some iri → IsIri iri
+pub read_iris : (sizes : Sizes) (bytes : List ℕ) (rest : Option (List ℕ)) (line : ℕ) (s : InForce) → ReadSoFar sizes bytes rest line s →
+    (prefix iri : List ℕ) → bound_to s.bindings prefix ≡ Some iri → IsIri iri
 read_iris sizes bytes rest line s r prefix iri e = said_iri r.front r.entries r.says prefix iri (sym (r.same.bound prefix) ∙ e)
 
 -- some bytes, cut
@@ -201,8 +212,19 @@ pieces [] = record { line = []; more = []; whole = refl; lacks = (tt, tt) }
 pieces (c ∷ w) =
     let p = pieces w in
     ⊎_elim
-    (λ (t : (c == 10) ≡ true). record { line = []; more = p.line ∷ p.more; whole = ap (λ x. x ∷ with_feeds p.line p.more) (sym (eqb-true c 10 t)) ∙ ap (λ x. c ∷ x) p.whole; lacks = (tt, p.lacks) })
-    (λ (f : (c == 10) ≡ false). record { line = c ∷ p.line; more = p.more; whole = longer c p.line p.more ∙ ap (λ x. c ∷ x) p.whole; lacks = ((eqb-false c 10 f, p.lacks.0), p.lacks.1) })
+    (λ (t : (c == 10) ≡ true). record {
+      line = [];
+      more = p.line ∷ p.more;
+      whole = ap (λ x. x ∷ with_feeds p.line p.more)
+          (sym (eqb-true c 10 t)) ∙ ap (λ x. c ∷ x) p.whole;
+      lacks = (tt, p.lacks);
+    })
+    (λ (f : (c == 10) ≡ false). record {
+      line = c ∷ p.line;
+      more = p.more;
+      whole = longer c p.line p.more ∙ ap (λ x. c ∷ x) p.whole;
+      lacks = ((eqb-false c 10 f, p.lacks.0), p.lacks.1);
+    })
     (cases_Bool (c == 10))
   where
     longer : (c : ℕ) (line : List ℕ) (more : List (List ℕ)) → with_feeds (c ∷ line) more ≡ c ∷ with_feeds line more
@@ -210,7 +232,8 @@ pieces (c ∷ w) =
     longer c line (next ∷ more) = refl
 
 -- the line at hand, and those after it
-lines_after : (front : List (List ℕ)) (w start : List ℕ) → Left front (Some w) start → AllByRecursion (Lacks 10) front → (rest : List (List ℕ)) × IsCut start (front ++ before 10 w ∷ rest)
+lines_after : (front : List (List ℕ)) (w start : List ℕ) → Left front (Some w) start → AllByRecursion (Lacks 10) front →
+    (rest : List (List ℕ)) × IsCut start (front ++ before 10 w ∷ rest)
 lines_after front w start l a = by (after 10 w) refl
   where
     by : (o : Option (List ℕ)) → after 10 w ≡ o → (rest : List (List ℕ)) × IsCut start (front ++ before 10 w ∷ rest)
@@ -219,11 +242,16 @@ lines_after front w start l a = by (after 10 w) refl
         ([], feeds_then front (before 10 w) [] start (ap (then front) whole ∙ l) (all_in_both (Lacks 10) front (before 10 w ∷ []) a (before-lacks 10 w, tt)))
     by (Some v) e =
         let p = pieces v in
-        let whole : before 10 w ++ 10 ∷ with_feeds p.line p.more ≡ w = ap (λ x. before 10 w ++ 10 ∷ x) p.whole ∙ (ap (λ o. before 10 w ++ suffix 10 o) (sym e) ∙ cut_whole 10 w) in
-        (p.line ∷ p.more, feeds_then front (before 10 w) (p.line ∷ p.more) start (ap (then front) whole ∙ l) (all_in_both (Lacks 10) front (before 10 w ∷ p.line ∷ p.more) a (before-lacks 10 w, p.lacks)))
+        let whole : before 10 w ++ 10 ∷ with_feeds p.line p.more ≡ w =
+        ap (λ x. before 10 w ++ 10 ∷ x) p.whole ∙ (ap (λ o. before 10 w ++ suffix 10 o) (sym e) ∙ cut_whole 10 w) in (
+          p.line ∷ p.more,
+          feeds_then front (before 10 w) (p.line ∷ p.more) start (ap (then front) whole ∙ l)
+              (all_in_both (Lacks 10) front (before 10 w ∷ p.line ∷ p.more) a (before-lacks 10 w, p.lacks)),
+        )
 
 -- why the line fails
-fails : (reason : BindingReason) (sizes : Sizes) (s : InForce) (entries : List Entry) (line text : List ℕ) → s.limits ≡ sizes → SameMap s.bindings (bindings_of entries) → CrDropped line text →
+fails : (reason : BindingReason) (sizes : Sizes) (s : InForce) (entries : List Entry) (line text : List ℕ) → s.limits ≡ sizes →
+    SameMap s.bindings (bindings_of entries) → CrDropped line text →
     ((other : List ℕ) → CrDropped line other → other ≡ text) → (reason ≡ Memory → ⊥) → StopsAt reason s text → FailsFor reason sizes entries line
 fails BadBinding sizes s entries line text l m c o n k = λ entry said. k entry (subst (λ x. TextSays x entry) (o said.0 said.1) said.2)
 fails TokenTooLong sizes s entries line text l m c o n k = (k.0, (text, c, k.1), subst (λ (z : Sizes). z.token < length (k.0.0 ++ 58 ∷ [])) l k.2)
@@ -254,7 +282,8 @@ one_text line v w a b =
     a
 
 -- a line that was not taken is where the file fails
-at : (reason : BindingReason) (sizes : Sizes) (bytes w text : List ℕ) (rest : Option (List ℕ)) (line next : ℕ) (s : InForce) → ReadSoFar sizes bytes rest line s → rest ≡ Some w →
+at : (reason : BindingReason) (sizes : Sizes) (bytes w text : List ℕ) (rest : Option (List ℕ)) (line next : ℕ) (s : InForce) →
+    ReadSoFar sizes bytes rest line s → rest ≡ Some w →
     CrDropped (before 10 w) text → StopsAt reason s text → next ≡ line + 1 → (reason ≡ Memory → ⊥) → FailsAt reason sizes bytes next
 at reason sizes bytes w text rest line next s r e c k n m =
     let b = lines_after r.front w r.start (subst (λ o. Left r.front o r.start) e r.left) r.lacks in
@@ -271,7 +300,8 @@ at reason sizes bytes w text rest line next s r e c k n m =
     }
 
 -- the error that is reported for a line that was not taken is the error of the file
-pub line_fails : (reason : BindingReason) (sizes : Sizes) (bytes w text : List ℕ) (rest : Option (List ℕ)) (line next : ℕ) (s : InForce) → ReadSoFar sizes bytes rest line s → rest ≡ Some w →
+pub line_fails : (reason : BindingReason) (sizes : Sizes) (bytes w text : List ℕ) (rest : Option (List ℕ)) (line next : ℕ) (s : InForce) →
+    ReadSoFar sizes bytes rest line s → rest ≡ Some w →
     CrDropped (before 10 w) text → StopsAt reason s text → next ≡ line + 1 → IsRefused reason sizes bytes next
 line_fails Memory sizes bytes w text rest line next s r e c k n = tt
 line_fails BadBinding sizes bytes w text rest line next s r e c k n = at BadBinding sizes bytes w text rest line next s r e c k n (λ x. cc)
@@ -290,7 +320,8 @@ left_less c (d ∷ w) =
 
 -- a byte order mark is part of the file
 pub mark_shortens : (bytes start : List ℕ) → MarkDropped bytes start → length start ≤ length bytes
-mark_shortens bytes start m = ⊎_elim (λ e. let k : length bytes ≡ suc (suc (suc (length start))) = ap length e in omega (arith, k)) (λ h. let k = ap length h.1 in omega (arith, k)) m
+mark_shortens bytes start m = ⊎_elim (λ e. let k : length bytes ≡ suc (suc (suc (length start))) = ap length e in omega (arith, k))
+    (λ h. let k = ap length h.1 in omega (arith, k)) m
 
 -- a line shortens what is left
 pub left_more : (more : Option (List ℕ)) (w : List ℕ) → more ≡ after 10 w → left more ≤ length w

@@ -41,7 +41,8 @@ heads l m ls ms e a b =
     (sym x.0 ∙ (ap (before 10) f ∙ y.0), sym x.1 ∙ (ap (after 10) f ∙ y.1))
 
 -- so two ways to cut it are the same
-same_lines : (l m : List ℕ) (ls ms : List (List ℕ)) → with_feeds l ls ≡ with_feeds m ms → AllByRecursion (Lacks 10) (l ∷ ls) → AllByRecursion (Lacks 10) (m ∷ ms) → ◌≡◌ {A = List (List ℕ)} (l ∷ ls) (m ∷ ms)
+same_lines : (l m : List ℕ) (ls ms : List (List ℕ)) → with_feeds l ls ≡ with_feeds m ms → AllByRecursion (Lacks 10) (l ∷ ls) →
+    AllByRecursion (Lacks 10) (m ∷ ms) → ◌≡◌ {A = List (List ℕ)} (l ∷ ls) (m ∷ ms)
 same_lines l m [] [] e a b = ap (λ z. z ∷ []) (heads l m [] [] e a.0 b.0).0
 same_lines l m [] (k ∷ ms) e a b = absurd (let h : ◌≡◌ {A = Option (List ℕ)} None (Some (with_feeds k ms)) = (heads l m [] (k ∷ ms) e a.0 b.0).1 in cc)
 same_lines l m (j ∷ ls) [] e a b = absurd (let h : ◌≡◌ {A = Option (List ℕ)} (Some (with_feeds j ls)) None = (heads l m (j ∷ ls) [] e a.0 b.0).1 in cc)
@@ -95,7 +96,8 @@ record Around (front : List (List ℕ)) (line : List ℕ) (entries : List Entry)
   pub said : Says line entry
 
 -- a line in the middle says an entry in the middle
-around : (lines : List (List ℕ)) (line : List ℕ) (rest : List (List ℕ)) (entries : List Entry) → AllSay (lines ++ line ∷ rest) entries → Around lines line entries
+around : (lines : List (List ℕ)) (line : List ℕ) (rest : List (List ℕ)) (entries : List Entry) → AllSay (lines ++ line ∷ rest) entries →
+    Around lines line entries
 around [] line rest [] a = absurd a
 around [] line rest (e ∷ es) a = record { ahead = []; entry = e; later = es; parts = refl; says = tt; said = a.0 }
 around (l ∷ ls) line rest [] a = absurd a
@@ -123,11 +125,14 @@ grows_more (f ∷ fs) es =
     omega (arith, a, b, k)
 
 -- no reason fits a line that keeps the limits
-no_reason : (reason : BindingReason) (sizes : Sizes) (ahead later : List Entry) (line : List ℕ) (e : Entry) → FailsFor reason sizes ahead line → Says line e → EntryFits sizes e →
+no_reason : (reason : BindingReason) (sizes : Sizes) (ahead later : List Entry) (line : List ℕ) (e : Entry) →
+    FailsFor reason sizes ahead line → Says line e → EntryFits sizes e →
     length (bindings_of (ahead ++ e ∷ later)) ≤ sizes.bindings → ⊥
 no_reason BadBinding sizes ahead later line e f s k n = f e s
-no_reason TokenTooLong sizes ahead later line e f s k n = let h = subst (EntryFits sizes) (said_once line e (Some f.0) s f.1) k in let i = f.2 in omega (arith, h.0, i)
-no_reason IriTooLong sizes ahead later line e f s k n = let h = subst (EntryFits sizes) (said_once line e (Some f.0) s f.1) k in let i = f.3 in omega (arith, h.1, i)
+no_reason TokenTooLong sizes ahead later line e f s k n = let h = subst (EntryFits sizes) (said_once line e (Some f.0) s f.1) k in let i =
+    f.2 in omega (arith, h.0, i)
+no_reason IriTooLong sizes ahead later line e f s k n = let h = subst (EntryFits sizes) (said_once line e (Some f.0) s f.1) k in let i =
+    f.3 in omega (arith, h.1, i)
 no_reason TooManyBindings sizes ahead later line e f s k n =
     let same = said_once line e (Some f.0) s f.1 in
     let a = (adds ahead f.0.0 f.0.1).count in
@@ -146,5 +151,6 @@ failing_files reason sizes bytes number entries f i =
     let r = around f.front f.line f.rest entries (subst (λ x. AllSay x entries) lines i.says) in
     let ahead = all_once f.front r.ahead f.entries r.says f.says in
     let fits = subst (AllByRecursion (EntryFits sizes)) r.parts i.fits.0 in
-    no_reason reason sizes r.ahead r.later f.line r.entry (subst (λ x. FailsFor reason sizes x f.line) (sym ahead) f.why) r.said (fits_at sizes r.ahead r.later r.entry fits)
+    no_reason reason sizes r.ahead r.later f.line r.entry (subst (λ x. FailsFor reason sizes x f.line) (sym ahead) f.why) r.said
+    (fits_at sizes r.ahead r.later r.entry fits)
     (subst (λ x. length (bindings_of x) ≤ sizes.bindings) r.parts i.fits.1)

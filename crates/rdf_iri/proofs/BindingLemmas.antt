@@ -74,19 +74,23 @@ pub record AtMark (mark : ℕ) (bytes front rest : List ℕ) : Type 0 where
   pub utf8 : IsUtf8 front × IsUtf8 rest
 
 -- it is cut alike in bytes and in characters
-pub at_mark : (mark : ℕ) (bytes front rest : List ℕ) → mark < 128 → IsUtf8 bytes → front ≡ before mark bytes → Some rest ≡ after mark bytes → AtMark mark bytes front rest
+pub at_mark : (mark : ℕ) (bytes front rest : List ℕ) → mark < 128 → IsUtf8 bytes → front ≡ before mark bytes →
+    Some rest ≡ after mark bytes → AtMark mark bytes front rest
 at_mark mark bytes front rest l u e f =
     let s = scalars-chars bytes u in
-    let cut : front ≡ encode_utf8_all (before mark (chars bytes)) = e ∙ (ap (before mark) (sym (encodes-chars bytes u)) ∙ (before-bytes mark (chars bytes) l).0) in
+    let cut : front ≡ encode_utf8_all (before mark (chars bytes)) =
+    e ∙ (ap (before mark) (sym (encodes-chars bytes u)) ∙ (before-bytes mark (chars bytes) l).0) in
     let good = scalars-before mark (chars bytes) s in
-    let back : Some rest ≡ option_map encode_utf8_all (after mark (chars bytes)) = f ∙ (ap (after mark) (sym (encodes-chars bytes u)) ∙ after-bytes mark (chars bytes) l) in
+    let back : Some rest ≡ option_map encode_utf8_all (after mark (chars bytes)) =
+    f ∙ (ap (after mark) (sym (encodes-chars bytes u)) ∙ after-bytes mark (chars bytes) l) in
     record {
       ahead = ap chars cut ∙ chars-encodes (before mark (chars bytes)) good;
       back = (by s (after mark (chars bytes)) refl back).0;
       utf8 = ((before mark (chars bytes), (good, sym cut)), (by s (after mark (chars bytes)) refl back).1);
     }
   where
-    by : scalars (chars bytes) ≡ true → (o : Option (List ℕ)) → after mark (chars bytes) ≡ o → Some rest ≡ option_map encode_utf8_all o → (Some (chars rest) ≡ o) × IsUtf8 rest
+    by : scalars (chars bytes) ≡ true → (o : Option (List ℕ)) → after mark (chars bytes) ≡ o → Some rest ≡ option_map encode_utf8_all o →
+        (Some (chars rest) ≡ o) × IsUtf8 rest
     by s None a b = absurd (cc)
     by s (Some w) a b =
         let same : rest ≡ encode_utf8_all w = cc in
@@ -108,22 +112,26 @@ is_plain bytes name prefix iri u e f g m i =
     let a = at_mark 32 bytes name iri (omega arith) u e f in
     let b = before_last name prefix 58 utf8_colon chars_colon a.utf8.0 g in
     record {
-      form = sym (cut_whole 32 (chars bytes)) ∙ (ap (λ x. x ++ suffix 32 (after 32 (chars bytes))) (sym a.ahead ∙ b.chars) ∙ ap (λ o. (chars prefix ++ 58 ∷ []) ++ suffix 32 o) (sym a.back));
+      form = sym (cut_whole 32 (chars bytes)) ∙ (ap (λ x. x ++ suffix 32 (after 32 (chars bytes))) (sym a.ahead ∙ b.chars)
+          ∙ ap (λ o. (chars prefix ++ 58 ∷ []) ++ suffix 32 o) (sym a.back));
       shape = subst (Shape Turtle PnameNs) b.chars m;
       absolute = i;
     }
 
 -- and one without a space is not
 pub no_plain_without_space : (bytes prefix iri : List ℕ) → IsUtf8 bytes → None ≡ after 32 bytes → IsIn IsPlain (chars bytes) prefix iri → ⊥
-no_plain_without_space bytes prefix iri u e b = absurd (let k = no_mark 32 bytes (omega arith) u e in let l = (plain_cuts (chars bytes) prefix iri b).back in cc)
+no_plain_without_space bytes prefix iri u e b =
+    absurd (let k = no_mark 32 bytes (omega arith) u e in let l = (plain_cuts (chars bytes) prefix iri b).back in cc)
 
 -- the name of such a text is a PNAME_NS
-pub plain_name : (bytes name i prefix iri : List ℕ) → IsUtf8 bytes → name ≡ before 32 bytes → Some i ≡ after 32 bytes → IsIn IsPlain (chars bytes) prefix iri → Shape Turtle PnameNs (chars name)
+pub plain_name : (bytes name i prefix iri : List ℕ) → IsUtf8 bytes → name ≡ before 32 bytes → Some i ≡ after 32 bytes →
+    IsIn IsPlain (chars bytes) prefix iri → Shape Turtle PnameNs (chars name)
 plain_name bytes name i prefix iri u e f b =
     let a = at_mark 32 bytes name i (omega arith) u e f in subst (Shape Turtle PnameNs) (sym (a.ahead ∙ (plain_cuts (chars bytes) prefix iri b).front)) b.shape
 
 -- what follows the space is an absolute IRI
-pub plain_iri : (bytes name i prefix iri : List ℕ) → IsUtf8 bytes → name ≡ before 32 bytes → Some i ≡ after 32 bytes → IsIn IsPlain (chars bytes) prefix iri → IsIri (chars i)
+pub plain_iri : (bytes name i prefix iri : List ℕ) → IsUtf8 bytes → name ≡ before 32 bytes → Some i ≡ after 32 bytes →
+    IsIn IsPlain (chars bytes) prefix iri → IsIri (chars i)
 plain_iri bytes name i prefix iri u e f b =
     let a = at_mark 32 bytes name i (omega arith) u e f in
     let s : Some (chars i) ≡ Some iri = a.back ∙ (plain_cuts (chars bytes) prefix iri b).back in
@@ -172,7 +180,8 @@ behind_blanks text n u b =
     no_blank : IsUtf8 (drop n text) → (c : ℕ) (v : List ℕ) → chars (drop n text) ≡ c ∷ v → is_blank c ≡ false
     no_blank w c v f =
         ⊎_elim
-        (λ t. past-first text c (encode_utf8_all v) (sym b.rest ∙ bytes_ascii (drop n text) (c ∷ []) v (and_from (nat_lt c 128) true (lt-ltb c 128 (blank_ascii c t)) refl) w f))
+        (λ t. past-first text c (encode_utf8_all v)
+        (sym b.rest ∙ bytes_ascii (drop n text) (c ∷ []) v (and_from (nat_lt c 128) true (lt-ltb c 128 (blank_ascii c t)) refl) w f))
         (λ g. g)
         (cases_Bool (is_blank c))
 
@@ -269,7 +278,8 @@ in_other_words (Some x) N M S R f g a = g x a
 -- a text, cut at its first mark, as characters
 pub mark_there : (mark : ℕ) (bytes front rest : List ℕ) → AtMark mark bytes front rest → chars bytes ≡ chars front ++ mark ∷ chars rest
 mark_there mark bytes front rest a =
-    sym (cut_whole mark (chars bytes)) ∙ (ap (λ x. x ++ suffix mark (after mark (chars bytes))) (sym a.ahead) ∙ ap (λ o. chars front ++ suffix mark o) (sym a.back))
+    sym (cut_whole mark (chars bytes))
+    ∙ (ap (λ x. x ++ suffix mark (after mark (chars bytes))) (sym a.ahead) ∙ ap (λ o. chars front ++ suffix mark o) (sym a.back))
 
 -- a text, cut behind its first colon
 pub record AtColon (bytes front : List ℕ) : Type 0 where
@@ -282,7 +292,8 @@ at_colon bytes front rest u e f =
     let a = at_mark 58 bytes front rest (omega arith) u e f in
     let n : length (front ++ 58 ∷ []) ≡ length front + 1 = length-append front (58 ∷ []) in
     let w : bytes ≡ (front ++ 58 ∷ []) ++ rest =
-    sym (cut_whole 58 bytes) ∙ (ap (λ x. x ++ suffix 58 (after 58 bytes)) (sym e) ∙ (ap (λ o. front ++ suffix 58 o) (sym f) ∙ sym (append_assoc front (58 ∷ []) rest))) in
+    sym (cut_whole 58 bytes) ∙ (ap (λ x. x ++ suffix 58 (after 58 bytes)) (sym e)
+    ∙ (ap (λ o. front ++ suffix 58 o) (sym f) ∙ sym (append_assoc front (58 ∷ []) rest))) in
     record {
       boundary = subst (IsCharBoundary bytes) n (IsCharBoundary-at_seam bytes (front ++ 58 ∷ []) rest w a.utf8.1);
       name = ap chars (ap (λ k. take k bytes) (sym n) ∙ (ap (take (length (front ++ 58 ∷ []))) w ∙ take-append_seam (front ++ 58 ∷ []) rest))
@@ -290,10 +301,12 @@ at_colon bytes front rest u e f =
     }
 
 -- a text that is cut behind its blanks and its colon has a name
-pub is_name : (w named prefix rest : List ℕ) → BeginsBlank w → chars named ≡ past is_blank w → AtMark 58 named prefix rest → Shape Turtle PnameNs (chars prefix ++ 58 ∷ []) → NameThen w (chars prefix) (chars rest)
+pub is_name : (w named prefix rest : List ℕ) → BeginsBlank w → chars named ≡ past is_blank w → AtMark 58 named prefix rest →
+    Shape Turtle PnameNs (chars prefix ++ 58 ∷ []) → NameThen w (chars prefix) (chars rest)
 is_name w named prefix rest b e a m = record {
   apart = b;
-  name = begins_there w (chars prefix ++ 58 ∷ []) (chars rest) (sym e ∙ (mark_there 58 named prefix rest a ∙ sym (append_assoc (chars prefix) (58 ∷ []) (chars rest))));
+  name = begins_there w (chars prefix ++ 58 ∷ []) (chars rest)
+      (sym e ∙ (mark_there 58 named prefix rest a ∙ sym (append_assoc (chars prefix) (58 ∷ []) (chars rest))));
   shape = m;
 }
 
@@ -305,7 +318,8 @@ name_cut w named q n e b =
     (ap (before 58) p ∙ r.0, ap (after 58) p ∙ r.1)
 
 -- a text that is cut at its brackets has an IRI
-pub is_iri : (w inside iri rest : List ℕ) → past is_blank w ≡ 60 ∷ chars inside → AtMark 62 inside iri rest → IsIri (chars iri) → IriThen w (chars iri) (chars rest)
+pub is_iri : (w inside iri rest : List ℕ) → past is_blank w ≡ 60 ∷ chars inside → AtMark 62 inside iri rest → IsIri (chars iri) →
+    IriThen w (chars iri) (chars rest)
 is_iri w inside iri rest e a i = record {
   reference = begins_there w (60 ∷ (chars iri ++ 62 ∷ [])) (chars rest)
       (e ∙ ap (λ x. 60 ∷ x) (mark_there 62 inside iri rest a ∙ sym (append_assoc (chars iri) (62 ∷ []) (chars rest))));
@@ -313,7 +327,8 @@ is_iri w inside iri rest e a i = record {
 }
 
 -- and an IRI is cut there
-pub iri_cut : (w inside j n : List ℕ) → past is_blank w ≡ 60 ∷ chars inside → IriThen w j n → (before 62 (chars inside) ≡ j) × (after 62 (chars inside) ≡ Some n)
+pub iri_cut : (w inside j n : List ℕ) → past is_blank w ≡ 60 ∷ chars inside → IriThen w j n →
+    (before 62 (chars inside) ≡ j) × (after 62 (chars inside) ≡ Some n)
 iri_cut w inside j n e b =
     let r = cut_suffix 62 j (Some n) (iri_lacks j b.absolute.characters) in
     let p : chars inside ≡ j ++ 62 ∷ n = ap (drop 1) (sym e ∙ iri_there w j n b.reference) in
@@ -324,7 +339,8 @@ pub after-from : (c : ℕ) (w : List ℕ) (d : ℕ) (v : List ℕ) → from c w 
 after-from c [] d v e = absurd (cc)
 after-from c (x ∷ w) d v e =
     ⊎_elim
-    (λ t. let s : x ∷ w ≡ d ∷ v = sym (cond-true (x == c) (x ∷ w) (from c w) t) ∙ e in let r : w ≡ v = cc in cond-true (x == c) (Some w) (after c w) t ∙ ap Some r)
+    (λ t. let s : x ∷ w ≡ d ∷ v = sym (cond-true (x == c) (x ∷ w) (from c w) t) ∙ e in let r : w ≡ v = cc in
+    cond-true (x == c) (Some w) (after c w) t ∙ ap Some r)
     (λ f. cond-false (x == c) (Some w) (after c w) f ∙ after-from c w d v (sym (cond-false (x == c) (x ∷ w) (from c w) f) ∙ e))
     (cases_Bool (x == c))
 

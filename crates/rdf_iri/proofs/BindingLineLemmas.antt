@@ -145,7 +145,8 @@ prefix_lacks prefix m =
     Lacks-from_splits 58 prefix (λ u v h. not_used (optional pn_prefix) u v 58 no_colon (subst (Matches (optional pn_prefix)) (sym e ∙ h) m.2))
 
 -- a prefix with its colon begins with no blank
-name_first : (prefix : List ℕ) → Shape Turtle PnameNs (prefix ++ 58 ∷ []) → (c : ℕ) × (t : List ℕ) × (prefix ++ 58 ∷ [] ≡ c ∷ t) × (is_blank c ≡ false) × (c ≡ 35 → ⊥)
+name_first : (prefix : List ℕ) → Shape Turtle PnameNs (prefix ++ 58 ∷ []) →
+    (c : ℕ) × (t : List ℕ) × (prefix ++ 58 ∷ [] ≡ c ∷ t) × (is_blank c ≡ false) × (c ≡ 35 → ⊥)
 name_first [] m = (58, [], refl, refl, λ e. omega (arith, e))
 name_first (c ∷ p) m = (
   c,
@@ -233,7 +234,13 @@ capitals = (
     record { big = refl; small = refl; lowered = refl; kept = refl; ascii = omega arith },
     (
       record { big = refl; small = refl; lowered = refl; kept = refl; ascii = omega arith },
-      (record { big = refl; small = refl; lowered = refl; kept = refl; ascii = omega arith }, (record { big = refl; small = refl; lowered = refl; kept = refl; ascii = omega arith }, (record { big = refl; small = refl; lowered = refl; kept = refl; ascii = omega arith }, tt))),
+      (
+        record { big = refl; small = refl; lowered = refl; kept = refl; ascii = omega arith },
+        (
+          record { big = refl; small = refl; lowered = refl; kept = refl; ascii = omega arith },
+          (record { big = refl; small = refl; lowered = refl; kept = refl; ascii = omega arith }, tt),
+        ),
+      ),
     ),
   ),
 )
@@ -408,7 +415,11 @@ prefix_id_there w p i d m a = record {
   rest = d.at_name;
   is = refl;
   whole = token_there w 64 (codes "prefix") d.at_name refl d.word;
-  declares = (d.at_dot, (d.at_iri, record { apart = d.apart; name = d.name; shape = m }, record { reference = d.reference; absolute = a }), (d.rest, d.dot, d.ends));
+  declares = (
+    d.at_dot,
+    (d.at_iri, record { apart = d.apart; name = d.name; shape = m }, record { reference = d.reference; absolute = a }),
+    (d.rest, d.dot, d.ends),
+  );
 }
 
 -- SPARQL's
@@ -466,10 +477,12 @@ word_cases w p i d = ⊎_elim (λ f. inl (prefix_id_there w p i f d.shape d.abso
 -- no word is both
 both_words : (w p i q j : List ℕ) → AtWord IsAtPrefix EndsAtDot w p i → AtWord (Shape Turtle Prefix) SaysNothing w q j → ⊥
 both_words w p i q j a b =
-    no_keyword b.word b.rest (codes "prefix" ++ a.rest) 64 b.is (sym b.whole ∙ (a.whole ∙ ap (λ x. x ++ a.rest) a.is)) (λ x. omega (arith, x)) (λ x. omega (arith, x))
+    no_keyword b.word b.rest (codes "prefix" ++ a.rest) 64 b.is (sym b.whole ∙ (a.whole ∙ ap (λ x. x ++ a.rest) a.is))
+    (λ x. omega (arith, x)) (λ x. omega (arith, x))
 
 -- what does not declare a prefix behind "@prefix" is no declaration
-pub no_prefix_id : (w rest : List ℕ) → past is_blank w ≡ codes "@prefix" ++ rest → ((p i : List ℕ) → Declares EndsAtDot rest p i → ⊥) → (p i : List ℕ) → IsIn IsDeclaration w p i → ⊥
+pub no_prefix_id : (w rest : List ℕ) → past is_blank w ≡ codes "@prefix" ++ rest → ((p i : List ℕ) → Declares EndsAtDot rest p i → ⊥) →
+    (p i : List ℕ) → IsIn IsDeclaration w p i → ⊥
 no_prefix_id w rest e n p i d =
     ⊎_elim
     (λ a. let s : a.rest ≡ rest = append_cancel_left (codes "@prefix") a.rest rest (sym (a.whole ∙ ap (λ x. x ++ a.rest) a.is) ∙ e) in
@@ -478,7 +491,8 @@ no_prefix_id w rest e n p i d =
     (word_cases w p i d)
 
 -- what does not declare one behind "PREFIX" is none either
-pub no_sparql : (w k rest : List ℕ) → Shape Turtle Prefix k → past is_blank w ≡ k ++ rest → ((p i : List ℕ) → Declares SaysNothing rest p i → ⊥) → (p i : List ℕ) → IsIn IsDeclaration w p i → ⊥
+pub no_sparql : (w k rest : List ℕ) → Shape Turtle Prefix k → past is_blank w ≡ k ++ rest →
+    ((p i : List ℕ) → Declares SaysNothing rest p i → ⊥) → (p i : List ℕ) → IsIn IsDeclaration w p i → ⊥
 no_sparql w k rest m e n p i d =
     ⊎_elim
     (λ a. no_keyword k rest (codes "prefix" ++ a.rest) 64 m (sym e ∙ (a.whole ∙ ap (λ x. x ++ a.rest) a.is)) (λ x. omega (arith, x)) (λ x. omega (arith, x)))
@@ -486,12 +500,14 @@ no_sparql w k rest m e n p i d =
     (word_cases w p i d)
 
 -- and what has neither word is none
-pub no_word : (w : List ℕ) → ((rest : List ℕ) → past is_blank w ≡ codes "@prefix" ++ rest → ⊥) → ((k rest : List ℕ) → Shape Turtle Prefix k → past is_blank w ≡ k ++ rest → ⊥) →
+pub no_word : (w : List ℕ) → ((rest : List ℕ) → past is_blank w ≡ codes "@prefix" ++ rest → ⊥) →
+    ((k rest : List ℕ) → Shape Turtle Prefix k → past is_blank w ≡ k ++ rest → ⊥) →
     (p i : List ℕ) → IsIn IsDeclaration w p i → ⊥
 no_word w n o p i d = ⊎_elim (λ a. n a.rest (a.whole ∙ ap (λ x. x ++ a.rest) a.is)) (λ a. o a.word a.rest a.is a.whole) (word_cases w p i d)
 
 -- nor what begins with another character
-pub no_declaration_at : (w : List ℕ) (c : ℕ) (v : List ℕ) → past is_blank w ≡ c ∷ v → (c ≡ 64 → ⊥) → (c ≡ 80 → ⊥) → (c ≡ 112 → ⊥) → (p i : List ℕ) → IsIn IsDeclaration w p i → ⊥
+pub no_declaration_at : (w : List ℕ) (c : ℕ) (v : List ℕ) → past is_blank w ≡ c ∷ v → (c ≡ 64 → ⊥) → (c ≡ 80 → ⊥) → (c ≡ 112 → ⊥) →
+    (p i : List ℕ) → IsIn IsDeclaration w p i → ⊥
 no_declaration_at w c v e l m n p i d =
     ⊎_elim
     (λ a. let k : 64 ∷ (codes "prefix" ++ a.rest) ≡ c ∷ v = sym (a.whole ∙ ap (λ x. x ++ a.rest) a.is) ∙ e in let s : 64 ≡ c = cc in l (sym s))
@@ -527,7 +543,16 @@ record Worded (w : List ℕ) : Type 0 where
 
 -- "@prefix" has no ":"
 at_prefix_lacks : Lacks 58 (codes "@prefix")
-at_prefix_lacks = ((λ e. omega (arith, e)), ((λ e. omega (arith, e)), ((λ e. omega (arith, e)), ((λ e. omega (arith, e)), ((λ e. omega (arith, e)), ((λ e. omega (arith, e)), ((λ e. omega (arith, e)), tt)))))))
+at_prefix_lacks = (
+  (λ e. omega (arith, e)),
+  (
+    (λ e. omega (arith, e)),
+    (
+      (λ e. omega (arith, e)),
+      ((λ e. omega (arith, e)), ((λ e. omega (arith, e)), ((λ e. omega (arith, e)), ((λ e. omega (arith, e)), tt)))),
+    ),
+  ),
+)
 
 -- each declaration begins so
 worded : (w p i : List ℕ) → IsIn IsDeclaration w p i → Worded w
@@ -624,7 +649,8 @@ pub declared_binding : (text p i : List ℕ) → IsUtf8 text → IsIn IsDeclarat
 declared_binding text p i u b = record { utf8 = u; form = inr b.form; shape = b.shape; absolute = b.absolute }
 
 -- and a text in neither form is none
-pub no_binding : (text : List ℕ) → ((p i : List ℕ) → IsIn IsPlain (chars text) p i → ⊥) → ((p i : List ℕ) → IsIn IsDeclaration (chars text) p i → ⊥) → (p i : List ℕ) → IsBinding text p i → ⊥
+pub no_binding : (text : List ℕ) → ((p i : List ℕ) → IsIn IsPlain (chars text) p i → ⊥) →
+    ((p i : List ℕ) → IsIn IsDeclaration (chars text) p i → ⊥) → (p i : List ℕ) → IsBinding text p i → ⊥
 no_binding text m n p i b = ⊎_elim (λ a. m p i a) (λ a. n p i a) (binding_cases text p i b)
 
 -- a text is a binding in one way

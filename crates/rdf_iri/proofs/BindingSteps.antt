@@ -69,7 +69,8 @@ abbrev kept_in : List ℕ × List ℕ → List (List ℕ × List ℕ) → List (
 kept_in e es = cond (is_some (bound_to es e.0)) es (e ∷ es)
 
 -- an entry before others counts where they do not bind its prefix
-kept_bound : (e : List ℕ × List ℕ) (es : List (List ℕ × List ℕ)) (q : List ℕ) → bound_to (kept_in e es) q ≡ cond (is_some (bound_to es q)) (bound_to es q) (bound_to (e ∷ []) q)
+kept_bound : (e : List ℕ × List ℕ) (es : List (List ℕ × List ℕ)) (q : List ℕ) →
+    bound_to (kept_in e es) q ≡ cond (is_some (bound_to es q)) (bound_to es q) (bound_to (e ∷ []) q)
 kept_bound e es q =
     ⊎_elim
     (λ (t : equal q e.0 ≡ true).
@@ -81,14 +82,16 @@ kept_bound e es q =
     (λ (h : is_some (bound_to es e.0) ≡ false).
     let k : is_some (bound_to es q) ≡ false = ap (λ x. is_some (bound_to es x)) s ∙ h in
     ap (λ m. bound_to m q) (cond-false (is_some (bound_to es e.0)) es (e ∷ es) h)
-    ∙ (cond-true (equal q e.0) (Some e.1) (bound_to es q) t ∙ sym (cond-false (is_some (bound_to es q)) (bound_to es q) _ k ∙ cond-true (equal q e.0) (Some e.1) None t)))
+    ∙ (cond-true (equal q e.0) (Some e.1) (bound_to es q) t
+    ∙ sym (cond-false (is_some (bound_to es q)) (bound_to es q) _ k ∙ cond-true (equal q e.0) (Some e.1) None t)))
     (cases_Bool (is_some (bound_to es e.0))))
     (λ (f : equal q e.0 ≡ false).
     let r : cond (is_some (bound_to es q)) (bound_to es q) (bound_to (e ∷ []) q) ≡ bound_to es q =
     ap (λ x. cond (is_some (bound_to es q)) (bound_to es q) x) (cond-false (equal q e.0) (Some e.1) None f) ∙ itself (bound_to es q) in
     ⊎_elim
     (λ (h : is_some (bound_to es e.0) ≡ true). ap (λ m. bound_to m q) (cond-true (is_some (bound_to es e.0)) es (e ∷ es) h) ∙ sym r)
-    (λ (h : is_some (bound_to es e.0) ≡ false). ap (λ m. bound_to m q) (cond-false (is_some (bound_to es e.0)) es (e ∷ es) h) ∙ (cond-false (equal q e.0) (Some e.1) (bound_to es q) f ∙ sym r))
+    (λ (h : is_some (bound_to es e.0) ≡ false). ap (λ m. bound_to m q) (cond-false (is_some (bound_to es e.0)) es (e ∷ es) h)
+    ∙ (cond-false (equal q e.0) (Some e.1) (bound_to es q) f ∙ sym r))
     (cases_Bool (is_some (bound_to es e.0))))
     (cases_Bool (equal q e.0))
   where
@@ -127,23 +130,28 @@ adds (Some e ∷ es) p i =
     }
   where
     -- a prefix that is bound anew takes the place of the one before it
-    counted : length (kept_in e (bindings_of (es ++ Some (p, i) ∷ []))) ≡ length (bindings_of (es ++ Some (p, i) ∷ [])) + cond (is_some (bound_to (bindings_of (es ++ Some (p, i) ∷ [])) e.0)) 0 1 →
+    counted : length (kept_in e (bindings_of (es ++ Some (p, i) ∷ []))) ≡ length (bindings_of (es ++ Some (p, i) ∷ [])) + cond
+        (is_some (bound_to (bindings_of (es ++ Some (p, i) ∷ [])) e.0)) 0 1 →
         length (kept_in e (bindings_of es)) ≡ length (bindings_of es) + cond (is_some (bound_to (bindings_of es) e.0)) 0 1 →
         length (bindings_of (es ++ Some (p, i) ∷ [])) ≡ length (bindings_of es) + cond (is_some (bound_to (bindings_of es) p)) 0 1 →
         bound_to (bindings_of (es ++ Some (p, i) ∷ [])) e.0 ≡ cond (equal p e.0) (Some i) (bound_to (bindings_of es) e.0) →
         bound_to (kept_in e (bindings_of es)) p ≡ cond (is_some (bound_to (bindings_of es) p)) (bound_to (bindings_of es) p) (bound_to (e ∷ []) p) →
-        length (kept_in e (bindings_of (es ++ Some (p, i) ∷ []))) ≡ length (kept_in e (bindings_of es)) + cond (is_some (bound_to (kept_in e (bindings_of es)) p)) 0 1
+        length (kept_in e (bindings_of (es ++ Some (p, i) ∷ []))) ≡ length (kept_in e (bindings_of es)) + cond
+        (is_some (bound_to (kept_in e (bindings_of es)) p)) 0 1
     counted a b c d f =
         ⊎_elim
         (λ (t : equal p e.0 ≡ true).
         let same : p ≡ e.0 = equal-true p e.0 t in
         let d2 = ap (λ (o : Option (List ℕ)). more o) (d ∙ cond-true (equal p e.0) (Some i) (bound_to (bindings_of es) e.0) t) in
-        let f2 : ◌≡◌ {A = ℕ} (cond (is_some (bound_to (kept_in e (bindings_of es)) p)) 0 1) 0 = ap (λ (o : Option (List ℕ)). more o) (f ∙ ap (λ o. cond (is_some (bound_to (bindings_of es) p)) (bound_to (bindings_of es) p) o) (cond-true (equal p e.0) (Some e.1) None t)) ∙ always (bound_to (bindings_of es) p) in
+        let f2 : ◌≡◌ {A = ℕ} (cond (is_some (bound_to (kept_in e (bindings_of es)) p)) 0 1) 0 =
+        ap (λ (o : Option (List ℕ)). more o) (f ∙ ap (λ o. cond (is_some (bound_to (bindings_of es) p)) (bound_to (bindings_of es) p) o)
+        (cond-true (equal p e.0) (Some e.1) None t)) ∙ always (bound_to (bindings_of es) p) in
         let c2 = ap (λ x. more (bound_to (bindings_of es) x)) same in
         omega (arith, a, b, c, d2, f2, c2))
         (λ (t : equal p e.0 ≡ false).
         let d2 = ap (λ (o : Option (List ℕ)). more o) (d ∙ cond-false (equal p e.0) (Some i) (bound_to (bindings_of es) e.0) t) in
-        let f2 = ap (λ (o : Option (List ℕ)). more o) (f ∙ ap (λ o. cond (is_some (bound_to (bindings_of es) p)) (bound_to (bindings_of es) p) o) (cond-false (equal p e.0) (Some e.1) None t)) in
+        let f2 = ap (λ (o : Option (List ℕ)). more o)
+        (f ∙ ap (λ o. cond (is_some (bound_to (bindings_of es) p)) (bound_to (bindings_of es) p) o) (cond-false (equal p e.0) (Some e.1) None t)) in
         let f3 = f2 ∙ itself (bound_to (bindings_of es) p) in
         omega (arith, a, b, c, d2, f3))
         (cases_Bool (equal p e.0))
@@ -163,7 +171,8 @@ adds_nothing (None ∷ es) = adds_nothing es
 adds_nothing (Some e ∷ es) = ap (kept_in e) (adds_nothing es)
 
 -- a text that neither says nothing nor binds a prefix says nothing that could be taken
-pub none_said : (text : List ℕ) → (SaysNothing (chars text) → ⊥) → ((prefix iri : List ℕ) → IsBinding text prefix iri → ⊥) → (entry : Entry) → TextSays text entry → ⊥
+pub none_said : (text : List ℕ) → (SaysNothing (chars text) → ⊥) → ((prefix iri : List ℕ) → IsBinding text prefix iri → ⊥) →
+    (entry : Entry) → TextSays text entry → ⊥
 none_said text m n None s = m s.1
 none_said text m n (Some e) s = n e.0 e.1 s
 
@@ -173,7 +182,8 @@ said_utf8 text None s = s.0
 said_utf8 text (Some e) s = s.utf8
 
 -- a scope that begins with what is handed in keeps the limits
-pub starting_keeps : (base : Option (List ℕ)) (limits : Sizes) (b : BindingMap) → BaseFits base limits → KeepsSizes b → b.limits ≡ limits → KeepsLimits (record { base = base; bindings = b.bindings; limits = limits })
+pub starting_keeps : (base : Option (List ℕ)) (limits : Sizes) (b : BindingMap) → BaseFits base limits → KeepsSizes b → b.limits ≡ limits →
+    KeepsLimits (record { base = base; bindings = b.bindings; limits = limits })
 starting_keeps base limits b f k e = record {
   base = f;
   count = subst (λ (z : Sizes). length b.bindings ≤ z.bindings) e k.count;
@@ -181,5 +191,6 @@ starting_keeps base limits b f k e = record {
 }
 
 -- and so does what is taken out of a scope
-pub taken_keeps : (s : InForce) → KeepsLimits s → ((prefix iri : List ℕ) → bound_to s.bindings prefix ≡ Some iri → IsIri iri) → KeepsSizes (record { bindings = s.bindings; limits = s.limits })
+pub taken_keeps : (s : InForce) → KeepsLimits s → ((prefix iri : List ℕ) → bound_to s.bindings prefix ≡ Some iri → IsIri iri) →
+    KeepsSizes (record { bindings = s.bindings; limits = s.limits })
 taken_keeps s k i = record { count = k.count; sizes = k.bindings; iris = i }

@@ -157,7 +157,8 @@ target-appended base reference g =
     ∙ (recompose-with_path b reference g.0.end ∙ ap (λ x. x ++ reference) (parts_split base).whole)
 
 -- what begins a longer base is still a scheme
-scheme-appended : (s : Option (List ℕ)) (base reference : List ℕ) → is_some s ≡ true → MatchOption s (has_scheme base ≡ false) (λ s. (has_scheme base ≡ true) × Lacks 58 s) →
+scheme-appended : (s : Option (List ℕ)) (base reference : List ℕ) → is_some s ≡ true →
+    MatchOption s (has_scheme base ≡ false) (λ s. (has_scheme base ≡ true) × Lacks 58 s) →
     MatchOption s (has_scheme (base ++ reference) ≡ false) (λ s. (has_scheme (base ++ reference) ≡ true) × Lacks 58 s)
 scheme-appended None base reference i m = absurd (false≢true i)
 scheme-appended (Some s) base reference i m = (has_scheme-append base reference m.0, m.1)

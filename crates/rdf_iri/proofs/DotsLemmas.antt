@@ -271,7 +271,8 @@ either_length b x y n h k =
     (cases_Bool b)
 
 -- B and C fit a text of two bytes or more
-two_bytes : (front last w : List ℕ) (c : ℕ) (v : List ℕ) → 2 ≤ length front → 2 ≤ length last → w ≡ c ∷ v → (begins front w || equal w last) ≡ true → 1 ≤ length v
+two_bytes : (front last w : List ℕ) (c : ℕ) (v : List ℕ) → 2 ≤ length front → 2 ≤ length last → w ≡ c ∷ v →
+    (begins front w || equal w last) ≡ true → 1 ≤ length v
 two_bytes front last w c v f l e h =
     ⊎_elim
     (λ b. let i = ap length (begins-true front w b) in let j = ap length e in omega (arith, length-append front (drop (length front) w)))

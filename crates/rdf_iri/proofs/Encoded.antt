@@ -41,7 +41,8 @@ first_of_char c = by (encode_utf8 c) (let l = length-encode c in omega (arith, (
 
 -- the bytes of another character have no byte of an ASCII one
 char-lacks : (k c : ℕ) → k < 128 → c ≢ k → Lacks k (encode_utf8 c)
-char-lacks k c l n = Lacks-from_places k (encode_utf8 c) (λ i m e. n (inside_one c [] (encode_utf8 c) i (sym (append-nil (encode_utf8 c))) m (omega (arith, e)) ∙ e))
+char-lacks k c l n = Lacks-from_places k (encode_utf8 c)
+    (λ i m e. n (inside_one c [] (encode_utf8 c) i (sym (append-nil (encode_utf8 c))) m (omega (arith, e)) ∙ e))
 
 -- an ASCII character is its own byte
 pub bytes-cons : (k : ℕ) (w : List ℕ) → k < 128 → bytes (k ∷ w) ≡ k ∷ bytes w
@@ -68,7 +69,8 @@ bytes-nonempty w n e = n (encodes_same w [] e)
 pub before-bytes : (k : ℕ) (w : List ℕ) → k < 128 → (before k (bytes w) ≡ bytes (before k w)) × (from k (bytes w) ≡ bytes (from k w))
 before-bytes k w l =
     let e : bytes w ≡ bytes (before k w) ++ bytes (from k w) = ap bytes (sym (before-from k w)) ∙ encodes-append (before k w) (from k w) in
-    let r = cut_at k (bytes (before k w)) (bytes (from k w)) (bytes-lacks k (before k w) l (before-lacks k w)) (bytes-starts k (from k w) l (from-starts k w)) in
+    let r = cut_at k (bytes (before k w)) (bytes (from k w)) (bytes-lacks k (before k w) l (before-lacks k w))
+    (bytes-starts k (from k w) l (from-starts k w)) in
     (ap (before k) e ∙ r.0, ap (from k) e ∙ r.1)
 
 -- a query or fragment with its delimiter, in bytes
@@ -148,7 +150,8 @@ has_slash-bytes w =
 rest_of_char : (c b : ℕ) (bs : List ℕ) → encode_utf8 c ≡ b ∷ bs → Lacks 47 bs
 rest_of_char c b bs e =
     ⊎_elim
-    (λ (t : (c == 47) ≡ true). let k : 47 ∷ [] ≡ b ∷ bs = sym (ap encode_utf8 (eqb-true c 47 t) ∙ encode_ascii 47 (omega arith)) ∙ e in let n : [] ≡ bs = cc in subst (Lacks 47) n tt)
+    (λ (t : (c == 47) ≡ true). let k : 47 ∷ [] ≡ b ∷ bs = sym (ap encode_utf8 (eqb-true c 47 t) ∙ encode_ascii 47 (omega arith)) ∙ e in
+    let n : [] ≡ bs = cc in subst (Lacks 47) n tt)
     (λ (f : (c == 47) ≡ false). (subst (Lacks 47) e (char-lacks 47 c (omega arith) (λ i. false≢true (sym f ∙ eq i)))).1)
     (cases_Bool (c == 47))
   where
@@ -165,7 +168,8 @@ segment-bytes (c ∷ w) =
     let v = bytes (from 47 w) in
     let r = cut_at 47 (f.1 ++ u) v (Lacks-append 47 f.1 u (rest_of_char c f.0 f.1 f.2) (bytes-lacks 47 (before 47 w) (omega arith) (before-lacks 47 w)))
     (bytes-starts 47 (from 47 w) (omega arith) (from-starts 47 w)) in
-    let whole : f.1 ++ bytes w ≡ (f.1 ++ u) ++ v = ap (λ x. f.1 ++ bytes x) (sym (before-from 47 w)) ∙ (ap (λ x. f.1 ++ x) (encodes-append (before 47 w) (from 47 w)) ∙ sym (append_assoc f.1 u v)) in (
+    let whole : f.1 ++ bytes w ≡ (f.1 ++ u) ++ v = ap (λ x. f.1 ++ bytes x) (sym (before-from 47 w))
+    ∙ (ap (λ x. f.1 ++ x) (encodes-append (before 47 w) (from 47 w)) ∙ sym (append_assoc f.1 u v)) in (
       ap first_segment e ∙ (ap (λ x. f.0 ∷ before 47 x) whole ∙ (ap (λ x. f.0 ∷ x) r.0 ∙ ap (λ x. x ++ u) (sym f.2))),
       ap after_segment e ∙ (ap (from 47) whole ∙ r.1),
     )
@@ -184,7 +188,8 @@ either-bytes b b' x y x' y' e f g =
     (cases_Bool b)
 
 -- the test of rules B to D, in bytes
-either_test : (front whole w : List ℕ) → are_ascii front ≡ true → are_ascii whole ≡ true → (begins front (bytes w) || equal (bytes w) whole) ≡ (begins front w || equal w whole)
+either_test : (front whole w : List ℕ) → are_ascii front ≡ true → are_ascii whole ≡ true →
+    (begins front (bytes w) || equal (bytes w) whole) ≡ (begins front w || equal w whole)
 either_test front whole w a b = ap (λ x. x || equal (bytes w) whole) (begins-bytes front w a) ∙ ap (λ x. begins front w || x) (equal-bytes w whole b)
 
 -- rule A, in bytes
@@ -193,15 +198,18 @@ A-bytes s h =
     ap (λ x. walk x (bytes s.output))
     (ap (λ b. cond b (drop 3 (bytes s.input)) (drop 2 (bytes s.input))) (begins-bytes (codes "../") s.input refl)
     ∙ ⊎_elim
-    (λ t. cond-true (begins (codes "../") s.input) _ _ t ∙ (drop-bytes (codes "../") s.input refl t ∙ ap bytes (sym (cond-true (begins (codes "../") s.input) (drop 3 s.input) (drop 2 s.input) t))))
+    (λ t. cond-true (begins (codes "../") s.input) _ _ t ∙ (drop-bytes (codes "../") s.input refl t
+    ∙ ap bytes (sym (cond-true (begins (codes "../") s.input) (drop 3 s.input) (drop 2 s.input) t))))
     (λ f.
     let t : begins (codes "./") s.input ≡ true =
     ⊎_elim (λ x. absurd (false≢true (sym f ∙ x))) (λ x. x) (or_cases (begins (codes "../") s.input) (begins (codes "./") s.input) h) in
-    cond-false (begins (codes "../") s.input) _ _ f ∙ (drop-bytes (codes "./") s.input refl t ∙ ap bytes (sym (cond-false (begins (codes "../") s.input) (drop 3 s.input) (drop 2 s.input) f))))
+    cond-false (begins (codes "../") s.input) _ _ f ∙ (drop-bytes (codes "./") s.input refl t
+    ∙ ap bytes (sym (cond-false (begins (codes "../") s.input) (drop 3 s.input) (drop 2 s.input) f))))
     (cases_Bool (begins (codes "../") s.input)))
 
 -- after the front, or nothing where the text is all of the input
-replaced-bytes : (front whole w : List ℕ) → are_ascii front ≡ true → are_ascii whole ≡ true → drop (length front) whole ≡ [] → (begins front w || equal w whole) ≡ true →
+replaced-bytes : (front whole w : List ℕ) → are_ascii front ≡ true → are_ascii whole ≡ true → drop (length front) whole ≡ [] →
+    (begins front w || equal w whole) ≡ true →
     drop (length front) (bytes w) ≡ bytes (drop (length front) w)
 replaced-bytes front whole w a b n h =
     ⊎_elim
@@ -236,11 +244,15 @@ step-bytes : (s : Walk) → step (walk_bytes s) ≡ walk_bytes (step s)
 unfolding step
 step-bytes s =
     let t = walk_bytes s in
-    let a : fits_A t.input ≡ fits_A s.input = ap (λ x. x || begins (codes "./") t.input) (begins-bytes (codes "../") s.input refl) ∙ ap (λ x. begins (codes "../") s.input || x) (begins-bytes (codes "./") s.input refl) in
-    let d : fits_D t.input ≡ fits_D s.input = ap (λ x. x || equal t.input (codes "..")) (equal-bytes s.input (codes ".") refl) ∙ ap (λ x. equal s.input (codes ".") || x) (equal-bytes s.input (codes "..") refl) in
+    let a : fits_A t.input ≡ fits_A s.input = ap (λ x. x || begins (codes "./") t.input) (begins-bytes (codes "../") s.input refl)
+    ∙ ap (λ x. begins (codes "../") s.input || x) (begins-bytes (codes "./") s.input refl) in
+    let d : fits_D t.input ≡ fits_D s.input = ap (λ x. x || equal t.input (codes "..")) (equal-bytes s.input (codes ".") refl)
+    ∙ ap (λ x. equal s.input (codes ".") || x) (equal-bytes s.input (codes "..") refl) in
     either-bytes (fits_A s.input) (fits_A t.input) (by_A s) (step_B s) (by_A t) (step_B t) a (A-bytes s)
-    (either-bytes (fits_B s.input) (fits_B t.input) (by_B s) (step_C s) (by_B t) (step_C t) (either_test (codes "/./") (codes "/.") s.input refl refl) (B-bytes s)
-    (either-bytes (fits_C s.input) (fits_C t.input) (by_C s) (step_D s) (by_C t) (step_D t) (either_test (codes "/../") (codes "/..") s.input refl refl) (C-bytes s)
+    (either-bytes (fits_B s.input) (fits_B t.input) (by_B s) (step_C s) (by_B t) (step_C t)
+    (either_test (codes "/./") (codes "/.") s.input refl refl) (B-bytes s)
+    (either-bytes (fits_C s.input) (fits_C t.input) (by_C s) (step_D s) (by_C t) (step_D t)
+    (either_test (codes "/../") (codes "/..") s.input refl refl) (C-bytes s)
     (either-bytes (fits_D s.input) (fits_D t.input) (by_D s) (by_E s) (by_D t) (by_E t) d (λ _. refl) (E-bytes s))))
 
 -- the steps of dot removal may be made on bytes to their end
@@ -265,7 +277,13 @@ part_bytes o = option_map bytes o
 
 -- the five parts in bytes
 abbrev pub parts_bytes : Parts → Parts
-parts_bytes p = record { scheme = part_bytes p.scheme; authority = part_bytes p.authority; path = bytes p.path; query = part_bytes p.query; fragment = part_bytes p.fragment }
+parts_bytes p = record {
+  scheme = part_bytes p.scheme;
+  authority = part_bytes p.authority;
+  path = bytes p.path;
+  query = part_bytes p.query;
+  fragment = part_bytes p.fragment;
+}
 
 -- a character from U+0080 on is in no range of ASCII
 within-high : (lo hi c : ℕ) → hi < 128 → 128 ≤ c → within lo hi c ≡ false
@@ -284,7 +302,8 @@ goes_on-high : (c : ℕ) (w : List ℕ) → 128 ≤ c → scheme_goes_on (c ∷ 
 goes_on-high c w l =
     or_from (c == 58) _ (differs-high 58 c (omega arith) l)
     (ap (λ b. b && scheme_goes_on w)
-    (or_from _ _ (or_from _ _ (or_from _ _ (or_from _ _ (letter-high c l) (within-high 48 57 c (omega arith) l)) (differs-high 43 c (omega arith) l)) (differs-high 45 c (omega arith) l)) (differs-high 46 c (omega arith) l)))
+    (or_from _ _ (or_from _ _ (or_from _ _ (or_from _ _ (letter-high c l) (within-high 48 57 c (omega arith) l))
+    (differs-high 43 c (omega arith) l)) (differs-high 45 c (omega arith) l)) (differs-high 46 c (omega arith) l)))
 
 -- the bytes of a character from 128 on
 high_first : (c b : ℕ) (bs : List ℕ) → 128 ≤ c → encode_utf8 c ≡ b ∷ bs → 128 ≤ b
@@ -301,7 +320,8 @@ goes_on-bytes : (w : List ℕ) → scheme_goes_on (bytes w) ≡ scheme_goes_on w
 goes_on-bytes [] = refl
 goes_on-bytes (c ∷ w) =
     ⊎_elim
-    (λ (l : c < 128). ap scheme_goes_on (bytes-cons c w l) ∙ ap (λ b. c == 58 || ((is_letter c || is_digit c || c == 43 || c == 45 || c == 46) && b)) (goes_on-bytes w))
+    (λ (l : c < 128). ap scheme_goes_on (bytes-cons c w l)
+    ∙ ap (λ b. c == 58 || ((is_letter c || is_digit c || c == 43 || c == 45 || c == 46) && b)) (goes_on-bytes w))
     (λ (l : 128 ≤ c).
     let f = first_of_char c in
     ap (λ x. scheme_goes_on (x ++ bytes w)) f.2 ∙ (goes_on-high f.0 (f.1 ++ bytes w) (high_first c f.0 f.1 l f.2) ∙ sym (goes_on-high c w l)))
@@ -348,7 +368,8 @@ same_under b b' x x' y y' e f g =
     (cases_Bool b)
 
 -- authority and path, in bytes
-hierarchy-bytes : (s q f : Option (List ℕ)) (w : List ℕ) → hierarchy_parts (part_bytes s) (part_bytes q) (part_bytes f) (bytes w) ≡ parts_bytes (hierarchy_parts s q f w)
+hierarchy-bytes : (s q f : Option (List ℕ)) (w : List ℕ) → hierarchy_parts (part_bytes s) (part_bytes q) (part_bytes f) (bytes w)
+    ≡ parts_bytes (hierarchy_parts s q f w)
 hierarchy-bytes s q f w =
     let b = begins (47 ∷ 47 ∷ []) w in
     let a : cond (begins (47 ∷ 47 ∷ []) (bytes w)) (Some (before 47 (drop 2 (bytes w)))) None ≡ part_bytes (cond b (Some (before 47 (drop 2 w))) None) =
@@ -359,8 +380,21 @@ hierarchy-bytes s q f w =
     same_under b _ (bytes (from 47 (drop 2 w))) _ (bytes w) (bytes w) (begins-bytes (47 ∷ 47 ∷ []) w refl)
     (λ t. drop_slashes w (from 47) (λ v. (before-bytes 47 v (omega arith)).1) t) refl
     ∙ sym (either_path b (from 47 (drop 2 w)) w) in
-    ap (λ x. record { scheme = part_bytes s; authority = x; path = cond (begins (47 ∷ 47 ∷ []) (bytes w)) (from 47 (drop 2 (bytes w))) (bytes w); query = part_bytes q; fragment = part_bytes f }) a
-    ∙ ap (λ x. record { scheme = part_bytes s; authority = part_bytes (cond b (Some (before 47 (drop 2 w))) None); path = x; query = part_bytes q; fragment = part_bytes f }) p
+    ap (λ x. record {
+      scheme = part_bytes s;
+      authority = x;
+      path = cond (begins (47 ∷ 47 ∷ []) (bytes w)) (from 47 (drop 2 (bytes w)))
+          (bytes w);
+      query = part_bytes q;
+      fragment = part_bytes f;
+    }) a
+    ∙ ap (λ x. record {
+      scheme = part_bytes s;
+      authority = part_bytes (cond b (Some (before 47 (drop 2 w))) None);
+      path = x;
+      query = part_bytes q;
+      fragment = part_bytes f;
+    }) p
 
 -- the query and fragment too
 fragment-bytes : (s : Option (List ℕ)) (w : List ℕ) → fragment_parts (part_bytes s) (bytes w) ≡ parts_bytes (fragment_parts s w)
@@ -423,7 +457,8 @@ directory-bytes : (w : List ℕ) → directory (bytes w) ≡ bytes (directory w)
 directory-bytes w =
     let h = has_slash-bytes w in
     same_under (has_slash w) _ (bytes (parent w ++ 47 ∷ [])) _ [] [] h.0
-    (λ _. ap (λ x. x ++ 47 ∷ []) h.1 ∙ (ap (λ x. bytes (parent w) ++ x) (sym (bytes-cons 47 [] (omega arith))) ∙ sym (encodes-append (parent w) (47 ∷ [])))) refl
+    (λ _. ap (λ x. x ++ 47 ∷ []) h.1
+    ∙ (ap (λ x. bytes (parent w) ++ x) (sym (bytes-cons 47 [] (omega arith))) ∙ sym (encodes-append (parent w) (47 ∷ [])))) refl
     ∙ sym (either_path (has_slash w) (parent w ++ 47 ∷ []) [])
 
 -- a base path that is not empty is merged by its directory
@@ -470,20 +505,40 @@ path_target-some b r (c ∷ w) n = refl
 -- the target by the path, in bytes
 path_target-bytes : (b r : Parts) (w : List ℕ) → path_target (parts_bytes b) (parts_bytes r) (bytes w) ≡ parts_bytes (path_target b r w)
 path_target-bytes b r [] =
-    ap (λ x. record { scheme = part_bytes b.scheme; authority = part_bytes b.authority; path = bytes b.path; query = x; fragment = part_bytes r.fragment }) (or_else-bytes r.query b.query)
+    ap (λ x. record {
+      scheme = part_bytes b.scheme;
+      authority = part_bytes b.authority;
+      path = bytes b.path;
+      query = x;
+      fragment = part_bytes r.fragment;
+    }) (or_else-bytes r.query b.query)
 path_target-bytes b r (c ∷ w) =
     path_target-some (parts_bytes b) (parts_bytes r) (bytes (c ∷ w)) (bytes-nonempty (c ∷ w) (λ (e : c ∷ w ≡ []). cc))
-    ∙ ap (λ x. record { scheme = part_bytes b.scheme; authority = part_bytes b.authority; path = x; query = part_bytes r.query; fragment = part_bytes r.fragment })
+    ∙ ap (λ x. record {
+      scheme = part_bytes b.scheme;
+      authority = part_bytes b.authority;
+      path = x;
+      query = part_bytes r.query;
+      fragment = part_bytes r.fragment;
+    })
     (ap remove_dots (joined-bytes b (c ∷ w)) ∙ remove_dots-bytes (joined b (c ∷ w)))
 
 -- the target by the authority, in bytes
-authority_target-bytes : (b r : Parts) (o : Option (List ℕ)) → authority_target (parts_bytes b) (parts_bytes r) (part_bytes o) ≡ parts_bytes (authority_target b r o)
+authority_target-bytes : (b r : Parts) (o : Option (List ℕ)) →
+    authority_target (parts_bytes b) (parts_bytes r) (part_bytes o) ≡ parts_bytes (authority_target b r o)
 authority_target-bytes b r None = path_target-bytes b r r.path
 authority_target-bytes b r (Some a) =
-    ap (λ x. record { scheme = part_bytes b.scheme; authority = Some (bytes a); path = x; query = part_bytes r.query; fragment = part_bytes r.fragment }) (remove_dots-bytes r.path)
+    ap (λ x. record {
+      scheme = part_bytes b.scheme;
+      authority = Some (bytes a);
+      path = x;
+      query = part_bytes r.query;
+      fragment = part_bytes r.fragment;
+    }) (remove_dots-bytes r.path)
 
 -- a reference may be resolved in bytes, and its result is the UTF-8 of the IRI
-pub target-bytes : (text reference : List ℕ) → recompose (target (parts_of (bytes text)) (parts_of (bytes reference))) ≡ bytes (recompose (target (parts_of text) (parts_of reference)))
+pub target-bytes : (text reference : List ℕ) → recompose (target (parts_of (bytes text)) (parts_of (bytes reference))) ≡ bytes
+    (recompose (target (parts_of text) (parts_of reference)))
 target-bytes text reference =
     let b = parts_of text in
     let r = parts_of reference in

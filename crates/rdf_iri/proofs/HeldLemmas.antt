@@ -61,7 +61,8 @@ base_within (Some b) limits fits = fits
 pub most_fits : (limits : Sizes) → InRange limits → most_bytes_held limits < 2 ^ 64
 most_fits limits r =
     let one : 4 * limits.token + limits.iri ≤ 1342177280 = let a = r.token in let b = r.iri in omega (arith, a, b) in
-    let all : limits.bindings * (4 * limits.token + limits.iri) ≤ 16777216 * 1342177280 = mul-le limits.bindings (4 * limits.token + limits.iri) 16777216 1342177280 r.bindings one in
+    let all : limits.bindings * (4 * limits.token + limits.iri) ≤ 16777216 * 1342177280 =
+    mul-le limits.bindings (4 * limits.token + limits.iri) 16777216 1342177280 r.bindings one in
     let iri = r.iri in
     bounded limits.iri (limits.bindings * (4 * limits.token + limits.iri)) iri all
   where

@@ -43,7 +43,8 @@ slash_set w r n l =
 
 -- to drop bytes and put a "/" in place of the next one keeps it
 pub slash_kept : (w : List ℕ) (r k n : ℕ) (result : List ℕ) → k ≤ r → r + n < length w → Keeps w r k result →
-    ((o : List ℕ) → step (walk (take (length w - r) (drop r w)) o) ≡ slash n (walk (take (length w - r) (drop r w)) o)) → Keeps (set w (r + n) 47) (r + n) k result
+    ((o : List ℕ) → step (walk (take (length w - r) (drop r w)) o) ≡ slash n (walk (take (length w - r) (drop r w)) o)) →
+    Keeps (set w (r + n) 47) (r + n) k result
 slash_kept w r k n result b l h s =
     ap (λ v. finish (walk v (take k (set w (r + n) 47)))) (slash_set w r n l)
     ∙ (ap (λ v. finish (walk (47 ∷ drop (suc n) (drop r w)) v)) (take-set-le k w (r + n) 47 (omega arith)) ∙ stepped w r k result (slash n) h s)

@@ -85,7 +85,8 @@ module _ (test : ℕ → Bool) (d : Delimits test) where
   replaced-good : (front last : List ℕ) (s t : Walk) → ReplacedBySlash front last s t → Good s.input → Good t.input
   replaced-good front last s t r p =
       ⊎_elim
-      (λ (h : (rest : List ℕ) × (s.input ≡ front ++ rest) × (t.input ≡ 47 ∷ rest)). subst Good (sym h.2) (from_slash h.0 (all_have-right test front h.0 (subst Good h.1 p))))
+      (λ (h : (rest : List ℕ) × (s.input ≡ front ++ rest) × (t.input ≡ 47 ∷ rest)). subst Good (sym h.2)
+      (from_slash h.0 (all_have-right test front h.0 (subst Good h.1 p))))
       (λ (h : (s.input ≡ last) × (t.input ≡ 47 ∷ [])). subst Good (sym h.1) only_slash)
       r
 
@@ -119,7 +120,8 @@ module _ (test : ℕ → Bool) (d : Delimits test) where
       }
 
   -- the rule that applies is one of the list
-  first-good : (R : Walk → Walk → Type 0) (Rs : List (Walk → Walk → Type 0)) (s t : Walk) → (R s t → BothGood t) → (FirstOf Rs s t → BothGood t) → FirstOf (R ∷ Rs) s t → BothGood t
+  first-good : (R : Walk → Walk → Type 0) (Rs : List (Walk → Walk → Type 0)) (s t : Walk) → (R s t → BothGood t) →
+      (FirstOf Rs s t → BothGood t) → FirstOf (R ∷ Rs) s t → BothGood t
   first-good R Rs s t f g r = ⊎_elim (λ (h : R s t). f h) (λ (h : ((t : Walk) × R s t → ⊥) × FirstOf Rs s t). g h.1) r
 
   -- so each step keeps the test, whichever rule applies
@@ -206,7 +208,8 @@ module _ (test : ℕ → Bool) (d : Delimits test) where
   directory-good : (w : List ℕ) → Good w → Good (directory w)
   directory-good w p =
       ⊎_elim
-      (λ t. subst Good (sym (cond-true (has_slash w) (parent w ++ 47 ∷ []) [] t)) (Good-append (parent w) (47 ∷ []) (shorter-good w (parent w) (parent_removes w) p) only_slash))
+      (λ t. subst Good (sym (cond-true (has_slash w) (parent w ++ 47 ∷ []) [] t))
+      (Good-append (parent w) (47 ∷ []) (shorter-good w (parent w) (parent_removes w) p) only_slash))
       (λ f. subst Good (sym (cond-false (has_slash w) (parent w ++ 47 ∷ []) [] f)) refl)
       (cases_Bool (has_slash w))
 
@@ -232,9 +235,21 @@ module _ (test : ℕ → Bool) (d : Delimits test) where
 
   -- the parts of the target, where the reference has no authority
   path_target-good : (b r : Parts) (w : List ℕ) → GoodParts b → GoodParts r → Good w → GoodParts (path_target b r w)
-  path_target-good b r [] g h p = record { scheme = g.scheme; authority = g.authority; path = g.path; query = or_else-good r.query b.query h.query g.query; fragment = h.fragment }
+  path_target-good b r [] g h p = record {
+    scheme = g.scheme;
+    authority = g.authority;
+    path = g.path;
+    query = or_else-good r.query b.query h.query g.query;
+    fragment = h.fragment;
+  }
   path_target-good b r (c ∷ w) g h p =
-      record { scheme = g.scheme; authority = g.authority; path = dots-good (joined b (c ∷ w)) (joined-good b (c ∷ w) g p); query = h.query; fragment = h.fragment }
+      record {
+        scheme = g.scheme;
+        authority = g.authority;
+        path = dots-good (joined b (c ∷ w)) (joined-good b (c ∷ w) g p);
+        query = h.query;
+        fragment = h.fragment;
+      }
 
   -- and where it has one
   authority_target-good : (b r : Parts) (o : Option (List ℕ)) → GoodParts b → GoodParts r → GoodOption o → GoodParts (authority_target b r o)

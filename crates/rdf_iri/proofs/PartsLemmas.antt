@@ -160,8 +160,10 @@ pub parts_split : (text : List ℕ) → Splits text (parts_of text)
 unfolding parts_of
 parts_split text =
     ⊎_elim
-    (λ t. subst (Splits text) (sym (cond-true (has_scheme text) (fragment_parts (Some (before 58 text)) (unwrap_or (after 58 text) [])) (fragment_parts None text) t))
+    (λ t. subst (Splits text) (sym (cond-true (has_scheme text) (fragment_parts (Some (before 58 text)) (unwrap_or (after 58 text) []))
+    (fragment_parts None text) t))
     (splits_from text (unwrap_or (after 58 text) []) (Some (before 58 text)) (t, before-lacks 58 text) (sym (has_scheme-splits text t))))
-    (λ t. subst (Splits text) (sym (cond-false (has_scheme text) (fragment_parts (Some (before 58 text)) (unwrap_or (after 58 text) [])) (fragment_parts None text) t))
+    (λ t. subst (Splits text) (sym (cond-false (has_scheme text) (fragment_parts (Some (before 58 text)) (unwrap_or (after 58 text) []))
+    (fragment_parts None text) t))
     (splits_from text text None t refl))
     (cases_Bool (has_scheme text))

@@ -61,7 +61,8 @@ passed q e o n p iri k h =
     (cases_Bool (equal q e.0))
 
 -- what is set after entries with other prefixes is set in all
-pub Sets-after : (front old new : List (List ℕ × List ℕ)) (p iri : List ℕ) → bound_to front p ≡ None → Sets old p iri new → Sets (front ++ old) p iri (front ++ new)
+pub Sets-after : (front old new : List (List ℕ × List ℕ)) (p iri : List ℕ) → bound_to front p ≡ None → Sets old p iri new →
+    Sets (front ++ old) p iri (front ++ new)
 Sets-after [] old new p iri h s = s
 Sets-after (e ∷ f) old new p iri h s =
     let k = parted e f p h in
@@ -82,10 +83,12 @@ Sets-at p was iri rest =
     record {
       bound = λ q. ⊎_elim
           (λ (t : equal q p ≡ true).
-          cond-true (equal q p) (Some iri) (bound_to rest q) t ∙ sym (cond-true (equal p q) (Some iri) (cond (equal q p) (Some was) (bound_to rest q)) (swapped p q ∙ t)))
+          cond-true (equal q p) (Some iri) (bound_to rest q) t
+          ∙ sym (cond-true (equal p q) (Some iri) (cond (equal q p) (Some was) (bound_to rest q)) (swapped p q ∙ t)))
           (λ (f : equal q p ≡ false).
           cond-false (equal q p) (Some iri) (bound_to rest q) f
-          ∙ sym (cond-false (equal p q) (Some iri) (cond (equal q p) (Some was) (bound_to rest q)) (swapped p q ∙ f) ∙ cond-false (equal q p) (Some was) (bound_to rest q) f))
+          ∙ sym (cond-false (equal p q) (Some iri) (cond (equal q p) (Some was) (bound_to rest q)) (swapped p q ∙ f)
+          ∙ cond-false (equal q p) (Some was) (bound_to rest q) f))
           (cases_Bool (equal q p));
       count = omega (arith, here);
     }
@@ -128,31 +131,36 @@ Sets-anew row others p iri i s =
     (subst (λ (n : List (List ℕ × List ℕ)). Sets (s.front ++ ((p, s.iri) ∷ (s.rest ++ others))) p iri n) (sym to)
     (Sets-after s.front ((p, s.iri) ∷ (s.rest ++ others)) ((p, iri) ∷ (s.rest ++ others)) p iri s.before (Sets-at p s.iri iri (s.rest ++ others))))
 
-pub KeptApart-anew : (row others : List (List ℕ × List ℕ)) (p iri : List ℕ) (i : ℕ) (s : StandsAt row p i) → KeptApart row others → KeptApart (anew s iri) others
+pub KeptApart-anew : (row others : List (List ℕ × List ℕ)) (p iri : List ℕ) (i : ℕ) (s : StandsAt row p i) → KeptApart row others →
+    KeptApart (anew s iri) others
 KeptApart-anew row others p iri i s a =
     let b = subst (λ (r : List (List ℕ × List ℕ)). KeptApart r others) s.there a in
     let c = KeptApart-rest s.front ((p, s.iri) ∷ s.rest) others b in
     KeptApart-after s.front ((p, s.iri) ∷ s.rest) ((p, iri) ∷ s.rest) others others p iri s.before (Sets-at p s.iri iri (s.rest ++ others)) (c.0, c.1) b
 
 -- the row with a prefix at its end that is nowhere bound
-pub Sets-pushed : (row others : List (List ℕ × List ℕ)) (p iri : List ℕ) → bound_to others p ≡ None → bound_to row p ≡ None → Sets (row ++ others) p iri ((row ++ (p, iri) ∷ []) ++ others)
+pub Sets-pushed : (row others : List (List ℕ × List ℕ)) (p iri : List ℕ) → bound_to others p ≡ None → bound_to row p ≡ None →
+    Sets (row ++ others) p iri ((row ++ (p, iri) ∷ []) ++ others)
 Sets-pushed row others p iri e h =
     subst (λ (n : List (List ℕ × List ℕ)). Sets (row ++ others) p iri n) (sym (append_assoc row ((p, iri) ∷ []) others))
     (Sets-after row others ((p, iri) ∷ others) p iri h (Sets-new others p iri e))
 
-pub KeptApart-pushed : (row others : List (List ℕ × List ℕ)) (p iri : List ℕ) → bound_to others p ≡ None → bound_to row p ≡ None → KeptApart row others → KeptApart (row ++ (p, iri) ∷ []) others
+pub KeptApart-pushed : (row others : List (List ℕ × List ℕ)) (p iri : List ℕ) → bound_to others p ≡ None → bound_to row p ≡ None →
+    KeptApart row others → KeptApart (row ++ (p, iri) ∷ []) others
 KeptApart-pushed row others p iri e h a =
     KeptApart-after row [] ((p, iri) ∷ []) others others p iri h (Sets-new others p iri e) (e, tt)
     (subst (λ (r : List (List ℕ × List ℕ)). KeptApart r others) (sym (append-nil row)) a)
 
 -- the others with a prefix set that is not in the row
-pub KeptApart-others : (row old new : List (List ℕ × List ℕ)) (p iri : List ℕ) → bound_to row p ≡ None → Sets old p iri new → KeptApart row old → KeptApart row new
+pub KeptApart-others : (row old new : List (List ℕ × List ℕ)) (p iri : List ℕ) → bound_to row p ≡ None → Sets old p iri new →
+    KeptApart row old → KeptApart row new
 KeptApart-others row old new p iri h s a =
     subst (λ (r : List (List ℕ × List ℕ)). KeptApart r new) (append-nil row)
     (KeptApart-after row [] [] old new p iri h s tt (subst (λ (r : List (List ℕ × List ℕ)). KeptApart r old) (sym (append-nil row)) a))
 
 -- what is bound after a row is so in all
-pub bound_to-apart : (row others : List (List ℕ × List ℕ)) → KeptApart row others → (q iri : List ℕ) → bound_to others q ≡ Some iri → bound_to (row ++ others) q ≡ Some iri
+pub bound_to-apart : (row others : List (List ℕ × List ℕ)) → KeptApart row others → (q iri : List ℕ) → bound_to others q ≡ Some iri →
+    bound_to (row ++ others) q ≡ Some iri
 bound_to-apart [] others a q iri h = h
 bound_to-apart (e ∷ row) others a q iri h =
     let r = bound_to-apart row others a.1 q iri h in
@@ -196,7 +204,8 @@ cut_at : {Z : Type 0} (row : List (String Z × List ℕ)) (i : ℕ) (r : String 
 cut_at row i r l e =
     ap entries_of (sym (take-append-drop i row))
     ∙ (entries_of-append (take i row) (drop i row)
-    ∙ ap (λ (x : List (List ℕ × List ℕ)). entries_of (take i row) ++ x) (ap entries_of (drop-cons row i r l) ∙ ap (λ x. entry_of x ∷ entries_of (drop (suc i) row)) (sym e)))
+    ∙ ap (λ (x : List (List ℕ × List ℕ)). entries_of (take i row) ++ x)
+    (ap entries_of (drop-cons row i r l) ∙ ap (λ x. entry_of x ∷ entries_of (drop (suc i) row)) (sym e)))
 
 -- the entries in front of a place are as many as the place says
 pub length-front : {Z : Type 0} (row : List (String Z × List ℕ)) (i : ℕ) → i < length row → length (entries_of (take i row)) ≡ i
@@ -252,10 +261,12 @@ entry_there (x ∷ row) i r (f ∷ front) rest e h n k =
     let y : entries_of row ≡ front ++ e ∷ rest = cc in
     entry_there row (length front) r front rest e y refl z
 
-pub iri_there : {Z : Type 0} (row : List (String Z × List ℕ)) (p : List ℕ) (i : ℕ) (r : String Z × List ℕ) (s : StandsAt (entries_of row) p i) → r ≡ get_or row i r → s.iri ≡ r.1
+pub iri_there : {Z : Type 0} (row : List (String Z × List ℕ)) (p : List ℕ) (i : ℕ) (r : String Z × List ℕ)
+    (s : StandsAt (entries_of row) p i) → r ≡ get_or row i r → s.iri ≡ r.1
 iri_there row p i r s k = ap (λ (x : List ℕ × List ℕ). x.1) (sym (entry_there row i r s.front s.rest (p, s.iri) s.there s.count k))
 
-pub key_there : {Z : Type 0} (row : List (String Z × List ℕ)) (p : List ℕ) (i : ℕ) (r : String Z × List ℕ) (s : StandsAt (entries_of row) p i) → r ≡ get_or row i r →
+pub key_there : {Z : Type 0} (row : List (String Z × List ℕ)) (p : List ℕ) (i : ℕ) (r : String Z × List ℕ)
+    (s : StandsAt (entries_of row) p i) → r ≡ get_or row i r →
     chars (string_bytes r.0) ≡ p
 key_there row p i r s k = ap (λ (x : List ℕ × List ℕ). x.0) (entry_there row i r s.front s.rest (p, s.iri) s.there s.count k)
 
@@ -271,7 +282,8 @@ set_there (x ∷ row) i r (f ∷ front) rest e h n =
     let y : entries_of row ≡ front ++ e ∷ rest = cc in
     let z : entry_of x ≡ f = cc in
     ap (λ (j : ℕ). entries_of (set (x ∷ row) j r)) (sym n)
-    ∙ (ap (λ (t : List (List ℕ × List ℕ)). entry_of x ∷ t) (set_there row (length front) r front rest e y refl) ∙ ap (λ (t : List ℕ × List ℕ). t ∷ (front ++ entry_of r ∷ rest)) z)
+    ∙ (ap (λ (t : List (List ℕ × List ℕ)). entry_of x ∷ t) (set_there row (length front) r front rest e y refl)
+    ∙ ap (λ (t : List ℕ × List ℕ). t ∷ (front ++ entry_of r ∷ rest)) z)
 
 pub entries_of-anew : {Z : Type 0} (row : List (String Z × List ℕ)) (p iri : List ℕ) (i : ℕ) (r : String Z × List ℕ) (s : StandsAt (entries_of row) p i) →
     chars (string_bytes r.0) ≡ p → r.1 ≡ iri → entries_of (set row i r) ≡ anew s iri
@@ -296,7 +308,8 @@ all_within row others limits a f h l =
     sizes_of q iri h = let a = h.0 in let b = h.1 in omega (arith, a, b)
 
     spread : (a b m x y s n : ℕ) → x ≤ a * m → y ≤ b * m → s ≡ x + y → (a + b) * m ≤ n → s ≤ n
-    spread a b m x y s n h k e l = let d : (a + b) * m ≡ a * m + b * m = mul_comm (a + b) m ∙ (mul-add m a b ∙ ap₂ (λ (c d : ℕ). c + d) (mul_comm m a) (mul_comm m b)) in omega (arith, h, k, e, l, d)
+    spread a b m x y s n h k e l = let d : (a + b) * m ≡ a * m + b * m =
+        mul_comm (a + b) m ∙ (mul-add m a b ∙ ap₂ (λ (c d : ℕ). c + d) (mul_comm m a) (mul_comm m b)) in omega (arith, h, k, e, l, d)
 
 -- so those of the row do
 pub row_bound : (row others : List (List ℕ × List ℕ)) (limits : Sizes) → KeptApart row others →
@@ -321,15 +334,18 @@ text_copied None = refl
 text_copied (Some s) = refl
 
 -- an entry that is found in the row is what its prefix is bound to
-pub found_in_row : {Z : Type 0} (row seen others : List (String Z × List ℕ)) (all : List (List ℕ × List ℕ)) (p : List ℕ) (i : ℕ) (r : String Z × List ℕ) → seen ≡ row →
+pub found_in_row : {Z : Type 0} (row seen others : List (String Z × List ℕ)) (all : List (List ℕ × List ℕ)) (p : List ℕ) (i : ℕ)
+    (r : String Z × List ℕ) → seen ≡ row →
     entries_of row ++ entries_of others ≡ all → StandsAt (entries_of seen) p i → r ≡ get_or row i r → Some r.1 ≡ bound_to all p
 found_in_row row seen others all p i r e v s g =
     let t = subst (λ x. StandsAt (entries_of x) p i) e s in
     ap Some (sym (iri_there row p i r t g)) ∙ sym (subst (λ x. bound_to x p ≡ Some t.iri) v (bound_to-there (entries_of row) (entries_of others) p i t))
 
 -- and a prefix that is not in the row is bound as the map says
-pub found_in_map : {Z : Type 0} (row seen : List (String Z × List ℕ)) (others : BTreeMap (String Z) (List ℕ)) (all : List (List ℕ × List ℕ)) (prefix : List ℕ) (o : Option (Bor (List ℕ))) →
-    IsUtf8 prefix → seen ≡ row → entries_of row ++ entries_of others.entries ≡ all → bound_to (entries_of seen) (chars prefix) ≡ None → option_copied o ≡ get_by_text others prefix →
+pub found_in_map : {Z : Type 0} (row seen : List (String Z × List ℕ)) (others : BTreeMap (String Z) (List ℕ)) (all : List (List ℕ × List ℕ))
+    (prefix : List ℕ) (o : Option (Bor (List ℕ))) →
+    IsUtf8 prefix → seen ≡ row → entries_of row ++ entries_of others.entries ≡ all → bound_to (entries_of seen) (chars prefix) ≡ None →
+    option_copied o ≡ get_by_text others prefix →
     text_of o ≡ bound_to all (chars prefix)
 found_in_map row seen others all prefix o u e v n g =
     let new = subst (λ x. bound_to (entries_of x) (chars prefix) ≡ None) e n in

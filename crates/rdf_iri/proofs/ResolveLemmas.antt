@@ -10,7 +10,8 @@ use Rattle.rdf_iri.proofs.PartsLemmas.{only_parts, parts_split}
 use Rattle.rdf_iri.proofs.DotsLemmas.{only_removed, dots_removed}
 
 -- parts with equal fields
-same_parts : (t : Parts) (s a : Option (List ℕ)) (p : List ℕ) (q f : Option (List ℕ)) → t.scheme ≡ s → t.authority ≡ a → t.path ≡ p → t.query ≡ q → t.fragment ≡ f →
+same_parts : (t : Parts) (s a : Option (List ℕ)) (p : List ℕ) (q f : Option (List ℕ)) → t.scheme ≡ s → t.authority ≡ a → t.path ≡ p →
+    t.query ≡ q → t.fragment ≡ f →
     t ≡ record { scheme = s; authority = a; path = p; query = q; fragment = f }
 same_parts t s a p q f e1 e2 e3 e4 e5 =
     ap (λ x. record { scheme = x; authority = t.authority; path = t.path; query = t.query; fragment = t.fragment }) e1
@@ -20,7 +21,8 @@ same_parts t s a p q f e1 e2 e3 e4 e5 =
     ∙ ap (λ x. record { scheme = s; authority = a; path = p; query = q; fragment = x }) e5)))
 
 -- by its path a reference has one target
-path-only : (b r t : Parts) (w : List ℕ) → t.scheme ≡ b.scheme → t.fragment ≡ r.fragment → t.authority ≡ b.authority → ByPath b w r.query t → t ≡ path_target b r w
+path-only : (b r t : Parts) (w : List ℕ) → t.scheme ≡ b.scheme → t.fragment ≡ r.fragment → t.authority ≡ b.authority →
+    ByPath b w r.query t → t ≡ path_target b r w
 path-only b r t [] s f a m = same_parts t _ _ _ _ _ s a m.0 m.1 f
 path-only b r t (c ∷ w) s f a m = same_parts t _ _ _ _ _ s a (only_removed _ _ m.0) m.1 f
 
@@ -61,7 +63,8 @@ based-only None reference result m = absurd m
 based-only (Some text) reference result m =
     let b = only_parts text m.0 m.3 in
     let r = only_parts reference m.1 m.4 in
-    let t : m.2 ≡ target (parts_of text) (parts_of reference) = transforms-only m.0 m.1 m.2 m.5 ∙ (ap (λ x. target x m.1) b ∙ ap (λ x. target (parts_of text) x) r) in
+    let t : m.2 ≡ target (parts_of text) (parts_of reference) =
+    transforms-only m.0 m.1 m.2 m.5 ∙ (ap (λ x. target x m.1) b ∙ ap (λ x. target (parts_of text) x) r) in
     ap (λ x. Some x) (sym (m.6 ∙ ap recompose t))
 
 -- what the relation gives is what is computed
@@ -71,7 +74,8 @@ resolves-only base reference result m =
     ⊎_elim
     (λ (h : (has_scheme reference ≡ true) × (result ≡ reference)).
     cond-true (has_scheme reference) (Some reference) (based base reference) h.0 ∙ ap (λ x. Some x) (sym h.1))
-    (λ (h : (has_scheme reference ≡ false) × MatchOption base ⊥ (λ text. (b r t : Parts) × Splits text b × Splits reference r × Transforms b r t × (result ≡ recompose t))).
+    (λ (h : (has_scheme reference ≡ false) × MatchOption base ⊥ (λ text. (b r t : Parts) × Splits text b × Splits reference r
+    × Transforms b r t × (result ≡ recompose t))).
     cond-false (has_scheme reference) (Some reference) (based base reference) h.0 ∙ based-only base reference result h.1)
     m
 

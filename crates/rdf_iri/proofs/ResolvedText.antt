@@ -23,7 +23,8 @@ abbrev pub target_text : List ℕ → List ℕ → List ℕ
 target_text base reference = recompose (target (parts_of base) (parts_of reference))
 
 -- a reference that is resolved over bytes gives the bytes of its result
-over_bytes : (base reference : List ℕ) → IsUtf8 base → IsUtf8 reference → target_text base reference ≡ encode_utf8_all (target_text (chars base) (chars reference))
+over_bytes : (base reference : List ℕ) → IsUtf8 base → IsUtf8 reference →
+    target_text base reference ≡ encode_utf8_all (target_text (chars base) (chars reference))
 over_bytes base reference u v =
     ap (λ x. target_text x reference) (sym (encodes-chars base u))
     ∙ (ap (λ x. target_text (encode_utf8_all (chars base)) x) (sym (encodes-chars reference v)) ∙ target-bytes (chars base) (chars reference))

@@ -29,7 +29,8 @@ front-slice w n = let e : n - 0 ≡ n = omega arith in ap (λ (i : ℕ). take i 
 -- a text is what stands in front of its path, the path, and the rest
 recompose-front : (p : Parts) → recompose p ≡ front_text p ++ (p.path ++ (suffix 63 p.query ++ suffix 35 p.fragment))
 recompose-front p =
-    sym (assembled p (scheme_text p.scheme) (front_text p) (front_text p ++ p.path) ((front_text p ++ p.path) ++ suffix 63 p.query) (((front_text p ++ p.path) ++ suffix 63 p.query) ++ suffix 35 p.fragment)
+    sym (assembled p (scheme_text p.scheme) (front_text p) (front_text p ++ p.path) ((front_text p ++ p.path) ++ suffix 63 p.query)
+    (((front_text p ++ p.path) ++ suffix 63 p.query) ++ suffix 35 p.fragment)
     refl refl refl refl refl)
     ∙ pieces (front_text p) p.path (suffix 63 p.query) (suffix 35 p.fragment)
   where
@@ -37,7 +38,8 @@ recompose-front p =
     pieces a b c d = simp append_assoc
 
 -- so is a base
-base-front : (base : List ℕ) → base ≡ front_text (parts_of base) ++ ((parts_of base).path ++ (suffix 63 (parts_of base).query ++ suffix 35 (parts_of base).fragment))
+base-front : (base : List ℕ) → base ≡ front_text (parts_of base)
+    ++ ((parts_of base).path ++ (suffix 63 (parts_of base).query ++ suffix 35 (parts_of base).fragment))
 base-front base = sym (parts_split base).whole ∙ recompose-front (parts_of base)
 
 -- what stands in front of the path, and the path, are within the base
@@ -50,14 +52,16 @@ front-within base =
     omega (arith, all)
 
 -- a text may be cut before a query or a fragment, and at its end
-suffix-boundary : (text front rest : List ℕ) (n : ℕ) → text ≡ front ++ rest → n ≡ length front → (rest ≡ []) ⊎ ((c : ℕ) × (w : List ℕ) × (c < 128) × (rest ≡ c ∷ w)) → IsCharBoundary text n
+suffix-boundary : (text front rest : List ℕ) (n : ℕ) → text ≡ front ++ rest → n ≡ length front →
+    (rest ≡ []) ⊎ ((c : ℕ) × (w : List ℕ) × (c < 128) × (rest ≡ c ∷ w)) → IsCharBoundary text n
 suffix-boundary text front rest n e f h =
     let all : length text ≡ length front + length rest = ap length e ∙ length-append front rest in
     ⊎_elim
     (λ (k : rest ≡ []). let z : length rest ≡ 0 = ap length k in (omega (arith, all, f, z), λ (l : n < length text). absurd (omega (arith, all, f, z, l))))
     (λ (k : (c : ℕ) × (w : List ℕ) × (c < 128) × (rest ≡ c ∷ w)).
     let z : length rest ≡ suc (length k.1) = ap length k.3 in
-    let b : get_or text n 0 ≡ k.0 = ap (λ (i : ℕ). get_or text i 0) f ∙ (ap (λ x. get_or x (length front) 0) (e ∙ ap (λ x. front ++ x) k.3) ∙ get_or-append_seam front k.0 k.1 0) in
+    let b : get_or text n 0 ≡ k.0 = ap (λ (i : ℕ). get_or text i 0) f
+    ∙ (ap (λ x. get_or x (length front) 0) (e ∙ ap (λ x. front ++ x) k.3) ∙ get_or-append_seam front k.0 k.1 0) in
     let l = k.2 in
     IsCharBoundary-before_ascii text n (omega (arith, all, f, z)) (omega (arith, b, l)))
     h
@@ -72,17 +76,20 @@ suffixes-start None f = suffix-starts 35 f (omega arith)
 suffixes-start (Some w) f = inr (63, w ++ suffix 35 f, omega arith, refl)
 
 -- what stands in front of the query, and the query, are within the base
-pub query-within : (base : List ℕ) → (length (front_text (parts_of base)) + length (parts_of base).path) + length (suffix 63 (parts_of base).query) ≤ length base
+pub query-within : (base : List ℕ) → (length (front_text (parts_of base)) + length (parts_of base).path) + length
+    (suffix 63 (parts_of base).query) ≤ length base
 query-within base =
     let p = parts_of base in
     let q = suffix 63 p.query in
     let f = suffix 35 p.fragment in
     let all : length base ≡ length (front_text p) + (length p.path + (length q + length f)) =
-    ap length (base-front base) ∙ (length-append (front_text p) (p.path ++ (q ++ f)) ∙ ap (λ (x : ℕ). length (front_text p) + x) (length-append p.path (q ++ f) ∙ ap (λ (x : ℕ). length p.path + x) (length-append q f))) in
+    ap length (base-front base) ∙ (length-append (front_text p) (p.path ++ (q ++ f)) ∙ ap (λ (x : ℕ). length (front_text p) + x)
+    (length-append p.path (q ++ f) ∙ ap (λ (x : ℕ). length p.path + x) (length-append q f))) in
     omega (arith, all)
 
 -- the root that was found
-pub root-found : (base path : List ℕ) (front len query : ℕ) → (parts_of base).path ≡ path → begins (47 ∷ []) path ≡ true → len ≤ length path → take len path ≡ directory path →
+pub root-found : (base path : List ℕ) (front len query : ℕ) → (parts_of base).path ≡ path → begins (47 ∷ []) path ≡ true →
+    len ≤ length path → take len path ≡ directory path →
     has_dots (take len path) ≡ false → front ≡ length (front_text (parts_of base)) → query ≡ length (suffix 63 (parts_of base).query) →
     HasRoot base (record { first = front + 1; last = front + len; path = front + length path; query = front + length path + query })
 root-found base path front len query e b l d n f k =
@@ -97,18 +104,25 @@ root-found base path front len query e b l d n f k =
     let to_query : base ≡ (start ++ (path ++ q)) ++ g = whole ∙ simp append_assoc in
     let path_size : front + length path ≡ length (start ++ path) = omega (arith, f, length-append start path) in
     let query_size : front + length path + query ≡ length (start ++ (path ++ q)) = omega (arith, f, k, length-append start (path ++ q), length-append path q) in
-    let all : length base ≡ length start + (length path + length rest) = ap length whole ∙ (length-append start (path ++ rest) ∙ ap (λ (x : ℕ). length start + x) (length-append path rest)) in
+    let all : length base ≡ length start + (length path + length rest) =
+    ap length whole ∙ (length-append start (path ++ rest) ∙ ap (λ (x : ℕ). length start + x) (length-append path rest)) in
     record {
       path = (drop 1 path, e ∙ first);
       dots = ap (λ x. has_dots (directory x)) e ∙ (ap has_dots (sym d) ∙ n);
       at_first = ap (λ (x : ℕ). x + 1) f;
-      first = ap (λ (x : ℕ). take (x + 1) base) f ∙ (ap (take (length start + 1)) whole ∙ (take-append-add start (path ++ rest) 1 ∙ ap (λ x. start ++ take 1 (x ++ rest)) first));
+      first = ap (λ (x : ℕ). take (x + 1) base) f
+          ∙ (ap (take (length start + 1)) whole ∙ (take-append-add start (path ++ rest) 1 ∙ ap (λ x. start ++ take 1 (x ++ rest)) first));
       last = ap (λ (x : ℕ). take (x + len) base) f
-          ∙ (ap (take (length start + len)) whole ∙ (take-append-add start (path ++ rest) len ∙ ap (λ x. start ++ x) (take-append-le len path rest l ∙ (d ∙ ap directory (sym e)))));
-      path_end = ap (λ (x : ℕ). take x base) path_size ∙ (ap (take (length (start ++ path))) to_path ∙ (take-append_seam (start ++ path) rest ∙ ap (λ x. start ++ x) (sym e)));
-      query_end = ap (λ (x : ℕ). take x base) query_size ∙ (ap (take (length (start ++ (path ++ q)))) to_query ∙ (take-append_seam (start ++ (path ++ q)) g ∙ ap (λ x. start ++ (x ++ q)) (sym e)));
-      path_cut = suffix-boundary base (start ++ path) rest (front + length path) to_path path_size (suffixes-start (parts_of base).query (parts_of base).fragment);
-      query_cut = suffix-boundary base (start ++ (path ++ q)) g (front + length path + query) to_query query_size (suffix-starts 35 (parts_of base).fragment (omega arith));
+          ∙ (ap (take (length start + len)) whole ∙ (take-append-add start (path ++ rest) len
+          ∙ ap (λ x. start ++ x) (take-append-le len path rest l ∙ (d ∙ ap directory (sym e)))));
+      path_end = ap (λ (x : ℕ). take x base) path_size
+          ∙ (ap (take (length (start ++ path))) to_path ∙ (take-append_seam (start ++ path) rest ∙ ap (λ x. start ++ x) (sym e)));
+      query_end = ap (λ (x : ℕ). take x base) query_size ∙ (ap (take (length (start ++ (path ++ q)))) to_query
+          ∙ (take-append_seam (start ++ (path ++ q)) g ∙ ap (λ x. start ++ (x ++ q)) (sym e)));
+      path_cut = suffix-boundary base (start ++ path) rest (front + length path) to_path path_size
+          (suffixes-start (parts_of base).query (parts_of base).fragment);
+      query_cut = suffix-boundary base (start ++ (path ++ q)) g (front + length path + query) to_query query_size
+          (suffix-starts 35 (parts_of base).fragment (omega arith));
       within_first = omega (arith, f, all, size);
       within_last = omega (arith, f, all, l);
     }
@@ -125,9 +139,16 @@ path-target : (b : Parts) (w p : List ℕ) (c : ℕ) → has_scheme w ≡ false 
     recompose (target b (parts_of w)) ≡ front_text b ++ (remove_dots (joined b (c ∷ p)) ++ tail_in w)
 path-target b w p c h n e =
     let r : Parts = record { scheme = None; authority = None; path = c ∷ p; query = after 63 (before 35 w); fragment = after 35 w } in
-    let same : parts_of w ≡ r = path-parts w h n ∙ ap (λ x. record { scheme = None; authority = None; path = x; query = after 63 (before 35 w); fragment = after 35 w }) e in
+    let same : parts_of w ≡ r = path-parts w h n
+    ∙ ap (λ x. record { scheme = None; authority = None; path = x; query = after 63 (before 35 w); fragment = after 35 w }) e in
     ap (λ x. recompose (target b x)) same
-    ∙ recompose-front (record { scheme = b.scheme; authority = b.authority; path = remove_dots (joined b (c ∷ p)); query = after 63 (before 35 w); fragment = after 35 w })
+    ∙ recompose-front (record {
+      scheme = b.scheme;
+      authority = b.authority;
+      path = remove_dots (joined b (c ∷ p));
+      query = after 63 (before 35 w);
+      fragment = after 35 w;
+    })
 
 -- the path that is written after a rooted directory without dot segments
 after-directory : (o w : List ℕ) → Rooted o → has_dots (o ++ 47 ∷ []) ≡ false → remove_dots ((o ++ 47 ∷ []) ++ w) ≡ finish (walk (47 ∷ w) o)
@@ -169,7 +190,8 @@ target-last base c w root r p h n =
     let d : has_dots (parent b.path ++ 47 ∷ []) ≡ false = ap (λ x. has_dots (parent x ++ 47 ∷ [])) e ∙ (ap (λ x. has_dots (directory x)) (sym e) ∙ r.dots) in
     let o : Rooted (parent b.path) = subst (λ x. Rooted (parent x)) (sym e) (parent-begins t) in
     sym (path-target b (c ∷ w) (path_in w) c h p.no_authority g
-    ∙ ap (λ x. front_text b ++ (x ++ tail_in (c ∷ w))) (ap remove_dots j ∙ (after-directory (parent b.path) (c ∷ path_in w) o d ∙ ap (λ x. finish (walk (47 ∷ x) (parent b.path))) (sym g))))
+    ∙ ap (λ x. front_text b ++ (x ++ tail_in (c ∷ w))) (ap remove_dots j
+    ∙ (after-directory (parent b.path) (c ∷ path_in w) o d ∙ ap (λ x. finish (walk (47 ∷ x) (parent b.path))) (sym g))))
 
 -- one that begins with '/'
 target-first : (base w : List ℕ) (root : Root) → HasRoot base root → HasOwnPath (47 ∷ w) → has_scheme (47 ∷ w) ≡ false →
@@ -194,7 +216,8 @@ first-directory base root r = record { front = front_text (parts_of base); path 
 -- what is written after a directory whose parts are known
 written-there : (root : ℕ) (text w : List ℕ) (d : IsDirectory root text) → written_onward root text w ≡ d.front ++ (onward d.path w ++ tail_in w)
 written-there root text w d =
-    ap (λ x. x ++ (onward (path_at root text) w ++ tail_in w)) (front-there root text d) ∙ ap (λ x. d.front ++ (onward x w ++ tail_in w)) (path-there root text d)
+    ap (λ x. x ++ (onward (path_at root text) w ++ tail_in w)) (front-there root text d)
+    ∙ ap (λ x. d.front ++ (onward x w ++ tail_in w)) (path-there root text d)
 
 -- what is written after the last directory is the target
 pub after-last : (base w text out : List ℕ) (root : Root) → HasRoot base root → HasOwnPath w → has_scheme w ≡ false → (get_or w 0 0 ≡ 47 → ⊥) →
@@ -235,12 +258,20 @@ beyond-target : (b : Parts) (w : List ℕ) → has_scheme w ≡ false → path_i
 beyond-target b w h e =
     let r : Parts = record { scheme = None; authority = None; path = []; query = after 63 (before 35 w); fragment = after 35 w } in
     let same : parts_of w ≡ r =
-    path-parts w h (ap (begins (47 ∷ 47 ∷ [])) e) ∙ ap (λ x. record { scheme = None; authority = None; path = x; query = after 63 (before 35 w); fragment = after 35 w }) e in
+    path-parts w h (ap (begins (47 ∷ 47 ∷ [])) e)
+    ∙ ap (λ x. record { scheme = None; authority = None; path = x; query = after 63 (before 35 w); fragment = after 35 w }) e in
     ap (λ x. recompose (target b x)) same
-    ∙ recompose-front (record { scheme = b.scheme; authority = b.authority; path = b.path; query = or_else (after 63 (before 35 w)) b.query; fragment = after 35 w })
+    ∙ recompose-front (record {
+      scheme = b.scheme;
+      authority = b.authority;
+      path = b.path;
+      query = or_else (after 63 (before 35 w)) b.query;
+      fragment = after 35 w;
+    })
 
 -- written after the path, where it begins with a query
-pub beyond-path : (base w out : List ℕ) (root : Root) → HasRoot base root → path_in w ≡ [] → has_scheme w ≡ false → begins (63 ∷ []) w ≡ true → out ≡ slice_range base 0 root.path ++ w →
+pub beyond-path : (base w out : List ℕ) (root : Root) → HasRoot base root → path_in w ≡ [] → has_scheme w ≡ false →
+    begins (63 ∷ []) w ≡ true → out ≡ slice_range base 0 root.path ++ w →
     out ≡ recompose (target (parts_of base) (parts_of w))
 beyond-path base [] out root r p h m e = absurd (false≢true m)
 beyond-path base (c ∷ w) out root r p h m e =
@@ -259,7 +290,11 @@ no-query : (w : List ℕ) → path_in w ≡ [] → begins (63 ∷ []) w ≡ fals
 no-query [] p m = (refl, refl)
 no-query (c ∷ w) p m =
     ⊎_elim
-    (λ t. (ap (after 63) (cond-true (c == 35) [] (c ∷ before 35 w) t), ap (suffix 35) (cond-true (c == 35) (Some w) (after 35 w) t) ∙ ap (λ x. x ∷ w) (sym (eqb-true c 35 t))))
+    (λ t. (
+      ap (after 63) (cond-true (c == 35) [] (c ∷ before 35 w) t),
+      ap (suffix 35) (cond-true (c == 35) (Some w) (after 35 w) t)
+          ∙ ap (λ x. x ∷ w) (sym (eqb-true c 35 t)),
+    ))
     (λ f. absurd (
     let n : c ≢ 63 = λ e. false≢true (sym m ∙ ap (λ x. begins (63 ∷ []) (x ∷ w)) e) in
     let k : [] ≡ c ∷ path_in w = sym p ∙ path_in-cons c w n (eqb-false c 35 f) in
@@ -267,7 +302,8 @@ no-query (c ∷ w) p m =
     (cases_Bool (c == 35))
 
 -- written after the query, where it begins with none
-pub beyond-query : (base w out : List ℕ) (root : Root) → HasRoot base root → path_in w ≡ [] → has_scheme w ≡ false → begins (63 ∷ []) w ≡ false → out ≡ slice_range base 0 root.query ++ w →
+pub beyond-query : (base w out : List ℕ) (root : Root) → HasRoot base root → path_in w ≡ [] → has_scheme w ≡ false →
+    begins (63 ∷ []) w ≡ false → out ≡ slice_range base 0 root.query ++ w →
     out ≡ recompose (target (parts_of base) (parts_of w))
 beyond-query base w out root r p h m e =
     let b = parts_of base in

@@ -61,7 +61,8 @@ pub skip_all : (w o : List ℕ) → fits_A w ≡ false → fits_B w ≡ false �
 skip_all w o a b c h = not_C (walk w o) a b c ∙ (cond-true (fits_D w) (by_D (walk w o)) (by_E (walk w o)) h ∙ ap (λ x. walk x o) (sym (drop-length w)))
 
 -- the first segment, by the number of its bytes
-keep_from : (w o : List ℕ) (n : ℕ) → 0 < length w → take n (drop 1 w) ≡ before 47 (drop 1 w) → drop n (drop 1 w) ≡ from 47 (drop 1 w) → by_E (walk w o) ≡ keep (suc n) (walk w o)
+keep_from : (w o : List ℕ) (n : ℕ) → 0 < length w → take n (drop 1 w) ≡ before 47 (drop 1 w) → drop n (drop 1 w) ≡ from 47 (drop 1 w) →
+    by_E (walk w o) ≡ keep (suc n) (walk w o)
 keep_from [] o n l f r = absurd (omega arith)
 keep_from (c ∷ w) o n l f r = ap (λ x. walk x (o ++ c ∷ before 47 w)) (sym r) ∙ ap (λ x. walk (drop n w) (o ++ c ∷ x)) (sym f)
 

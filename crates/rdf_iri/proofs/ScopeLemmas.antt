@@ -41,7 +41,8 @@ text_test q = is_at (λ k. slice_cmp nat_cmp q (string_bytes k))
 bound_to-lookup : {Z : Type 0} (es : List (String Z × List ℕ)) (q : List ℕ) → IsUtf8 q → bound_to (entries_of es) (chars q) ≡ lookup (text_test {Z = Z} q) es
 bound_to-lookup [] q u = refl
 bound_to-lookup {Z} (e ∷ es) q u =
-    ap (λ b. cond b (Some e.1) (bound_to (entries_of es) (chars q))) (same_text q (string_bytes e.0) u (IsUtf8-string_bytes e.0) ∙ sym (is_eq-slice_cmp q (string_bytes e.0)))
+    ap (λ b. cond b (Some e.1) (bound_to (entries_of es) (chars q)))
+    (same_text q (string_bytes e.0) u (IsUtf8-string_bytes e.0) ∙ sym (is_eq-slice_cmp q (string_bytes e.0)))
     ∙ ap (λ x. cond (text_test {Z = Z} q e.0) (Some e.1) x) (bound_to-lookup es q u)
 
 -- the map answers for a prefix what the scope says
@@ -92,7 +93,8 @@ bound_to-updated m n key prefix iri e t u q =
     (at_text m n key prefix iri e t u (encode_utf8_all q) (q, (h, refl))))
     (λ (h : scalars q ≡ false).
     no_text n.entries q h
-    ∙ sym (cond-false (equal (chars prefix) q) (Some iri) (bound_to (entries_of m.entries) q) (swapped (chars prefix) q ∙ differs q prefix h t) ∙ no_text m.entries q h))
+    ∙ sym (cond-false (equal (chars prefix) q) (Some iri) (bound_to (entries_of m.entries) q)
+    (swapped (chars prefix) q ∙ differs q prefix h t) ∙ no_text m.entries q h))
     (cases_Bool (scalars q))
 
 -- an insertion into the map sets the prefix
@@ -185,12 +187,14 @@ expands_not s prefix local front (Ok t) e h = tt
 expands_not s prefix local front (Err fault) e h = not_expanded s prefix local front e fault h
 
 -- the IRI of a name without a local part, with one after it, is that of a name
-pub expands_more : (s : InForce) (prefix none more iri longer : List ℕ) → none ≡ [] → Expands s prefix none iri → longer ≡ iri ++ more → Expands s prefix more longer
+pub expands_more : (s : InForce) (prefix none more iri longer : List ℕ) → none ≡ [] → Expands s prefix none iri → longer ≡ iri ++ more →
+    Expands s prefix more longer
 expands_more s prefix none more iri longer n (front, b, e) g =
     (front, b, g ∙ ap (λ x. x ++ more) (e ∙ (ap (λ x. front ++ x) n ∙ append-nil front)))
 
 -- where it was not made that of a name is not either, for the same reason, unless memory was short
-pub expands_none : (s : InForce) (prefix none more : List ℕ) (fault : IriFault) → none ≡ [] → NotExpanded s prefix none fault → fault ≢ Memory → NotExpanded s prefix more fault
+pub expands_none : (s : InForce) (prefix none more : List ℕ) (fault : IriFault) → none ≡ [] → NotExpanded s prefix none fault →
+    fault ≢ Memory → NotExpanded s prefix more fault
 expands_none s prefix none more Unbound n h m = h
 expands_none s prefix none more IriTooLong n (iri, e, l) m =
     let longer = iri ++ more in (longer, expands_more s prefix none more iri longer n e refl, omega (arith, l, byte_len-append iri more))

@@ -44,10 +44,34 @@ part-chars (Some w) g = ap (λ x. Some x) (text-chars w g)
 -- the characters of the bytes of parts
 same_parts : (p : Parts) → GoodParts scalar scalar_marks p → parts_chars (parts_bytes p) ≡ p
 same_parts p g =
-    ap (λ x. record { scheme = x; authority = part_chars (part_bytes p.authority); path = chars (encode_utf8_all p.path); query = part_chars (part_bytes p.query); fragment = part_chars (part_bytes p.fragment) }) (part-chars p.scheme g.scheme)
-    ∙ (ap (λ x. record { scheme = p.scheme; authority = x; path = chars (encode_utf8_all p.path); query = part_chars (part_bytes p.query); fragment = part_chars (part_bytes p.fragment) }) (part-chars p.authority g.authority)
-    ∙ (ap (λ x. record { scheme = p.scheme; authority = p.authority; path = x; query = part_chars (part_bytes p.query); fragment = part_chars (part_bytes p.fragment) }) (text-chars p.path g.path)
-    ∙ (ap (λ x. record { scheme = p.scheme; authority = p.authority; path = p.path; query = x; fragment = part_chars (part_bytes p.fragment) }) (part-chars p.query g.query)
+    ap (λ x. record {
+      scheme = x;
+      authority = part_chars (part_bytes p.authority);
+      path = chars (encode_utf8_all p.path);
+      query = part_chars (part_bytes p.query);
+      fragment = part_chars (part_bytes p.fragment);
+    }) (part-chars p.scheme g.scheme)
+    ∙ (ap (λ x. record {
+      scheme = p.scheme;
+      authority = x;
+      path = chars (encode_utf8_all p.path);
+      query = part_chars (part_bytes p.query);
+      fragment = part_chars (part_bytes p.fragment);
+    }) (part-chars p.authority g.authority)
+    ∙ (ap (λ x. record {
+      scheme = p.scheme;
+      authority = p.authority;
+      path = x;
+      query = part_chars (part_bytes p.query);
+      fragment = part_chars (part_bytes p.fragment);
+    }) (text-chars p.path g.path)
+    ∙ (ap (λ x. record {
+      scheme = p.scheme;
+      authority = p.authority;
+      path = p.path;
+      query = x;
+      fragment = part_chars (part_bytes p.fragment);
+    }) (part-chars p.query g.query)
     ∙ ap (λ x. record { scheme = p.scheme; authority = p.authority; path = p.path; query = p.query; fragment = x }) (part-chars p.fragment g.fragment))))
 
 -- the parts cut from bytes are, as characters, the parts of the text

@@ -75,7 +75,8 @@ segment-moves s p o l n =
     ∙ (ap (λ x. finish (walk x (o ++ 47 ∷ before 47 (s ++ 47 ∷ p)))) k.1 ∙ ap (λ x. finish (walk (47 ∷ p) (o ++ 47 ∷ x))) k.0))
 
 -- segments without dots move to the output, whatever follows their last '/'
-pub segments-move : (n : ℕ) (u p o : List ℕ) → length u ≤ n → has_dots (u ++ 47 ∷ []) ≡ false → finish (walk (47 ∷ (u ++ 47 ∷ p)) o) ≡ finish (walk (47 ∷ p) (o ++ 47 ∷ u))
+pub segments-move : (n : ℕ) (u p o : List ℕ) → length u ≤ n → has_dots (u ++ 47 ∷ []) ≡ false →
+    finish (walk (47 ∷ (u ++ 47 ∷ p)) o) ≡ finish (walk (47 ∷ p) (o ++ 47 ∷ u))
 segments-move zero [] p o l h = segment-moves [] p o tt refl
 segments-move zero (c ∷ u) p o l h = absurd (omega arith)
 segments-move (suc n) u p o l h =
@@ -157,7 +158,8 @@ pub here-slash : (bytes : List ℕ) (at : ℕ) → at + 1 < length bytes → get
 here-slash bytes at l e f =
     let k : (at + 1) + 1 ≡ at + 2 = omega arith in
     let v = drop (at + 2) bytes in
-    let w : drop at bytes ≡ 46 ∷ 47 ∷ v = at-place bytes at 46 (omega arith) e ∙ ap (λ x. 46 ∷ x) (at-place bytes (at + 1) 47 l f ∙ ap (λ (i : ℕ). 47 ∷ drop i bytes) k) in (
+    let w : drop at bytes ≡ 46 ∷ 47 ∷ v =
+    at-place bytes at 46 (omega arith) e ∙ ap (λ x. 46 ∷ x) (at-place bytes (at + 1) 47 l f ∙ ap (λ (i : ℕ). 47 ∷ drop i bytes) k) in (
       passes bytes at (at + 2) (at + 1) (omega arith) (sym k) l (omega (arith, f)),
       leads-from bytes (46 ∷ 47 ∷ v) v at (at + 2) (λ o. o) w refl (λ o. dot-slash (path_in v) o) refl,
     )
@@ -168,7 +170,8 @@ pub up-last : (bytes : List ℕ) (at : ℕ) → at + 1 < length bytes → get_or
 up-last bytes at l e f n =
     let k : (at + 1) + 1 ≡ at + 2 = omega arith in
     let v = drop (at + 2) bytes in
-    let w : drop at bytes ≡ 46 ∷ 46 ∷ v = at-place bytes at 46 (omega arith) e ∙ ap (λ x. 46 ∷ x) (at-place bytes (at + 1) 46 l f ∙ ap (λ (i : ℕ). 46 ∷ drop i bytes) k) in (
+    let w : drop at bytes ≡ 46 ∷ 46 ∷ v =
+    at-place bytes at 46 (omega arith) e ∙ ap (λ x. 46 ∷ x) (at-place bytes (at + 1) 46 l f ∙ ap (λ (i : ℕ). 46 ∷ drop i bytes) k) in (
       passes bytes at (at + 2) (at + 1) (omega arith) (sym k) l (omega (arith, f)),
       leads-from bytes (46 ∷ 46 ∷ v) v at (at + 2) parent w refl
           (λ o. ap (λ x. finish (walk (47 ∷ 46 ∷ 46 ∷ x) o)) n ∙ (dots-end o ∙ ap (λ x. finish (walk (47 ∷ x) (parent o))) (sym n)))
@@ -194,20 +197,24 @@ pub between-more : (w : List ℕ) (a b c : ℕ) → a ≤ b → b ≤ c → slic
 between-more w a b c l m =
     let i : a ≤ c = omega arith in
     append_cancel_right (slice_range w a c) (slice_range w a b ++ slice_range w b c) (drop c w)
-    (sym (drop_split w a c i) ∙ (drop_split w a b l ∙ (ap (λ x. slice_range w a b ++ x) (drop_split w b c m) ∙ sym (append_assoc (slice_range w a b) (slice_range w b c) (drop c w)))))
+    (sym (drop_split w a c i) ∙ (drop_split w a b l
+    ∙ (ap (λ x. slice_range w a b ++ x) (drop_split w b c m) ∙ sym (append_assoc (slice_range w a b) (slice_range w b c) (drop c w)))))
 
 -- one more byte
 pub between-one : (w : List ℕ) (a b : ℕ) → a ≤ b → b < length w → slice_range w a (b + 1) ≡ slice_range w a b ++ get_or w b 0 ∷ []
 between-one w a b l m =
-    let e : slice_range w b (b + 1) ++ drop (b + 1) w ≡ (get_or w b 0 ∷ []) ++ drop (b + 1) w = sym (drop_split w b (b + 1) (omega arith)) ∙ drop_more w b 0 m in
-    between-more w a b (b + 1) l (omega arith) ∙ ap (λ x. slice_range w a b ++ x) (append_cancel_right (slice_range w b (b + 1)) (get_or w b 0 ∷ []) (drop (b + 1) w) e)
+    let e : slice_range w b (b + 1) ++ drop (b + 1) w ≡ (get_or w b 0 ∷ []) ++ drop (b + 1) w =
+    sym (drop_split w b (b + 1) (omega arith)) ∙ drop_more w b 0 m in
+    between-more w a b (b + 1) l (omega arith) ∙ ap (λ x. slice_range w a b ++ x)
+    (append_cancel_right (slice_range w b (b + 1)) (get_or w b 0 ∷ []) (drop (b + 1) w) e)
 
 -- what is passed has none of these bytes
 pub lacks-one : (c : ℕ) (w : List ℕ) (a b : ℕ) → a ≤ b → b < length w → get_or w b 0 ≢ c → Lacks c (slice_range w a b) → Lacks c (slice_range w a (b + 1))
 lacks-one c w a b l m n h = subst (Lacks c) (sym (between-one w a b l m)) (Lacks-append c (slice_range w a b) (get_or w b 0 ∷ []) h (n, tt))
 
 -- a segment with its '/'
-pub into-slash : (bytes : List ℕ) (a b : ℕ) → a ≤ b → b < length bytes → get_or bytes b 0 ≡ 47 → Lacks 47 (slice_range bytes a b) → LacksMarks (slice_range bytes a b) →
+pub into-slash : (bytes : List ℕ) (a b : ℕ) → a ≤ b → b < length bytes → get_or bytes b 0 ≡ 47 → Lacks 47 (slice_range bytes a b) →
+    LacksMarks (slice_range bytes a b) →
     fits_D (before 47 (path_in (drop a bytes))) ≡ false →
     Passes bytes a (b + 1) × (x : List ℕ) × (slice_range bytes a (b + 1) ≡ x ++ 47 ∷ []) × Leads (λ o. o ++ 47 ∷ x) (drop a bytes) (drop (b + 1) bytes)
 into-slash bytes a b l m e s k n =

@@ -17,13 +17,15 @@ use Rattle.rdf_iri.proofs.ScopeLemmas.{some_not, same_text}
 use Rattle.rdf_iri.proofs.PrefixLemmas.{parted, bound_to-there, entries_of-append}
 
 -- the prefix of an entry that was read
-pub key_read : {Z : Type 0} (row : List (String Z × List ℕ)) (i : ℕ) (r : String Z × List ℕ) → i < length row → r ≡ get_or row i r → get_or (keys_of row) i [] ≡ string_bytes r.0
+pub key_read : {Z : Type 0} (row : List (String Z × List ℕ)) (i : ℕ) (r : String Z × List ℕ) → i < length row → r ≡ get_or row i r →
+    get_or (keys_of row) i [] ≡ string_bytes r.0
 key_read [] i r l e = absurd (omega (arith, l))
 key_read (x ∷ row) zero r l e = ap (λ s. string_bytes s.0) (sym e)
 key_read (x ∷ row) (suc i) r l e = key_read row i r (omega (arith, l)) e
 
 -- another IRI leaves the prefixes
-keys_of-anew : {Z : Type 0} (row : List (String Z × List ℕ)) (i : ℕ) (r : String Z × List ℕ) (iri : List ℕ) → r ≡ get_or row i r → keys_of (set row i (r.0, iri)) ≡ keys_of row
+keys_of-anew : {Z : Type 0} (row : List (String Z × List ℕ)) (i : ℕ) (r : String Z × List ℕ) (iri : List ℕ) → r ≡ get_or row i r →
+    keys_of (set row i (r.0, iri)) ≡ keys_of row
 keys_of-anew [] i r iri e = refl
 keys_of-anew (x ∷ row) zero r iri e = ap (λ s. string_bytes s.0 ∷ keys_of row) e
 keys_of-anew (x ∷ row) (suc i) r iri e = ap (λ (k : List (List ℕ)). string_bytes x.0 ∷ k) (keys_of-anew row i r iri e)
@@ -54,14 +56,16 @@ pub record Sought {Z : Type 0} (slots : List ℕ) (row : List (String Z × List 
   pub apart : KeptApart (entries_of row) []
 
 -- it holds of what is kept, as the code sees it
-pub sought : {Z : Type 0} (slots seen_slots : List ℕ) (row seen others : List (String Z × List ℕ)) → seen_slots ≡ slots → seen ≡ row → Kept slots row others → Sought seen_slots seen
+pub sought : {Z : Type 0} (slots seen_slots : List ℕ) (row seen others : List (String Z × List ℕ)) → seen_slots ≡ slots → seen ≡ row →
+    Kept slots row others → Sought seen_slots seen
 sought slots seen_slots row seen others e f k = record {
   placed = subst (λ s. HaveSlots s seen) (sym e) (subst (HaveSlots slots) (sym f) k.placed);
   apart = subst (λ r. KeptApart (entries_of r) []) (sym f) (KeptApart-alone (entries_of row) (entries_of others) k.apart);
 }
 
 -- a prefix that has these bytes at a place stands there, and at none before it
-pub stands_where : {Z : Type 0} (row : List (String Z × List ℕ)) (q : List ℕ) (i : ℕ) → KeptApart (entries_of row) [] → IsKeyAt row q i → StandsAt (entries_of row) (chars q) i
+pub stands_where : {Z : Type 0} (row : List (String Z × List ℕ)) (q : List ℕ) (i : ℕ) → KeptApart (entries_of row) [] → IsKeyAt row q i →
+    StandsAt (entries_of row) (chars q) i
 stands_where [] q i a k = let w = k.within in absurd (omega (arith, w))
 stands_where (x ∷ row) q zero a k =
     record {
@@ -79,7 +83,8 @@ stands_where (x ∷ row) q (suc i) a k =
     let other : equal (chars q) p ≡ false =
     ⊎_elim
     (λ (t : equal (chars q) p ≡ true).
-    absurd (some_not _ (ap is_some (ap (bound_to (entries_of row ++ [])) (sym (equal-true (chars q) p t)) ∙ bound_to-there (entries_of row) [] (chars q) i s)) a.0))
+    absurd (some_not _ (ap is_some (ap (bound_to (entries_of row ++ [])) (sym (equal-true (chars q) p t))
+    ∙ bound_to-there (entries_of row) [] (chars q) i s)) a.0))
     (λ (f : equal (chars q) p ≡ false). f)
     (cases_Bool (equal (chars q) p))
     in
@@ -118,7 +123,8 @@ absent (x ∷ row) q u f =
     ∙ absent row q u (λ i h. let w = h.within in f (suc i) (record { within = omega (arith, w); same = h.same }))
 
 -- a place among the first is one of the row
-stands_first : {Z : Type 0} (row : List (String Z × List ℕ)) (n : ℕ) (p : List ℕ) (i : ℕ) → StandsAt (entries_of (take n row)) p i → StandsAt (entries_of row) p i
+stands_first : {Z : Type 0} (row : List (String Z × List ℕ)) (n : ℕ) (p : List ℕ) (i : ℕ) → StandsAt (entries_of (take n row)) p i →
+    StandsAt (entries_of row) p i
 stands_first row n p i s =
     record {
       front = s.front;
@@ -163,7 +169,8 @@ pub HaveSlots-kept : {Z : Type 0} (old new : List ℕ) (row : List (String Z × 
 HaveSlots-kept old new row keeps have = λ place g l. keeps (get_or (keys_of row) place []) place (omega (arith, g)) (have place g l)
 
 -- a prefix with a slot comes next
-pub HaveSlots-pushed : {Z : Type 0} (slots : List ℕ) (row : List (String Z × List ℕ)) (key : String Z) (q iri : List ℕ) → string_bytes key ≡ q → HaveSlots slots row →
+pub HaveSlots-pushed : {Z : Type 0} (slots : List ℕ) (row : List (String Z × List ℕ)) (key : String Z) (q iri : List ℕ) →
+    string_bytes key ≡ q → HaveSlots slots row →
     (16 ≤ length row → HasSlot slots q (length row)) → HaveSlots slots (row ++ (key, iri) ∷ [])
 HaveSlots-pushed slots row key q iri e have next = λ place g l.
     let all = keys_of-append row ((key, iri) ∷ []) in
@@ -199,7 +206,8 @@ KeepsSlots-given slots first slot value free = λ key place p h.
       names = record { small = h.names.small; value = get_or-set_other slots slot at value 0 other ∙ v };
     }
 
-pub HasSlot-given : (slots key : List ℕ) (first slot value place : ℕ) → length slots ≡ 131072 → first ≡ first_slot (hash_of 0 key) → first + 4 ≤ 131072 → IsFree slots first slot →
+pub HasSlot-given : (slots key : List ℕ) (first slot value place : ℕ) → length slots ≡ 131072 → first ≡ first_slot (hash_of 0 key) →
+    first + 4 ≤ 131072 → IsFree slots first slot →
     value ≡ mark_of (hash_of 0 key) + place → place < 65536 → HasSlot (set slots slot value) key place
 HasSlot-given slots key first slot value place n f w free v s =
     let at : slot ≡ first_slot (hash_of 0 key) + free.way = free.there ∙ ap (λ (j : ℕ). j + free.way) f in
@@ -216,7 +224,8 @@ HasSlot-given slots key first slot value place n f w free v s =
     }
 
 -- what is sought by its slots, and then among the first, is sought in the whole row
-pub first_or_none : {Z : Type 0} (slots : List ℕ) (row : List (String Z × List ℕ)) (q : List ℕ) → IsUtf8 q → HaveSlots slots row → ((i : ℕ) → HasSlot slots q i → IsKeyAt row q i → ⊥) →
+pub first_or_none : {Z : Type 0} (slots : List ℕ) (row : List (String Z × List ℕ)) (q : List ℕ) → IsUtf8 q → HaveSlots slots row →
+    ((i : ℕ) → HasSlot slots q i → IsKeyAt row q i → ⊥) →
     (r : Option ℕ) → MatchOption r (bound_to (entries_of (take 16 row)) (chars q) ≡ None) (StandsAt (entries_of (take 16 row)) (chars q)) →
     MatchOption r (bound_to (entries_of row) (chars q) ≡ None) (StandsAt (entries_of row) (chars q))
 first_or_none slots row q u have f None h = bound_to-many slots row q u have f h

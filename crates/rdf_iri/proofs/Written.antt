@@ -65,7 +65,13 @@ with_base_path b r e f = sym (ap (authority_target b r) e ∙ ap (path_target b 
 
 -- the target of a reference with a path
 with_merged_path : (b r : Parts) (w : List ℕ) → r.authority ≡ None → r.path ≡ w → (w ≡ [] → ⊥) →
-    record { scheme = b.scheme; authority = b.authority; path = remove_dots (merged_front b.authority b.path w ++ w); query = r.query; fragment = r.fragment } ≡ target b r
+    record {
+      scheme = b.scheme;
+      authority = b.authority;
+      path = remove_dots (merged_front b.authority b.path w ++ w);
+      query = r.query;
+      fragment = r.fragment;
+    } ≡ target b r
 with_merged_path b r [] e f n = absurd (n refl)
 with_merged_path b r (c ∷ w) e f n =
     sym (ap (authority_target b r) e ∙ (ap (path_target b r) f
@@ -92,7 +98,8 @@ own_authority b r text reference a p o1 o2 o3 o4 m o5 eb er ea ep e1 e2 e3 e4 em
 
 -- what is written for one with an empty path
 pub base_path : (b r : Parts) (q : Option (List ℕ)) (text reference p o1 o2 o3 o4 m o5 : List ℕ) → b ≡ parts_of text → r ≡ parts_of reference →
-    r.authority ≡ None → length r.path ≡ 0 → p ≡ b.path → q ≡ or_else r.query b.query → o1 ≡ scheme_text b.scheme → o2 ≡ o1 ++ authority_text b.authority → o3 ≡ o2 ++ p →
+    r.authority ≡ None → length r.path ≡ 0 → p ≡ b.path → q ≡ or_else r.query b.query → o1 ≡ scheme_text b.scheme →
+    o2 ≡ o1 ++ authority_text b.authority → o3 ≡ o2 ++ p →
     o4 ≡ o3 ++ suffix 63 q → m ≡ o4 → o5 ≡ m ++ suffix 35 r.fragment → o5 ≡ recompose (target (parts_of text) (parts_of reference))
 base_path b r q text reference p o1 o2 o3 o4 m o5 eb er ea en ep eq e1 e2 e3 e4 em e5 =
     assembled (record { scheme = b.scheme; authority = b.authority; path = b.path; query = or_else r.query b.query; fragment = r.fragment })
@@ -101,19 +108,28 @@ base_path b r q text reference p o1 o2 o3 o4 m o5 eb er ea en ep eq e1 e2 e3 e4 
 
 -- what is written for one with a path
 pub merged_path : (b r : Parts) (text reference p d f g o1 o2 o3 o4 m o5 : List ℕ) → b ≡ parts_of text → r ≡ parts_of reference →
-    r.authority ≡ None → (length r.path ≡ 0 → ⊥) → p ≡ r.path → g ≡ r.path → d ≡ b.path → f ≡ merged_front b.authority d g → o1 ≡ scheme_text b.scheme → o2 ≡ o1 ++ authority_text b.authority →
+    r.authority ≡ None → (length r.path ≡ 0 → ⊥) → p ≡ r.path → g ≡ r.path → d ≡ b.path → f ≡ merged_front b.authority d g →
+    o1 ≡ scheme_text b.scheme → o2 ≡ o1 ++ authority_text b.authority →
     o3 ≡ o2 ++ remove_dots (f ++ p) →
     o4 ≡ o3 ++ suffix 63 r.query → m ≡ o4 → o5 ≡ m ++ suffix 35 r.fragment → o5 ≡ recompose (target (parts_of text) (parts_of reference))
 merged_path b r text reference p d f g o1 o2 o3 o4 m o5 eb er ea en ep eg ed ef e1 e2 e3 e4 em e5 =
-    let front : f ≡ merged_front b.authority b.path r.path = ef ∙ (ap (λ x. merged_front b.authority x g) ed ∙ ap (λ x. merged_front b.authority b.path x) eg) in
-    assembled (record { scheme = b.scheme; authority = b.authority; path = remove_dots (merged_front b.authority b.path r.path ++ r.path); query = r.query; fragment = r.fragment })
+    let front : f ≡ merged_front b.authority b.path r.path =
+    ef ∙ (ap (λ x. merged_front b.authority x g) ed ∙ ap (λ x. merged_front b.authority b.path x) eg) in
+    assembled (record {
+      scheme = b.scheme;
+      authority = b.authority;
+      path = remove_dots (merged_front b.authority b.path r.path ++ r.path);
+      query = r.query;
+      fragment = r.fragment;
+    })
     o1 o2 o3 o4 o5 e1 e2 (e3 ∙ (ap (λ x. o2 ++ remove_dots (x ++ p)) front ∙ ap (λ x. o2 ++ remove_dots (merged_front b.authority b.path r.path ++ x)) ep)) e4
     (e5 ∙ ap (λ x. x ++ suffix 35 r.fragment) em)
     ∙ (ap recompose (with_merged_path b r r.path ea refl (λ e. en (ap length e))) ∙ of_texts b r text reference eb er)
 
 -- a path cleaned in place after other bytes
 pub cleaned : (old front path dm ys post rest : List ℕ) (start n v : ℕ) → dm ≡ (old ++ front) ++ path → start ≡ length old → start + n ≤ v → n ≤ length ys →
-    take n ys ≡ remove_dots (take (length dm - start) (drop start dm)) → take (start + n) (take v ((take start dm ++ (ys ++ post)) ++ rest)) ≡ old ++ remove_dots (front ++ path)
+    take n ys ≡ remove_dots (take (length dm - start) (drop start dm)) →
+    take (start + n) (take v ((take start dm ++ (ys ++ post)) ++ rest)) ≡ old ++ remove_dots (front ++ path)
 cleaned old front path dm ys post rest start n v e s b l h =
     let whole : dm ≡ old ++ (front ++ path) = e ∙ append_assoc old front path in
     let begin : take start dm ≡ old = ap (λ k. take k dm) s ∙ (ap (take (length old)) whole ∙ take-append_seam old (front ++ path)) in

@@ -75,7 +75,8 @@ above-there root k text d l m e =
     let dr : drop root text ≡ w ++ 47 ∷ [] =
     ap (λ (i : ℕ). drop i text) h ∙ (ap (drop (length d.front + 1)) t ∙ drop-append-add d.front (47 ∷ (w ++ 47 ∷ [])) 1) in
     let n : (length text - 1) - root ≡ length w = omega (arith, h, p, whole-length root text d) in
-    let s : slice_range text root (length text - 1) ≡ w = ap (λ (i : ℕ). take i (drop root text)) n ∙ (ap (take (length w)) dr ∙ take-append_seam w (47 ∷ [])) in
+    let s : slice_range text root (length text - 1) ≡ w =
+    ap (λ (i : ℕ). take i (drop root text)) n ∙ (ap (take (length w)) dr ∙ take-append_seam w (47 ∷ [])) in
     let g : k ≤ length w = subst (λ x. k ≤ length x) s m in
     let f : take k w ≡ directory w = ap (take k) (sym s) ∙ (e ∙ ap directory s) in
     let i : root + k ≡ length d.front + suc k = omega (arith, h) in
@@ -84,7 +85,8 @@ above-there root k text d l m e =
     ∙ (ap (take (length d.front + suc k)) t
     ∙ (take-append-add d.front (47 ∷ (w ++ 47 ∷ [])) (suc k)
     ∙ (ap (λ x. d.front ++ x) (j ∙ (sym (parent-directory w) ∙ ap (λ x. parent x ++ 47 ∷ []) (sym b.1)))
-    ∙ (ap (λ x. x ++ (parent d.path ++ 47 ∷ [])) (sym (front-there root text d)) ∙ ap (λ x. front_at root text ++ (parent x ++ 47 ∷ [])) (sym (path-there root text d)))))))
+    ∙ (ap (λ x. x ++ (parent d.path ++ 47 ∷ [])) (sym (front-there root text d))
+    ∙ ap (λ x. front_at root text ++ (parent x ++ 47 ∷ [])) (sym (path-there root text d)))))))
     d.rooted
   where
     first-of : (k : ℕ) (w : List ℕ) → take (suc k) (47 ∷ w) ≡ 47 ∷ take k w
@@ -99,14 +101,21 @@ pub record Comes (root : ℕ) (first reference text rest : List ℕ) : Type 0 wh
 
 -- at first
 pub comes-first : (root : ℕ) (text rest : List ℕ) → IsDirectory root text → Comes root text rest text rest
-comes-first root text rest d = record { directory = d; front = sym (front-there root text d); path = ap (λ x. onward x rest) (sym (path-there root text d)); tail = refl }
+comes-first root text rest d = record {
+  directory = d;
+  front = sym (front-there root text d);
+  path = ap (λ x. onward x rest) (sym (path-there root text d));
+  tail = refl;
+}
 
 -- the same of a text that is written otherwise
-pub comes-same : (root : ℕ) (first reference text other rest : List ℕ) → text ≡ other → Comes root first reference text rest → Comes root first reference other rest
+pub comes-same : (root : ℕ) (first reference text other rest : List ℕ) → text ≡ other → Comes root first reference text rest →
+    Comes root first reference other rest
 comes-same root first reference text other rest e c = subst (λ x. Comes root first reference x rest) e c
 
 -- after a segment that stays there
-pub comes-here : (root : ℕ) (first reference text rest more : List ℕ) → Leads (λ o. o) rest more → Comes root first reference text rest → Comes root first reference text more
+pub comes-here : (root : ℕ) (first reference text rest more : List ℕ) → Leads (λ o. o) rest more → Comes root first reference text rest →
+    Comes root first reference text more
 comes-here root first reference text rest more l c = record {
   directory = c.directory;
   front = c.front;
@@ -123,7 +132,8 @@ comes-up root first reference text above rest more l e c =
       directory = record {
         front = d.front;
         path = parent d.path;
-        whole = e ∙ (ap (λ x. x ++ (parent (path_at root text) ++ 47 ∷ [])) (front-there root text d) ∙ ap (λ x. d.front ++ (parent x ++ 47 ∷ [])) (path-there root text d));
+        whole = e ∙ (ap (λ x. x ++ (parent (path_at root text) ++ 47 ∷ [])) (front-there root text d)
+            ∙ ap (λ x. d.front ++ (parent x ++ 47 ∷ [])) (path-there root text d));
         rooted = parent-rooted d.path d.rooted;
         at_root = d.at_root;
       };
@@ -142,7 +152,8 @@ comes-into root first reference text segment longer rest more l e c =
         front = d.front;
         path = d.path ++ 47 ∷ segment;
         whole = e ∙ (ap (λ x. x ++ (segment ++ 47 ∷ [])) d.whole ∙ simp append_assoc);
-        rooted = ⊎_elim (λ (n : d.path ≡ []). inr (segment, ap (λ x. x ++ 47 ∷ segment) n)) (λ (b : BeginsWith (47 ∷ []) d.path). inr (b.0 ++ 47 ∷ segment, ap (λ x. x ++ 47 ∷ segment) b.1)) d.rooted;
+        rooted = ⊎_elim (λ (n : d.path ≡ []). inr (segment, ap (λ x. x ++ 47 ∷ segment) n))
+            (λ (b : BeginsWith (47 ∷ []) d.path). inr (b.0 ++ 47 ∷ segment, ap (λ x. x ++ 47 ∷ segment) b.1)) d.rooted;
         at_root = d.at_root;
       };
       front = c.front;
@@ -151,7 +162,8 @@ comes-into root first reference text segment longer rest more l e c =
     }
 
 -- at last
-pub comes-last : (root : ℕ) (first reference text rest : List ℕ) → has_dots (path_in rest) ≡ false → Comes root first reference text rest → text ++ rest ≡ written_onward root first reference
+pub comes-last : (root : ℕ) (first reference text rest : List ℕ) → has_dots (path_in rest) ≡ false → Comes root first reference text rest →
+    text ++ rest ≡ written_onward root first reference
 comes-last root first reference text rest h c =
     let d = c.directory in
     let k : d.path ++ 47 ∷ path_in rest ≡ onward (path_at root first) reference = sym (last-moves (path_in rest) d.path h) ∙ c.path in
@@ -159,7 +171,8 @@ comes-last root first reference text rest h c =
     ∙ (ap (λ x. (d.front ++ (d.path ++ 47 ∷ [])) ++ x) (sym (path-tail rest))
     ∙ (joined d.front d.path (path_in rest) (tail_in rest)
     ∙ (ap (λ x. d.front ++ (x ++ tail_in rest)) k
-    ∙ (ap (λ x. d.front ++ (onward (path_at root first) reference ++ x)) c.tail ∙ ap (λ x. x ++ (onward (path_at root first) reference ++ tail_in reference)) c.front))))
+    ∙ (ap (λ x. d.front ++ (onward (path_at root first) reference ++ x)) c.tail
+    ∙ ap (λ x. x ++ (onward (path_at root first) reference ++ tail_in reference)) c.front))))
   where
     joined : (f p w t : List ℕ) → (f ++ (p ++ 47 ∷ [])) ++ (w ++ t) ≡ f ++ ((p ++ 47 ∷ w) ++ t)
     joined f p w t = simp append_assoc

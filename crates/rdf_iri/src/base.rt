@@ -1,6 +1,7 @@
 // The base in force, which grows in its own memory where a path is written after a directory.
 
-ghost use Rattle.std.specs.Prelude.{◌≡◌, ◌++◌, ◌≤◌, ◌<◌, ◌^◌, [], true, false, Some, IfErr, OnOk, OnErr, MatchOption, ⊤, length};
+ghost use Rattle.std.specs.Prelude.{◌≡◌, ◌++◌, ◌≤◌, ◌<◌, ◌^◌, [], true, false, Some, IfErr, OnOk, OnErr, MatchOption};
+ghost use Rattle.std.specs.Prelude.{⊤, length};
 ghost use Rattle.std.specs.Str.{chars, encode_utf8_all};
 ghost use Rattle.rdf_terms.specs.Terms.{IsIri, has_scheme};
 ghost use Rattle.rdf_iri.specs.Texts.{IsIriText, byte_len};

@@ -1,7 +1,8 @@
 //! The laws of references and of files of bindings. These functions do nothing: their contracts are the laws.
 
 ghost use Rattle.rdf_iri.specs.BindingLaws.{FailingFilesAreNone};
-ghost use Rattle.rdf_iri.specs.Laws.{ReferencesSplitOnce, DotsHaveOneResult, ReferencesHaveOneResult, PartsAreComputed, DotsAreComputed, ResultsAreComputed};
+ghost use Rattle.rdf_iri.specs.Laws.{ReferencesSplitOnce, DotsHaveOneResult, ReferencesHaveOneResult, PartsAreComputed};
+ghost use Rattle.rdf_iri.specs.Laws.{DotsAreComputed, ResultsAreComputed};
 
 /// A reference splits into its five parts in one way.
 pub fn references_split_once()

@@ -1,6 +1,7 @@
 // The prefixes that are bound, and their IRIs.
 
-ghost use Rattle.std.specs.Prelude.{◌≡◌, ◌≤◌, ◌<◌, ◌+◌, ◌*◌, ◌^◌, ℕ, List, [], Some, None, IfSome, OnOk, OnErr, MatchBool, MatchOption, length};
+ghost use Rattle.std.specs.Prelude.{◌≡◌, ◌≤◌, ◌<◌, ◌+◌, ◌*◌, ◌^◌, ℕ, List, [], Some, None, IfSome, OnOk, OnErr};
+ghost use Rattle.std.specs.Prelude.{MatchBool, MatchOption, length};
 ghost use Rattle.std.specs.List.{sum_by};
 ghost use Rattle.std.specs.Str.{chars, bytes_eq};
 ghost use Rattle.rdf_iri.specs.Texts.{byte_len};

@@ -1,13 +1,16 @@
 // The scope of a document: a base and prefixes.
 
-ghost use Rattle.std.specs.Prelude.{◌≡◌, ◌≢◌, ℕ, List, Some, true, ◌++◌, ◌*◌, ◌≤◌, [], IfOk, IfErr, OnOk, OnErr, MatchBool, length};
+ghost use Rattle.std.specs.Prelude.{◌≡◌, ◌≢◌, ℕ, List, Some, true, ◌++◌, ◌*◌, ◌≤◌, [], IfOk, IfErr, OnOk, OnErr};
+ghost use Rattle.std.specs.Prelude.{MatchBool, length};
 ghost use Rattle.std.specs.Str.{chars};
 ghost use Rattle.std.specs.String.{string_bytes};
 ghost use Rattle.rdf_terms.specs.Local.{without_backslashes};
 ghost use Rattle.rdf_terms.specs.Terms.{IsIri};
 ghost use Rattle.rdf_iri.specs.Texts.{IsIriText, byte_len};
 ghost use Rattle.rdf_iri.specs.Seen.{text_of};
-ghost use Rattle.rdf_iri.specs.Scope.{BaseFits, bound_to, ResolvesHere, UnresolvedHere, IsBased, IsBound, NotBound, HasRoom, IsFull, ExpandsHere, NotExpanded, NotJoined, base_bytes, bytes_held, most_bytes_held};
+ghost use Rattle.rdf_iri.specs.Scope.{BaseFits, bound_to, ResolvesHere, UnresolvedHere, IsBased, IsBound, NotBound};
+ghost use Rattle.rdf_iri.specs.Scope.{HasRoom, IsFull, ExpandsHere, NotExpanded, NotJoined, base_bytes, bytes_held};
+ghost use Rattle.rdf_iri.specs.Scope.{most_bytes_held};
 
 use crate::base::Base;
 use crate::bindings::Bindings;

@@ -1,6 +1,7 @@
 // A reference that is a path, written after a directory without its dot segments (RFC 3986, section 5.2.4).
 
-ghost use Rattle.std.specs.Prelude.{◌≡◌, ◌≤◌, ◌<◌, ◌+◌, ◌++◌, ◌∷◌, [], false, OnOk, MatchBool, length, take, drop, get_or, slice_range};
+ghost use Rattle.std.specs.Prelude.{◌≡◌, ◌≤◌, ◌<◌, ◌+◌, ◌++◌, ◌∷◌, [], false, OnOk, MatchBool, length, take, drop};
+ghost use Rattle.std.specs.Prelude.{get_or, slice_range};
 ghost use Rattle.std.specs.Str.{IsCharBoundary};
 ghost use Rattle.rdf_iri.specs.Texts.{before};
 ghost use Rattle.rdf_iri.specs.Dots.{fits_D, parent};

@@ -1,10 +1,12 @@
 // Where prefixes stand in a row of many, by a hash of their bytes.
 
-ghost use Rattle.std.specs.Prelude.{◌≡◌, ◌≤◌, ◌<◌, ◌+◌, ◌*◌, ◌^◌, ◌%◌, ℕ, List, true, None, MatchBool, MatchOption, IfOk, IfSome, length, slice_index, ⊤};
+ghost use Rattle.std.specs.Prelude.{◌≡◌, ◌≤◌, ◌<◌, ◌+◌, ◌*◌, ◌^◌, ◌%◌, ℕ, List, true, None, MatchBool, MatchOption};
+ghost use Rattle.std.specs.Prelude.{IfOk, IfSome, length, slice_index, ⊤};
 ghost use Rattle.std.specs.Option.{is_some};
 ghost use Rattle.std.specs.Str.{chars};
 ghost use Rattle.rdf_iri.specs.Scope.{bound_to, entries_of};
-ghost use Rattle.rdf_iri.specs.Table.{hash_of, first_slot, mark_of, Names, HasSlot, IsKeyAt, KeepsSlots, IsNext, IsFree};
+ghost use Rattle.rdf_iri.specs.Table.{hash_of, first_slot, mark_of, Names, HasSlot, IsKeyAt, KeepsSlots, IsNext};
+ghost use Rattle.rdf_iri.specs.Table.{IsFree};
 
 use crate::prefixes::is_same;
 use rdf_terms::Iri;

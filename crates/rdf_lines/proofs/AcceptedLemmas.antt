@@ -119,4 +119,5 @@ text_read s e qs limit n h t l w =
     let ts = (tokens_of Lines limit bytes true).tokens in
     let narrow = tree_taken n NQuads tree good (subst (AllByRecursion (IrisWithin n)) (sym same) (all_renamed n s qs w)) in
     let none = ran_none n NQuads ts Begin Finished (map (rename s) qs) (run_document (is_taken n) NQuads ts (map (rename s) qs) (tree, tokens, narrow, same)) in
-    read_to_its_end (in_lines NQuads limit n) bytes (document_whole (in_lines NQuads limit n) bytes (map (rename s) qs) (tokens_read_back s e qs limit h t l n) none)
+    read_to_its_end (in_lines NQuads limit n) bytes
+    (document_whole (in_lines NQuads limit n) bytes (map (rename s) qs) (tokens_read_back s e qs limit h t l n) none)

@@ -146,7 +146,8 @@ line_low s q f h =
     let a = joined (subject_text Ascii (rename_subject s q.subject)) space (subject_low s q.subject h.subject) space_low in
     let b = joined (iri_text Ascii q.predicate) space (iri_low q.predicate) space_low in
     let c = joined (term_text Ascii (rename_term s q.object)) space (term_low s q.object f.object h.object) space_low in
-    joined (u ++ v ++ w ++ g ++ 46 ∷ []) (10 ∷ []) (joined (u ++ v ++ w ++ g) (46 ∷ []) (joined (u ++ v ++ w) g (joined (u ++ v) w (joined u v a b) c) (graph_low s q.graph h.graph)) (omega arith, tt)) (omega arith, tt)
+    joined (u ++ v ++ w ++ g ++ 46 ∷ []) (10 ∷ []) (joined (u ++ v ++ w ++ g) (46 ∷ [])
+    (joined (u ++ v ++ w) g (joined (u ++ v) w (joined u v a b) c) (graph_low s q.graph h.graph)) (omega arith, tt)) (omega arith, tt)
 
 -- and so are all lines
 text_low : (s : Style) (qs : List Quad) → Writable s qs → AllByRecursion HasAsciiLabels qs → AllLow (text s Ascii qs)

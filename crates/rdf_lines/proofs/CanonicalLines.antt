@@ -60,7 +60,8 @@ graph_kept (Some g) = ap (λ x. Some x) (subject_kept g)
 
 -- and so is a quad, which lets the laws speak of the quads themselves
 pub kept : (q : Quad) → rename Kept q ≡ q
-kept q = fields (rename_subject Kept q.subject) (rename_term Kept q.object) (option_map (rename_subject Kept) q.graph) (subject_kept q.subject) (term_kept q.object) (graph_kept q.graph)
+kept q = fields (rename_subject Kept q.subject) (rename_term Kept q.object) (option_map (rename_subject Kept) q.graph)
+    (subject_kept q.subject) (term_kept q.object) (graph_kept q.graph)
   where
     fields : (s : Subject) (t : Term) (g : Option Subject) → s ≡ q.subject → t ≡ q.object → g ≡ q.graph →
         (let x : Quad = record { subject = s; predicate = q.predicate; object = t; graph = g } in x) ≡ q
@@ -113,7 +114,8 @@ quad_counted ending q p =
     let end = end_tokens ending (past p (statement_text q)) in
     counted head object graph end (token IriRef s.predicate) (token Dot s.dot) a b c (end_counted ending (past p (statement_text q)))
   where
-    counted : (head object graph end : List Token) (d e : Token) → length head ≡ 1 → length object ≡ term_count q.object → length graph ≡ graph_count q.graph → length end ≡ end_count ending →
+    counted : (head object graph end : List Token) (d e : Token) → length head ≡ 1 → length object ≡ term_count q.object →
+        length graph ≡ graph_count q.graph → length end ≡ end_count ending →
         length (((head ++ (d ∷ []) ++ object ++ graph) ++ (e ∷ [])) ++ end) ≡ quad_count ending q
     counted head object graph end d e a b c f =
         let z = length-append ((head ++ (d ∷ []) ++ object ++ graph) ++ (e ∷ [])) end in
@@ -135,7 +137,8 @@ lines_counted ending (q ∷ qs) p =
 ended_scalars : (ending : LineEnding) (qs : List Quad) → Written qs → scalars (ended_lines ending qs) ≡ true
 ended_scalars ending [] h = refl
 ended_scalars ending (q ∷ qs) h =
-    scalars_append (ended_line ending q) (ended_lines ending qs) (scalars_append (statement_text q) (end_text ending) (statement_scalars Plain q h.0.0 h.0.1) (end_scalars ending)) (ended_scalars ending qs h.1)
+    scalars_append (ended_line ending q) (ended_lines ending qs) (scalars_append (statement_text q) (end_text ending)
+    (statement_scalars Plain q h.0.0 h.0.1) (end_scalars ending)) (ended_scalars ending qs h.1)
   where
     end_scalars : (e : LineEnding) → scalars (end_text e) ≡ true
     end_scalars Lf = refl
@@ -150,14 +153,16 @@ module _ (ending : LineEnding) (form : LineForm) (limit iri : ℕ) where
   -- they are spelled
   pub spells_end : (e : LineEnding) → Spells limit (end_text e) (end_tokens e)
   spells_end Lf = spells_line_end Plain limit
-  spells_end CrLf = spells_then limit (13 ∷ []) (10 ∷ []) (alone LineEnd (13 ∷ [])) (alone LineEnd (10 ∷ [])) (spells_cr Plain limit) (spells_line_end Plain limit)
+  spells_end CrLf = spells_then limit (13 ∷ []) (10 ∷ []) (alone LineEnd (13 ∷ [])) (alone LineEnd (10 ∷ [])) (spells_cr Plain limit)
+      (spells_line_end Plain limit)
 
   -- the tokens of the lines are those that the scanner would find
   spells_lines : (qs : List Quad) → Written qs → Spells limit (ended_lines ending qs) (lines_tokens ending qs)
   spells_lines [] h = spells_nothing limit
   spells_lines (q ∷ qs) h =
       spells_then limit (ended_line ending q) (ended_lines ending qs) (quad_tokens ending q) (lines_tokens ending qs)
-      (spells_then limit (statement_text q) (end_text ending) (λ p. statement_tokens (statement_tree Plain p q)) (end_tokens ending) (spells_statement Plain limit q h.0.0 h.0.1) (spells_end ending))
+      (spells_then limit (statement_text q) (end_text ending) (λ p. statement_tokens (statement_tree Plain p q)) (end_tokens ending)
+      (spells_statement Plain limit q h.0.0 h.0.1) (spells_end ending))
       (spells_lines qs h.1)
 
   -- the end of a line keeps every limit of at least two
@@ -170,7 +175,8 @@ module _ (ending : LineEnding) (form : LineForm) (limit iri : ℕ) where
   lines_short e [] h p = tt
   lines_short e (q ∷ qs) h p =
       short_both limit (quad_tokens ending q p) (lines_tokens ending qs (past p (ended_line ending q)))
-      (short_both limit (statement_tokens (statement_tree Plain p q)) (end_tokens ending (past p (statement_text q))) (statement_short Plain limit p q e h.0.tokens) (end_short e ending (past p (statement_text q))))
+      (short_both limit (statement_tokens (statement_tree Plain p q)) (end_tokens ending (past p (statement_text q)))
+      (statement_short Plain limit p q e h.0.tokens) (end_short e ending (past p (statement_text q))))
       (lines_short e qs h.1 (past p (ended_line ending q)))
 
   -- and the machine accepts them
@@ -187,7 +193,13 @@ module _ (ending : LineEnding) (form : LineForm) (limit iri : ℕ) where
   quad_ran : (q : Quad) (p : Place) → IsTaken form limit iri q → run (is_taken iri) form Begin (quad_tokens ending q p) ≡ ran Begin (q ∷ [])
   quad_ran q p h =
       let m = statement_meant Plain p q h.quad h.labels in
-      let good : GoodStatement has_scheme form (statement_tree Plain p q) = record { subject = m.1.subject; predicate = m.1.predicate; object = m.1.object; graph = m.1.graph; labels = fits form (past p (upto_object Plain q)) q.graph h.graph } in
+      let good : GoodStatement has_scheme form (statement_tree Plain p q) = record {
+        subject = m.1.subject;
+        predicate = m.1.predicate;
+        object = m.1.object;
+        graph = m.1.graph;
+        labels = fits form (past p (upto_object Plain q)) q.graph h.graph;
+      } in
       let end = past p (statement_text q) in
       run_statement (is_taken iri) form (statement_tree Plain p q) (end_tokens ending end)
       (statement_taken iri form (statement_tree Plain p q) good (subst (IrisWithin iri) (sym m.0) h.iris))
@@ -195,7 +207,8 @@ module _ (ending : LineEnding) (form : LineForm) (limit iri : ℕ) where
       ∙ ap (λ x. with_quad x (ran Begin [])) m.0)
 
   -- those of all lines bring their quads, in order
-  lines_ran : (qs : List Quad) (p : Place) → AllByRecursion (IsTaken form limit iri) qs → run (is_taken iri) form Begin (lines_tokens ending qs p) ≡ ran Begin qs
+  lines_ran : (qs : List Quad) (p : Place) → AllByRecursion (IsTaken form limit iri) qs →
+      run (is_taken iri) form Begin (lines_tokens ending qs p) ≡ ran Begin qs
   lines_ran [] p h = refl
   lines_ran (q ∷ qs) p h =
       let next = past p (ended_line ending q) in
@@ -226,7 +239,8 @@ lines_read r ending bytes qs begin e h =
         a.0,
         subst (λ y. run (is_taken y.iri) y.form Begin (us ++ ts) ≡ ran r.grammar.mode (given ++ qs)) a.0
             (run_append (is_taken rules.iri) rules.form us ts Begin
-            ∙ (ap (λ z. then z (λ m. run (is_taken rules.iri) rules.form m ts)) (subst (λ (y : Rules). run (is_taken y.iri) y.form Begin us ≡ ran r.grammar.mode given) (sym a.0) a.1)
+            ∙ (ap (λ z. then z (λ m. run (is_taken rules.iri) rules.form m ts))
+            (subst (λ (y : Rules). run (is_taken y.iri) y.form Begin us ≡ ran r.grammar.mode given) (sym a.0) a.1)
             ∙ (ap (λ m. with_quads given (run (is_taken rules.iri) rules.form m ts)) begin
             ∙ (ap (with_quads given) (lines_ran ending rules.form limit rules.iri qs p h.each)
             ∙ ap (λ m. ran m (given ++ qs)) (sym begin))))),

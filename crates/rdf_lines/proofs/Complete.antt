@@ -21,12 +21,14 @@ absolute_goes : (test : List ℕ → Bool) (i : List ℕ) (m : Mode) (more : Mod
 absolute_goes test i m more h = ap (λ x. go_on x more) (cond-true (test i) (goes m) (refuses (iri_refused i)) h)
 
 -- the machine takes a subject
-run_subject : (test : List ℕ → Bool) (f : LineForm) (n : Name) (ts : List Token) → name_bound test n → run test f Begin (name_tokens n ++ ts) ≡ run test f (AfterSubject (subject_of n)) ts
+run_subject : (test : List ℕ → Bool) (f : LineForm) (n : Name) (ts : List Token) → name_bound test n →
+    run test f Begin (name_tokens n ++ ts) ≡ run test f (AfterSubject (subject_of n)) ts
 run_subject test f (Ref l) ts b = absolute_goes test (iri_of l) _ (λ m. run test f m ts) b
 run_subject test f (Lab l) ts b = refl
 
 -- after the object: a graph label, if any, and the dot
-run_end : (test : List ℕ → Bool) (f : LineForm) (s : Subject) (p : List ℕ) (o : Term) (g : Option Name) (d : Leaf) (ts : List Token) → graph_bound test g → graph_fits f g →
+run_end : (test : List ℕ → Bool) (f : LineForm) (s : Subject) (p : List ℕ) (o : Term) (g : Option Name) (d : Leaf) (ts : List Token) →
+    graph_bound test g → graph_fits f g →
     run test f (AfterObject s p o) (graph_tokens g ++ token Dot d ∷ ts) ≡ with_quad (quad s p o (option_map subject_of g)) (run test f AfterDot ts)
 run_end test f s p o None d ts b h = refl
 run_end test NTriples s p o (Some n) d ts b h = absurd (let e : Some n ≡ None = h in cc)
@@ -35,14 +37,17 @@ run_end test NQuads s p o (Some (Lab l)) d ts b h = refl
 
 -- the same after a plain string
 run_plain : (test : List ℕ → Bool) (f : LineForm) (s : Subject) (p w : List ℕ) (g : Option Name) (d : Leaf) (ts : List Token) →
-    run test f (AfterString s p w) (graph_tokens g ++ token Dot d ∷ ts) ≡ run test f (AfterObject s p (Literal w (Typed xsd_string))) (graph_tokens g ++ token Dot d ∷ ts)
+    run test f (AfterString s p w) (graph_tokens g ++ token Dot d ∷ ts) ≡ run test f (AfterObject s p (Literal w (Typed xsd_string)))
+    (graph_tokens g ++ token Dot d ∷ ts)
 run_plain test f s p w None d ts = refl
 run_plain test f s p w (Some (Ref l)) d ts = refl
 run_plain test f s p w (Some (Lab l)) d ts = refl
 
 -- it takes an object, of one token or with its tag or type
-run_object : (test : List ℕ → Bool) (f : LineForm) (s : Subject) (p : List ℕ) (o : Object) (g : Option Name) (d : Leaf) (ts : List Token) → object_bound test o →
-    run test f (AfterPredicate s p) (object_tokens o ++ (graph_tokens g ++ token Dot d ∷ ts)) ≡ run test f (AfterObject s p (term_of o)) (graph_tokens g ++ token Dot d ∷ ts)
+run_object : (test : List ℕ → Bool) (f : LineForm) (s : Subject) (p : List ℕ) (o : Object) (g : Option Name) (d : Leaf) (ts : List Token) →
+    object_bound test o →
+    run test f (AfterPredicate s p) (object_tokens o ++ (graph_tokens g ++ token Dot d ∷ ts)) ≡ run test f (AfterObject s p (term_of o))
+    (graph_tokens g ++ token Dot d ∷ ts)
 run_object test f s p (Named (Ref l)) g d ts b = absolute_goes test (iri_of l) _ (λ m. run test f m (graph_tokens g ++ token Dot d ∷ ts)) b
 run_object test f s p (Named (Lab l)) g d ts b = refl
 run_object test f s p (Plain w) g d ts b = run_plain test f s p (string_of w) g d ts
@@ -55,7 +60,8 @@ statement_split : (s : Statement) (ts : List Token) →
 statement_split s ts = simp append_assoc
 
 -- the machine takes a statement, and gives out its quad at the dot
-pub run_statement : (test : List ℕ → Bool) (f : LineForm) (s : Statement) (ts : List Token) → GoodStatement test f s → run test f Begin (statement_tokens s ++ ts) ≡ with_quad (quad_of s) (run test f AfterDot ts)
+pub run_statement : (test : List ℕ → Bool) (f : LineForm) (s : Statement) (ts : List Token) → GoodStatement test f s →
+    run test f Begin (statement_tokens s ++ ts) ≡ with_quad (quad_of s) (run test f AfterDot ts)
 run_statement test f s ts g =
     let rest = object_tokens s.object ++ (graph_tokens s.graph ++ token Dot s.dot ∷ ts) in
     ap (run test f Begin) (statement_split s ts)
@@ -65,7 +71,8 @@ run_statement test f s ts g =
     ∙ run_end test f (subject_of s.subject) (iri_of s.predicate) (term_of s.object) s.graph s.dot ts g.graph g.labels)))
 
 -- the machine takes each document, and gives out its quads
-pub complete : (test : List ℕ → Bool) (f : LineForm) (d : Document) → GoodDocument test f d → run test f Begin (document_tokens d) ≡ ran Finished (plain_quads d)
+pub complete : (test : List ℕ → Bool) (f : LineForm) (d : Document) → GoodDocument test f d →
+    run test f Begin (document_tokens d) ≡ ran Finished (plain_quads d)
 complete test f (last L.empty e) g = refl
 complete test f (last (L.one s) e) g = run_statement test f s (token End e ∷ []) g
 complete test f (next L.empty e d) g = complete test f d g.1

@@ -51,7 +51,8 @@ end_alike complete p q = (refl, refl, tt)
 end_alike o p q = tt
 
 -- where a text stands changes nothing but places
-alike : (f : ℕ) (limit : ℕ) (t : Tail) (b : Bool) (p q : Place) (w : List ℕ) → length w < f → AlikeReadings (tokens Lines limit t b p w) (tokens Lines limit t b q w)
+alike : (f : ℕ) (limit : ℕ) (t : Tail) (b : Bool) (p q : Place) (w : List ℕ) → length w < f →
+    AlikeReadings (tokens Lines limit t b p w) (tokens Lines limit t b q w)
 alike zero limit t b p q w l = absurd (omega arith)
 alike (suc f) limit t b p q w l = at (λ x y v h. alike f limit t false x y v h) (step Lines limit t (rest_of Lines b w)) refl
   where
@@ -69,11 +70,13 @@ alike (suc f) limit t b p q w l = at (λ x y v h. alike f limit t false x y v h)
         let r = rest_of Lines b w in
         let x = at_token Lines limit t b p w n k e in
         let y = at_token Lines limit t b q w n k e in
-        let m = h (past (place_of Lines b p w) (take n r)) (past (place_of Lines b q w) (take n r)) (drop n r) (let s = shorter Lines limit t b w n k e in omega arith) in
+        let m = h (past (place_of Lines b p w) (take n r)) (past (place_of Lines b q w) (take n r)) (drop n r)
+        (let s = shorter Lines limit t b w n k e in omega arith) in
         record {
           outcome = ap (λ r. r.outcome) x ∙ (m.outcome ∙ sym (ap (λ r. r.outcome) y));
           tokens = subst (λ o. Alike (tokens Lines limit t b p w).tokens o.tokens) (sym y)
-              (subst (λ o. Alike o.tokens (record { kind = k; text = take n r; at = place_of Lines b q w } ∷ (tokens Lines limit t false (past (place_of Lines b q w) (take n r)) (drop n r)).tokens)) (sym x)
+              (subst (λ o. Alike o.tokens (record { kind = k; text = take n r; at = place_of Lines b q w } ∷ (tokens Lines limit t false
+              (past (place_of Lines b q w) (take n r)) (drop n r)).tokens)) (sym x)
               (refl, refl, m.tokens));
         }
 
@@ -86,7 +89,8 @@ placed_object test NQuads s p o LabelNode w a b = refl
 placed_object test f s p o k w a b = refl
 
 -- nor elsewhere
-placed : (test : List ℕ → Bool) (f : LineForm) (m : Mode) (k : Kind) (w : List ℕ) (a b : Place) → accept test f m k (record { text = w; at = a }) ≡ accept test f m k (record { text = w; at = b })
+placed : (test : List ℕ → Bool) (f : LineForm) (m : Mode) (k : Kind) (w : List ℕ) (a b : Place) →
+    accept test f m k (record { text = w; at = a }) ≡ accept test f m k (record { text = w; at = b })
 placed test f Begin IriRef w a b = refl
 placed test f Begin LabelNode w a b = refl
 placed test f Begin LineEnd w a b = refl
@@ -145,7 +149,8 @@ rest_ran qs (ran n rs) m all e = (rs, cc, cc)
 rest_ran qs (refused r) m all e = absurd (let z : refused r ≡ ran m all = e in cc)
 
 -- a run to the end is in two parts
-in_two : (test : List ℕ → Bool) (f : LineForm) (ts us : List Token) (t : Token) (qs : List Quad) → t.kind ≡ LineEnd → run test f Begin ((ts ++ t ∷ []) ++ us) ≡ ran Finished qs →
+in_two : (test : List ℕ → Bool) (f : LineForm) (ts us : List Token) (t : Token) (qs : List Quad) → t.kind ≡ LineEnd →
+    run test f Begin ((ts ++ t ∷ []) ++ us) ≡ ran Finished qs →
     TwoRuns test f (ts ++ t ∷ []) us qs
 in_two test f ts us t qs k e =
     let whole : then (run test f Begin (ts ++ t ∷ [])) (λ n. run test f n us) ≡ ran Finished qs = sym (run_append test f (ts ++ t ∷ []) us Begin) ∙ e in
@@ -157,7 +162,8 @@ in_two test f ts us t qs k e =
     record { first = ps; second = r.0; one = one ∙ ap (λ m. ran m ps) b; two = two; all = r.2 }
 
 -- and two parts are a run to the end
-in_one : (test : List ℕ → Bool) (f : LineForm) (ts us : List Token) (ps rs : List Quad) → run test f Begin ts ≡ ran Begin ps → run test f Begin us ≡ ran Finished rs →
+in_one : (test : List ℕ → Bool) (f : LineForm) (ts us : List Token) (ps rs : List Quad) → run test f Begin ts ≡ ran Begin ps →
+    run test f Begin us ≡ ran Finished rs →
     run test f Begin (ts ++ us) ≡ ran Finished (ps ++ rs)
 in_one test f ts us ps rs a b = run_append test f ts us Begin ∙ (ap (λ r. then r (λ n. run test f n us)) a ∙ ap (with_quads ps) b)
 
@@ -176,8 +182,10 @@ cut x c b e u =
     let ascii : get_or bs (length x) 0 < 128 = subst (λ d. d < 128) (sym here) low in
     let long : length (x ++ c ∷ []) ≡ length x + 1 = length-append x (c ∷ []) in
     record {
-      line = subst IsUtf8 (ap (take (length x)) whole ∙ take_at x (c ∷ b) (length x) refl) (IsUtf8-take bs (length x) u (IsCharBoundary-before_ascii bs (length x) (omega arith) ascii));
-      rest = subst IsUtf8 (drop_at (x ++ c ∷ []) b (length x + 1) long) (IsUtf8-drop bs (length x + 1) u (IsCharBoundary-after_ascii bs (length x) u (omega arith) ascii));
+      line = subst IsUtf8 (ap (take (length x)) whole ∙ take_at x (c ∷ b) (length x) refl)
+          (IsUtf8-take bs (length x) u (IsCharBoundary-before_ascii bs (length x) (omega arith) ascii));
+      rest = subst IsUtf8 (drop_at (x ++ c ∷ []) b (length x + 1) long)
+          (IsUtf8-drop bs (length x + 1) u (IsCharBoundary-after_ascii bs (length x) u (omega arith) ascii));
     }
 
 -- a line end is one character
@@ -237,7 +245,8 @@ record AfterMark (y : List ℕ) (c : ℕ) : Type 0 where
 
 marked : (y : List ℕ) (c : ℕ) → IsEnd c → AfterMark y c
 marked [] c e =
-    at_end (AfterMark []) (record { text = []; place = first_place; left = λ v. refl; at = λ v. refl }) (record { text = []; place = first_place; left = λ v. refl; at = λ v. refl }) c e
+    at_end (AfterMark []) (record { text = []; place = first_place; left = λ v. refl; at = λ v. refl })
+    (record { text = []; place = first_place; left = λ v. refl; at = λ v. refl }) c e
 marked (d ∷ y) c e = by (d == 0xFEFF) refl
   where
     by : (b : Bool) → (d == 0xFEFF) ≡ b → AfterMark (d ∷ y) c
@@ -276,7 +285,8 @@ module _ (limit : ℕ) (x : List ℕ) (c : ℕ) (e : IsEnd c) where
       ∙ (front_tokens [] u IsUtf8-nil ∙ ap (λ w. tokens Lines limit ended false m.place (line ++ w)) chars-nil)
 
 -- without a byte order mark
-unmarked_tokens : (limit : ℕ) (b : List ℕ) → IsUtf8 b → has_byte_order_mark (good b) ≡ false → tokens_of Lines limit b true ≡ tokens Lines limit ended false first_place (chars b)
+unmarked_tokens : (limit : ℕ) (b : List ℕ) → IsUtf8 b → has_byte_order_mark (good b) ≡ false →
+    tokens_of Lines limit b true ≡ tokens Lines limit ended false first_place (chars b)
 unmarked_tokens limit b u n =
     let z : mark (chars b) ≡ 0 = cond-false (has_byte_order_mark (chars b)) 1 0 (ap has_byte_order_mark (sym (all_good b u)) ∙ n) in
     utf8_tokens limit b u ∙ ap (λ m. tokens Lines limit ended false (past first_place (take m (chars b))) (drop m (chars b))) z
@@ -317,7 +327,8 @@ module _ (form : LineForm) (limit iri : ℕ) (x : List ℕ) (c : ℕ) (b : List 
     front : List Token
     last : Token
     kind : last.kind ≡ LineEnd
-    alone : (tokens_of Lines limit a true ≡ with_tokens (front ++ last ∷ []) (record { tokens = record { kind = End; text = []; at = past start text } ∷ []; outcome = complete; at = past start text }))
+    alone : (tokens_of Lines limit a true ≡ with_tokens (front ++ last ∷ [])
+        (record { tokens = record { kind = End; text = []; at = past start text } ∷ []; outcome = complete; at = past start text }))
     both : tokens_of Lines limit (a ++ b) true ≡ with_tokens (front ++ last ∷ []) behind
 
   parts : IsUtf8 x → IsUtf8 b → Through limit false start text → Parts
@@ -342,14 +353,17 @@ module _ (form : LineForm) (limit iri : ℕ) (x : List ℕ) (c : ℕ) (b : List 
   pub split : (qs : List Quad) → IsRun form limit iri (a ++ b) qs → IsSplit qs
   split qs r =
       let k = cut x c b e (complete_utf8 limit (a ++ b) r.whole) in
-      ⊎_elim (λ t. by k (parts k.line k.rest t)) (λ s. absurd (s.short (sym (s.on ended (chars b)) ∙ (ap (λ y. y.outcome) (sym (front_tokens limit x c e b k.line k.rest)) ∙ r.whole)))) (line_read limit start (marked (chars x) c e).text c e)
+      ⊎_elim (λ t. by k (parts k.line k.rest t))
+      (λ s. absurd (s.short (sym (s.on ended (chars b)) ∙ (ap (λ y. y.outcome) (sym (front_tokens limit x c e b k.line k.rest))
+      ∙ r.whole)))) (line_read limit start (marked (chars x) c e).text c e)
     where
       by : IsCut x c b → Parts → IsSplit qs
       by k p =
           let ends : behind.outcome ≡ complete = ap (λ y. y.outcome) (sym p.both) ∙ r.whole in
           let n : has_byte_order_mark (good b) ≡ false =
           ⊎_elim
-          (λ h. let m = mark_first (chars b) (ap has_byte_order_mark (sym (all_good b k.rest)) ∙ h) in absurd (mark_stops limit ended (past start text) m.0 (ap (λ w. (tokens Lines limit ended false (past start text) w).outcome) (sym m.1) ∙ ends)))
+          (λ h. let m = mark_first (chars b) (ap has_byte_order_mark (sym (all_good b k.rest)) ∙ h) in
+          absurd (mark_stops limit ended (past start text) m.0 (ap (λ w. (tokens Lines limit ended false (past start text) w).outcome) (sym m.1) ∙ ends)))
           (λ h. h)
           (cases_Bool (has_byte_order_mark (good b))) in
           let same = alike (suc (length (chars b))) limit ended false (past start text) first_place (chars b) (omega arith) in
@@ -365,19 +379,23 @@ module _ (form : LineForm) (limit iri : ℕ) (x : List ℕ) (c : ℕ) (b : List 
             };
             rest = record {
               whole = ap (λ y. y.outcome) rest ∙ (sym same.outcome ∙ ends);
-              ran = ap (λ y. run test form Begin y.tokens) rest ∙ (sym (run_alike test form Begin behind.tokens (tokens Lines limit ended false first_place (chars b)).tokens same.tokens) ∙ two.two);
+              ran = ap (λ y. run test form Begin y.tokens) rest
+                  ∙ (sym (run_alike test form Begin behind.tokens (tokens Lines limit ended false first_place (chars b)).tokens same.tokens) ∙ two.two);
             };
             unmarked = n;
             all = two.all;
           }
 
   -- And what is taken line by line is taken to its end.
-  pub joined : (ps rs : List Quad) → IsRun form limit iri a ps → IsRun form limit iri b rs → has_byte_order_mark (good b) ≡ false → IsRun form limit iri (a ++ b) (ps ++ rs)
+  pub joined : (ps rs : List Quad) → IsRun form limit iri a ps → IsRun form limit iri b rs → has_byte_order_mark (good b) ≡ false →
+      IsRun form limit iri (a ++ b) (ps ++ rs)
   joined ps rs r s n =
       let ua : IsUtf8 (a ++ []) = subst IsUtf8 (sym (append-nil a)) (complete_utf8 limit a r.whole) in
       let k = cut x c [] e ua in
       let v = complete_utf8 limit b s.whole in
-      ⊎_elim (λ t. by k.line v (parts k.line v t)) (λ o. absurd (o.short (sym (o.on ended []) ∙ (ap (λ y. y.outcome) (sym (line_tokens limit x c e k.line)) ∙ r.whole)))) (line_read limit start (marked (chars x) c e).text c e)
+      ⊎_elim (λ t. by k.line v (parts k.line v t))
+      (λ o. absurd (o.short (sym (o.on ended []) ∙ (ap (λ y. y.outcome) (sym (line_tokens limit x c e k.line)) ∙ r.whole))))
+      (line_read limit start (marked (chars x) c e).text c e)
     where
       by : IsUtf8 x → IsUtf8 b → Parts → IsRun form limit iri (a ++ b) (ps ++ rs)
       by u v p =
@@ -386,9 +404,11 @@ module _ (form : LineForm) (limit iri : ℕ) (x : List ℕ) (c : ℕ) (b : List 
           let rest = unmarked_tokens limit b v n in
           let two = in_two test form p.front end p.last ps p.kind (ap (λ y. run test form Begin y.tokens) (sym p.alone) ∙ r.ran) in
           let none : two.second ≡ [] = let z : ran Finished [] ≡ ran Finished two.second = two.two in cc in
-          let first : run test form Begin (p.front ++ p.last ∷ []) ≡ ran Begin ps = two.one ∙ ap (ran Begin) (sym (no_more ps two.first two.second none two.all)) in
+          let first : run test form Begin (p.front ++ p.last ∷ []) ≡ ran Begin ps =
+          two.one ∙ ap (ran Begin) (sym (no_more ps two.first two.second none two.all)) in
           let second : run test form Begin behind.tokens ≡ ran Finished rs =
-          run_alike test form Begin behind.tokens (tokens Lines limit ended false first_place (chars b)).tokens same.tokens ∙ (ap (λ y. run test form Begin y.tokens) (sym rest) ∙ s.ran) in
+          run_alike test form Begin behind.tokens (tokens Lines limit ended false first_place (chars b)).tokens same.tokens
+          ∙ (ap (λ y. run test form Begin y.tokens) (sym rest) ∙ s.ran) in
           record {
             whole = ap (λ y. y.outcome) p.both ∙ (same.outcome ∙ (ap (λ y. y.outcome) (sym rest) ∙ s.whole));
             ran = ap (λ y. run test form Begin y.tokens) p.both ∙ in_one test form (p.front ++ p.last ∷ []) behind.tokens ps rs first second;
@@ -400,7 +420,8 @@ module _ (form : LineForm) (limit iri : ℕ) (x : List ℕ) (c : ℕ) (b : List 
       let k = cut x c b e u in
       ap has_byte_order_mark (all_good (a ++ b) u ∙ line_chars x c b e k.line)
       ∙ (at (chars x)
-      ∙ sym (ap has_byte_order_mark (all_good a (IsUtf8-append x (c ∷ []) k.line (end_utf8 c e)) ∙ (ap chars (sym (append-nil a)) ∙ line_chars x c [] e k.line))))
+      ∙ sym (ap has_byte_order_mark (all_good a (IsUtf8-append x (c ∷ []) k.line (end_utf8 c e))
+      ∙ (ap chars (sym (append-nil a)) ∙ line_chars x c [] e k.line))))
     where
       at : (y : List ℕ) → has_byte_order_mark (y ++ c ∷ chars b) ≡ has_byte_order_mark (y ++ c ∷ chars [])
       at [] = refl
@@ -421,11 +442,14 @@ other_one test other k l a more n qs (inr (h, m, same)) w e =
     (cases_Bool (test (iri_of l)))
 
 -- a document of which no token passes the limit is taken
-taken_run : (iri : ℕ) (f : LineForm) (ts : List Token) (m n : Mode) (qs : List Quad) → PassesNone (Passes iri) ts → run has_scheme f m ts ≡ ran n qs → run (is_taken iri) f m ts ≡ ran n qs
+taken_run : (iri : ℕ) (f : LineForm) (ts : List Token) (m n : Mode) (qs : List Quad) → PassesNone (Passes iri) ts →
+    run has_scheme f m ts ≡ ran n qs → run (is_taken iri) f m ts ≡ ran n qs
 taken_run iri f [] m n qs w e = e
 taken_run iri f (t ∷ ts) m n qs w e =
-    at (λ k rs x. taken_run iri f ts k n rs (λ ahead after u s p. w (t ∷ ahead) after u (ap (λ us. t ∷ us) s) p) x) (accept (is_taken iri) f m t.kind (leaf_of t)) qs
-    (other_one has_scheme (is_taken iri) t.kind (leaf_of t) (λ test. accept test f m t.kind (leaf_of t)) (λ k. run has_scheme f k ts) n qs (tested f m t.kind (leaf_of t))
+    at (λ k rs x. taken_run iri f ts k n rs (λ ahead after u s p. w (t ∷ ahead) after u (ap (λ us. t ∷ us) s) p) x)
+    (accept (is_taken iri) f m t.kind (leaf_of t)) qs
+    (other_one has_scheme (is_taken iri) t.kind (leaf_of t) (λ test. accept test f m t.kind (leaf_of t)) (λ k. run has_scheme f k ts) n qs
+    (tested f m t.kind (leaf_of t))
     (λ i s. within_taken iri (iri_of (leaf_of t)) s (λ l. w [] ts t refl (i, l))) e)
   where
     at : ((k : Mode) (rs : List Quad) → run has_scheme f k ts ≡ ran n rs → run (is_taken iri) f k ts ≡ ran n rs) → (a : Answer) (qs : List Quad) →
@@ -435,16 +459,19 @@ taken_run iri f (t ∷ ts) m n qs w e =
     at h (refuses r) qs z = absurd (let w : refused r ≡ ran n qs = z in cc)
 
 -- a document within the limits is taken to its end
-pub accepted_run : (form : LineForm) (limit iri : ℕ) (bytes : List ℕ) (qs : List Quad) → IsDocumentWithin (in_lines form limit iri) bytes qs → IsRun form limit iri bytes qs
+pub accepted_run : (form : LineForm) (limit iri : ℕ) (bytes : List ℕ) (qs : List Quad) →
+    IsDocumentWithin (in_lines form limit iri) bytes qs → IsRun form limit iri bytes qs
 accepted_run form limit iri bytes qs d =
     let ts = (tokens_of Lines limit bytes true).tokens in
     record {
       whole = d.document.0;
-      ran = taken_run iri form ts Begin Finished qs d.within.limits (run_document has_scheme form ts qs (without_marks form ts qs (d.document.1, d.document.2, d.document.3)));
+      ran = taken_run iri form ts Begin Finished qs d.within.limits
+          (run_document has_scheme form ts qs (without_marks form ts qs (d.document.1, d.document.2, d.document.3)));
     }
 
 -- and what is taken to its end is a document within the limits
-pub run_accepted : (form : LineForm) (limit iri : ℕ) (bytes : List ℕ) (qs : List Quad) → length bytes ≤ most_bytes → IsRun form limit iri bytes qs → IsDocumentWithin (in_lines form limit iri) bytes qs
+pub run_accepted : (form : LineForm) (limit iri : ℕ) (bytes : List ℕ) (qs : List Quad) → length bytes ≤ most_bytes →
+    IsRun form limit iri bytes qs → IsDocumentWithin (in_lines form limit iri) bytes qs
 run_accepted form limit iri bytes qs l r =
     let ts = (tokens_of Lines limit bytes true).tokens in
     let m = document_marked has_scheme form ts qs (sound has_scheme form ts qs (in_documents iri form ts Finished qs r.ran)) in

@@ -58,7 +58,15 @@ dots-head s =
     let p = token IriRef s.predicate ∷ [] in
     let o = object_tokens s.object in
     let z : dots p ≡ 0 = refl in
-    omega (arith, dots-append (n ++ p ++ o) (graph_tokens s.graph), dots-append (n ++ p) o, dots-append n p, dots-name s.subject, dots-object s.object, dots-graph s.graph)
+    omega (
+      arith,
+      dots-append (n ++ p ++ o) (graph_tokens s.graph),
+      dots-append (n ++ p) o,
+      dots-append n p,
+      dots-name s.subject,
+      dots-object s.object,
+      dots-graph s.graph,
+    )
 
 -- no mark of a tree is below the number of tokens before it
 before-none : (d : Document) (n k : ℕ) → k ≤ n → items_below k (document_quads n d) ≡ []
@@ -73,25 +81,31 @@ before-none (next (L.one s) e d) n k l =
 one_line : (s : Statement) (n k : ℕ) (ms : List Marked) (rest : List Token) (qs : List Quad) →
     (k ≤ length (head_tokens s) → items_below (n + k) ms ≡ []) →
     ((j : ℕ) → k ≡ length (head_tokens s) + 1 + j → items_below (n + k) ms ≡ take (dots (take j rest)) qs) →
-    items_below (n + k) (record { item = quad_of s; mark = n + length (head_tokens s) } ∷ ms) ≡ take (dots (take k (statement_tokens s ++ rest))) (quad_of s ∷ qs)
+    items_below (n + k) (record { item = quad_of s; mark = n + length (head_tokens s) } ∷ ms) ≡ take
+    (dots (take k (statement_tokens s ++ rest))) (quad_of s ∷ qs)
 one_line s n k ms rest qs few more = ⊎_elim whole part (cases_lt (length (head_tokens s)) k)
   where
-    part : k ≤ length (head_tokens s) → items_below (n + k) (record { item = quad_of s; mark = n + length (head_tokens s) } ∷ ms) ≡ take (dots (take k (statement_tokens s ++ rest))) (quad_of s ∷ qs)
+    part : k ≤ length (head_tokens s) → items_below (n + k) (record { item = quad_of s; mark = n + length (head_tokens s) } ∷ ms) ≡ take
+        (dots (take k (statement_tokens s ++ rest))) (quad_of s ∷ qs)
     part l =
         let h = head_tokens s in
-        let t : take k (statement_tokens s ++ rest) ≡ take k h = ap (take k) (append_assoc h (token Dot s.dot ∷ []) rest) ∙ take-append-le k h ((token Dot s.dot ∷ []) ++ rest) l in
+        let t : take k (statement_tokens s ++ rest) ≡ take k h =
+        ap (take k) (append_assoc h (token Dot s.dot ∷ []) rest) ∙ take-append-le k h ((token Dot s.dot ∷ []) ++ rest) l in
         let z : dots (take k (statement_tokens s ++ rest)) ≡ 0 = ap dots t ∙ dots-take h k (dots-head s) in
         cond-false (nat_lt (n + length h) (n + k)) _ _ (le-ltb _ _ (omega arith)) ∙ (few l ∙ sym (ap (λ x. take x (quad_of s ∷ qs)) z))
 
-    whole : length (head_tokens s) < k → items_below (n + k) (record { item = quad_of s; mark = n + length (head_tokens s) } ∷ ms) ≡ take (dots (take k (statement_tokens s ++ rest))) (quad_of s ∷ qs)
+    whole : length (head_tokens s) < k → items_below (n + k) (record { item = quad_of s; mark = n + length (head_tokens s) } ∷ ms) ≡ take
+        (dots (take k (statement_tokens s ++ rest))) (quad_of s ∷ qs)
     whole l =
         let h = head_tokens s in
         let j = k - (length h + 1) in
         let size : length (statement_tokens s) ≡ length h + 1 = length-append h (token Dot s.dot ∷ []) in
         let e : k ≡ length (statement_tokens s) + j = omega arith in
-        let t : take k (statement_tokens s ++ rest) ≡ statement_tokens s ++ take j rest = ap (λ x. take x (statement_tokens s ++ rest)) e ∙ take-append-add (statement_tokens s) rest j in
+        let t : take k (statement_tokens s ++ rest) ≡ statement_tokens s ++ take j rest =
+        ap (λ x. take x (statement_tokens s ++ rest)) e ∙ take-append-add (statement_tokens s) rest j in
         let one : dots (statement_tokens s) ≡ 1 = dots-append h (token Dot s.dot ∷ []) ∙ ap (λ x. x + 1) (dots-head s) in
-        let z : dots (take k (statement_tokens s ++ rest)) ≡ suc (dots (take j rest)) = ap dots t ∙ (dots-append (statement_tokens s) (take j rest) ∙ omega (arith, one)) in
+        let z : dots (take k (statement_tokens s ++ rest)) ≡ suc (dots (take j rest)) =
+        ap dots t ∙ (dots-append (statement_tokens s) (take j rest) ∙ omega (arith, one)) in
         cond-true (nat_lt (n + length h) (n + k)) _ _ (lt-ltb _ _ (omega arith))
         ∙ (ap (λ x. quad_of s ∷ x) (more j (omega arith)) ∙ sym (ap (λ x. take x (quad_of s ∷ qs)) z))
 
@@ -113,7 +127,10 @@ before-dots (next (L.one s) e d) n k =
     size : length (statement_tokens s) ≡ length (head_tokens s) + 1
     size = length-append (head_tokens s) (token Dot s.dot ∷ [])
 
-    more : ((j : ℕ) → items_below (n + length (statement_tokens s) + 1 + j) (document_quads (n + length (statement_tokens s) + 1) d) ≡ take (dots (take j (document_tokens d))) (plain_quads d)) → (j : ℕ) → k ≡ length (head_tokens s) + 1 + j → items_below (n + k) (document_quads (n + length (statement_tokens s) + 1) d) ≡ take (dots (take j (token LineEnd e ∷ document_tokens d))) (plain_quads d)
+    more : ((j : ℕ) → items_below (n + length (statement_tokens s) + 1 + j) (document_quads (n + length (statement_tokens s) + 1) d) ≡ take
+        (dots (take j (document_tokens d))) (plain_quads d)) → (j : ℕ) → k ≡ length (head_tokens s) + 1 + j →
+        items_below (n + k) (document_quads (n + length (statement_tokens s) + 1) d) ≡ take
+        (dots (take j (token LineEnd e ∷ document_tokens d))) (plain_quads d)
     more h zero x = before-none d (n + length (statement_tokens s) + 1) (n + k) (omega (arith, size))
     more h (suc j) x =
         let m = n + length (statement_tokens s) + 1 in
@@ -122,7 +139,8 @@ before-dots (next (L.one s) e d) n k =
         ap (λ x. items_below x (document_quads m d)) a ∙ (h j ∙ sym (ap (λ x. take x (plain_quads d)) b))
 
 -- in each document that begins with the tokens
-pub due_in : (f : LineForm) (ts more : List Token) (m : Mode) (qs : List Quad) (all : List Marked) → run has_scheme f Begin ts ≡ ran m qs → documents f (ts ++ more) all → items_below (length ts) all ≡ qs
+pub due_in : (f : LineForm) (ts more : List Token) (m : Mode) (qs : List Quad) (all : List Marked) → run has_scheme f Begin ts ≡ ran m qs →
+    documents f (ts ++ more) all → items_below (length ts) all ≡ qs
 due_in f ts more m qs all e d =
     let t : take (length ts) (document_tokens d.0) ≡ ts = ap (take (length ts)) (sym d.1) ∙ take-append_seam ts more in
     let g = given_begin has_scheme f ts more m qs (plain_quads d.0) e (d.0, d.1, document_good has_scheme f (ts ++ more) all d, refl) in

@@ -78,8 +78,10 @@ encoded_label Kept (node_ref.Cell n) w e = absurd (let z : Cell n ≡ Label w = 
 encoded_label Tagged (node_ref.Label v) w e =
     let z : 110 ∷ v.text.now ≡ w = cc in
     (110 ∷ chars v.text.now, refl, after 110 (chars v.text.now) v.text.now (omega arith) (encodes-chars v.text.now (IsUtf8-had _ v.utf8)) ∙ z)
-encoded_label Tagged (node_ref.Anon n) w e = let z : 97 ∷ decimal n ≡ w = cc in (97 ∷ decimal n, refl, after 97 (decimal n) (decimal n) (omega arith) (number n) ∙ z)
-encoded_label Tagged (node_ref.Cell n) w e = let z : 99 ∷ decimal n ≡ w = cc in (99 ∷ decimal n, refl, after 99 (decimal n) (decimal n) (omega arith) (number n) ∙ z)
+encoded_label Tagged (node_ref.Anon n) w e = let z : 97 ∷ decimal n ≡ w = cc in
+    (97 ∷ decimal n, refl, after 97 (decimal n) (decimal n) (omega arith) (number n) ∙ z)
+encoded_label Tagged (node_ref.Cell n) w e = let z : 99 ∷ decimal n ≡ w = cc in
+    (99 ∷ decimal n, refl, after 99 (decimal n) (decimal n) (omega arith) (number n) ∙ z)
 
 -- the name of a node, in bytes
 pub encoded_name : (s : Style) (n : NodeRef) (w : List ℕ) → IsNamed s n w → encodes (node_text (rename_node s (node_of n))) ≡ 95 ∷ 58 ∷ w
@@ -151,7 +153,8 @@ encoded_graph f g = (joined (itself (subject_text f.escapes (name_subject f (sub
 
 -- the line that is written from bytes is the UTF-8 of the line by the definition
 pub encoded_line : (f : Form) (q : QuadRef) →
-    line_bytes f q ≡ (subject_bytes f q.subject ++ space) ++ (iri_bytes f.escapes q.predicate ++ space) ++ (term_bytes f q.object ++ space) ++ graph_bytes f q.graph ++ (46 ∷ []) ++ (10 ∷ [])
+    line_bytes f q ≡ (subject_bytes f q.subject ++ space) ++ (iri_bytes f.escapes q.predicate ++ space) ++ (term_bytes f q.object ++ space)
+    ++ graph_bytes f q.graph ++ (46 ∷ []) ++ (10 ∷ [])
 encoded_line f q =
     let a = joined (itself (subject_text f.escapes (name_subject f (subject_by chars q.subject)))) blank in
     let b = joined (itself (iri_text f.escapes (iri_chars q.predicate))) blank in
@@ -162,5 +165,6 @@ encoded_line f q =
     (joined (joined (joined (joined (joined a b) c) d) dot) feed).is
 
 -- a string, and what follows it
-pub literal_bytes : (e : Escapes) (w : List ℕ) (t : TailRef) → encode_utf8_all (string_text e (chars w) ++ tail_text e (tail_by chars t)) ≡ string_bytes_of e w ++ tail_bytes e t
+pub literal_bytes : (e : Escapes) (w : List ℕ) (t : TailRef) → encode_utf8_all (string_text e (chars w) ++ tail_text e (tail_by chars t))
+    ≡ string_bytes_of e w ++ tail_bytes e t
 literal_bytes e w t = encodes-append (string_text e (chars w)) (tail_text e (tail_by chars t))

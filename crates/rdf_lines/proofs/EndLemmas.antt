@@ -12,7 +12,8 @@ use Rattle.rdf_lines.specs.Machine.{Mode, Begin, AfterString, AfterObject, After
 use Rattle.rdf_lines.proofs.Runs.{with_quads, run_one, then_ran, run_append}
 
 -- The end finishes a document, or is refused.
-accept_end : (test : List ℕ → Bool) (f : LineForm) (m : Mode) (l : Leaf) → (accept test f m End l ≡ goes Finished) ⊎ (accept test f m End l ≡ refuses Unexpected)
+accept_end : (test : List ℕ → Bool) (f : LineForm) (m : Mode) (l : Leaf) →
+    (accept test f m End l ≡ goes Finished) ⊎ (accept test f m End l ≡ refuses Unexpected)
 accept_end test f Begin l = inl refl
 accept_end test f AfterDot l = inl refl
 accept_end test NTriples (AfterString s p w) l = inr refl
@@ -43,5 +44,6 @@ leads_into k into leads test f ts t m n qs e is =
         (leads test f x (leaf_of t))
 
 -- After the end a document is finished.
-pub end_finishes : (test : List ℕ → Bool) (f : LineForm) (ts : List Token) (t : Token) (m n : Mode) (qs : List Quad) → run test f m (ts ++ t ∷ []) ≡ ran n qs → t.kind ≡ End → n ≡ Finished
+pub end_finishes : (test : List ℕ → Bool) (f : LineForm) (ts : List Token) (t : Token) (m n : Mode) (qs : List Quad) →
+    run test f m (ts ++ t ∷ []) ≡ ran n qs → t.kind ≡ End → n ≡ Finished
 end_finishes = leads_into End Finished accept_end

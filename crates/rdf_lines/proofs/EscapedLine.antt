@@ -59,8 +59,10 @@ record Reads {T : Type 0} (tokens_of : T → List Token) (Means : T → Type 0) 
   counted : (p : Place) → length (tokens_of (tree p)) ≡ n
 
 -- one part after another
-reads_both : {T U V : Type 0} (f : T → List Token) (g : U → List Token) (h : V → List Token) (M : T → Type 0) (N : U → Type 0) (O : V → Type 0) (make : T → U → V) →
-    ((x : T) (y : U) → h (make x y) ≡ f x ++ g y) → ((x : T) (y : U) → M x → N y → O (make x y)) → (m n : ℕ) (a b c : List ℕ) → Reads f M m a b → Reads g N n b c → Reads h O (m + n) a c
+reads_both : {T U V : Type 0} (f : T → List Token) (g : U → List Token) (h : V → List Token) (M : T → Type 0) (N : U → Type 0)
+    (O : V → Type 0) (make : T → U → V) →
+    ((x : T) (y : U) → h (make x y) ≡ f x ++ g y) → ((x : T) (y : U) → M x → N y → O (make x y)) → (m n : ℕ) (a b c : List ℕ) →
+    Reads f M m a b → Reads g N n b c → Reads h O (m + n) a c
 reads_both f g h M N O make same meant m n a b c r s = record {
   w = r.w ++ s.w;
   good = scalars_append r.w s.w r.good s.good;
@@ -128,7 +130,8 @@ reads_iri iri i a b h = record {
   stands =
       stands_then text (32 ∷ []) a h.mid b
       (stands_then (60 ∷ raw) (62 ∷ []) a (62 ∷ h.mid) h.mid
-      (stands_then (60 ∷ []) raw a n.inner (62 ∷ h.mid) (stands_byte 60 a n.inner (omega arith) n.opens) (stands_text s.part n.inner (62 ∷ h.mid) s.utf8 s.stands))
+      (stands_then (60 ∷ []) raw a n.inner (62 ∷ h.mid) (stands_byte 60 a n.inner (omega arith) n.opens)
+      (stands_text s.part n.inner (62 ∷ h.mid) s.utf8 s.stands))
       (stands_byte 62 (62 ∷ h.mid) h.mid (omega arith) refl))
       (stands_byte 32 h.mid b (omega arith) h.space);
   tree = λ p. leaf text p;
@@ -162,12 +165,14 @@ reads_label x a b h = record {
   stands =
       stands_then text (32 ∷ []) a h.mid b
       (stands_then (95 ∷ 58 ∷ []) x a n.inner h.mid
-      (stands_then (95 ∷ []) (58 ∷ []) a (58 ∷ n.inner) n.inner (stands_byte 95 a (58 ∷ n.inner) (omega arith) n.opens) (stands_byte 58 (58 ∷ n.inner) n.inner (omega arith) refl))
+      (stands_then (95 ∷ []) (58 ∷ []) a (58 ∷ n.inner) n.inner (stands_byte 95 a (58 ∷ n.inner) (omega arith) n.opens)
+      (stands_byte 58 (58 ∷ n.inner) n.inner (omega arith) refl))
       (subst (λ y. Stands y n.inner h.mid) s.named (stands_text s.part n.inner h.mid s.utf8 s.stands)))
       (stands_byte 32 h.mid b (omega arith) h.space);
   tree = λ p. leaf text p;
   spells = λ limit.
-      spells_before_space limit 95 (58 ∷ x) LabelNode (λ v. refl) (kind_at 95 LabelNode begins_label (58 ∷ x) (label_shape Plain x s.is_name)) (label_fit Plain text)
+      spells_before_space limit 95 (58 ∷ x) LabelNode (λ v. refl)
+      (kind_at 95 LabelNode begins_label (58 ∷ x) (label_shape Plain x s.is_name)) (label_fit Plain text)
       (λ v. cut_by_other 95 LabelNode begins_label (58 ∷ x) 32 v label_space);
   means = λ p. refl;
   counted = λ p. refl;
@@ -220,7 +225,8 @@ reads_string v a b c e s = record {
       (stands_byte 34 (34 ∷ c) c (omega arith) refl);
   tree = λ p. leaf text p;
   spells = λ limit.
-      spells_alone limit 34 (raw ++ 34 ∷ []) ShortString (λ v. refl) (kind_at 34 ShortString begins_string (raw ++ 34 ∷ []) (string_shaped raw v s.value good clear)) fit
+      spells_alone limit 34 (raw ++ 34 ∷ []) ShortString (λ v. refl)
+      (kind_at 34 ShortString begins_string (raw ++ 34 ∷ []) (string_shaped raw v s.value good clear)) fit
       (λ u. cut_by_shape 34 ShortString begins_string (raw ++ 34 ∷ []) u (clear_ends raw clear)) dead;
   means = λ p. ap (λ x. unwrap_or (string_value x) []) (inside_one 34 34 raw) ∙ ap (λ x. unwrap_or x []) s.value;
   counted = λ p. refl;
@@ -292,7 +298,8 @@ module _ (iri : ℕ) where
   reads_subject : (s : Subject) (a b : List ℕ) → Spaced (SubjectSpelled iri s) a b → Reads name_tokens (NameMeans s) 1 a b
   reads_subject (Iri i) a b h =
       let k : NamedIri iri i a h.mid = h.spelled in
-      reads_as (token_of IriRef) name_tokens (λ l. iri_of l ≡ i) (NameMeans (Iri i)) Ref (λ l. refl) (λ l e. (ap Iri e, ap has_scheme e ∙ k.spelled.is.scheme)) 1 a b
+      reads_as (token_of IriRef) name_tokens (λ l. iri_of l ≡ i) (NameMeans (Iri i)) Ref (λ l. refl)
+      (λ l e. (ap Iri e, ap has_scheme e ∙ k.spelled.is.scheme)) 1 a b
       (reads_iri iri i a b (record { mid = h.mid; spelled = k; space = h.space }))
   reads_subject (Blank (Label x)) a b h =
       let k : LabelSpelled x a h.mid = h.spelled in
@@ -312,7 +319,8 @@ module _ (iri : ℕ) where
   reads_type : (i a b : List ℕ) → Spaced (TypeSpelled iri i) a b → Reads type_tokens (λ x. iri_of x.1 ≡ i) 2 a b
   reads_type i a b h =
       let k : TypeSpelled iri i a h.mid = h.spelled in
-      reads_both (token_of Carets) (token_of IriRef) type_tokens (λ l. Unit) (λ l. iri_of l ≡ i) (λ x. iri_of x.1 ≡ i) (λ c l. (c, l)) (λ c l. refl) (λ c l u e. e) 1 1 a k.inner b
+      reads_both (token_of Carets) (token_of IriRef) type_tokens (λ l. Unit) (λ l. iri_of l ≡ i) (λ x. iri_of x.1 ≡ i) (λ c l. (c, l))
+      (λ c l. refl) (λ c l u e. e) 1 1 a k.inner b
       (reads_carets a k.inner k.opens) (reads_iri iri i k.inner b (record { mid = h.mid; spelled = k.spelled; space = h.space }))
 
   -- a string and what follows it, and a space
@@ -328,11 +336,13 @@ module _ (iri : ℕ) where
       by : (u : Tail) → TailSpelled iri k.tokens u k.after h.mid → Reads object_tokens (ObjectMeans (Literal w u)) (1 + k.tokens) a b
       by (Lang tag) s =
           subst (λ m. Reads object_tokens (ObjectMeans (Literal w (Lang tag))) (1 + m) a b) (sym s.0)
-          (reads_both (token_of ShortString) (token_of LangTag) object_tokens (λ l. string_of l ≡ w) (λ l. Lang (drop 1 l.text) ≡ Lang tag) (ObjectMeans (Literal w (Lang tag))) WithTag (λ x y. refl)
+          (reads_both (token_of ShortString) (token_of LangTag) object_tokens (λ l. string_of l ≡ w) (λ l. Lang (drop 1 l.text) ≡ Lang tag)
+          (ObjectMeans (Literal w (Lang tag))) WithTag (λ x y. refl)
           (λ x y e f. (ap (λ v. Literal v (Lang (drop 1 y.text))) e ∙ ap (Literal w) f, tt)) 1 1 a k.after b string
           (reads_tag tag k.after b (record { mid = h.mid; spelled = s.1; space = h.space })))
       by (Typed i) (inl s) =
-          let plain = reads_both (token_of ShortString) (λ (u : Unit {0}). []) object_tokens (λ l. string_of l ≡ w) (λ u. Unit) (ObjectMeans (Literal w (Typed xsd_string))) (λ x y. PlainString x) (λ x y. refl)
+          let plain = reads_both (token_of ShortString) (λ (u : Unit {0}). []) object_tokens (λ l. string_of l ≡ w) (λ u. Unit)
+          (ObjectMeans (Literal w (Typed xsd_string))) (λ x y. PlainString x) (λ x y. refl)
           (λ x y e f. (ap (λ v. Literal v (Typed xsd_string)) e, tt)) 1 0 a k.after b string
           (reads_space k.after b (s.3 ∙ h.space)) in
           subst (λ m. Reads object_tokens (ObjectMeans (Literal w (Typed i))) (1 + m) a b) (sym s.0)
@@ -340,8 +350,13 @@ module _ (iri : ℕ) where
       by (Typed i) (inr s) =
           let d : TypeSpelled iri i k.after h.mid = s.1 in
           subst (λ m. Reads object_tokens (ObjectMeans (Literal w (Typed i))) (1 + m) a b) (sym s.0)
-          (reads_both (token_of ShortString) type_tokens object_tokens (λ l. string_of l ≡ w) (λ x. iri_of x.1 ≡ i) (ObjectMeans (Literal w (Typed i))) (λ x y. WithType x y.0 y.1) (λ x y. refl)
-          (λ x y e f. (ap (λ v. Literal v (Typed (iri_of y.1))) e ∙ ap (λ v. Literal w (Typed v)) f, ap has_scheme f ∙ d.spelled.spelled.is.scheme)) 1 2 a k.after b string
+          (reads_both (token_of ShortString) type_tokens object_tokens (λ l. string_of l ≡ w) (λ x. iri_of x.1 ≡ i)
+          (ObjectMeans (Literal w (Typed i))) (λ x y. WithType x y.0 y.1) (λ x y. refl)
+          (λ x y e f. (
+            ap (λ v. Literal v (Typed (iri_of y.1))) e ∙ ap (λ v. Literal w (Typed v)) f,
+            ap has_scheme f
+                ∙ d.spelled.spelled.is.scheme,
+          )) 1 2 a k.after b string
           (reads_type i k.after b (record { mid = h.mid; spelled = d; space = h.space })))
 
   -- an object and a space
@@ -367,7 +382,8 @@ module _ (iri : ℕ) where
       none NQuads = tt
   reads_graph form n (Some g) a b h =
       subst (λ m. Reads graph_tokens (GraphMeans form (Some g)) m a b) (sym h.0)
-      (reads_as name_tokens graph_tokens (NameMeans g) (GraphMeans form (Some g)) (λ x. Some x) (λ x. refl) (λ x m. (ap (λ y. Some y) m.0, m.1, subst (λ f. graph_fits f (Some x)) (sym h.1) tt)) 1 a b
+      (reads_as name_tokens graph_tokens (NameMeans g) (GraphMeans form (Some g)) (λ x. Some x) (λ x. refl)
+      (λ x m. (ap (λ y. Some y) m.0, m.1, subst (λ f. graph_fits f (Some x)) (sym h.1) tt)) 1 a b
       (reads_subject g a b h.2))
 
   -- a subject and a predicate, and so on up to the dot
@@ -397,23 +413,35 @@ module _ (iri : ℕ) where
   StatementMeans form q s = (quad_of s ≡ q) × GoodStatement has_scheme form s
 
   -- a line up to its end
-  reads_line : (ending : LineEnding) (form : LineForm) (n : ℕ) (q : Quad) (bytes rest : List ℕ) (h : LineSpelled ending form iri n q bytes rest) → Reads statement_tokens (StatementMeans form q) n bytes h.e
+  reads_line : (ending : LineEnding) (form : LineForm) (n : ℕ) (q : Quad) (bytes rest : List ℕ)
+      (h : LineSpelled ending form iri n q bytes rest) → Reads statement_tokens (StatementMeans form q) n bytes h.e
   reads_line ending form n q bytes rest h =
       let one = reads_subject q.subject bytes h.a h.subject in
-      let two = reads_both name_tokens (token_of IriRef) two_tokens (NameMeans q.subject) (λ l. iri_of l ≡ q.predicate) (λ (x : Two). NameMeans q.subject x.0 × (iri_of x.1 ≡ q.predicate)) (λ x y. (x, y)) (λ x y. refl) (λ x y e f. (e, f)) 1 1 bytes h.a h.b
+      let two = reads_both name_tokens (token_of IriRef) two_tokens (NameMeans q.subject) (λ l. iri_of l ≡ q.predicate)
+      (λ (x : Two). NameMeans q.subject x.0 × (iri_of x.1 ≡ q.predicate)) (λ x y. (x, y)) (λ x y. refl) (λ x y e f. (e, f)) 1 1 bytes h.a h.b
       one (reads_iri iri q.predicate h.a h.b h.predicate) in
       let three = reads_both two_tokens object_tokens three_tokens (λ (x : Two). NameMeans q.subject x.0 × (iri_of x.1 ≡ q.predicate)) (ObjectMeans q.object)
-      (λ (x : Three). (NameMeans q.subject x.0.0 × (iri_of x.0.1 ≡ q.predicate)) × ObjectMeans q.object x.1) (λ x y. (x, y)) (λ x y. refl) (λ x y e f. (e, f)) 2 h.objects bytes h.b h.c
+      (λ (x : Three). (NameMeans q.subject x.0.0 × (iri_of x.0.1 ≡ q.predicate)) × ObjectMeans q.object x.1) (λ x y. (x, y)) (λ x y. refl)
+      (λ x y e f. (e, f)) 2 h.objects bytes h.b h.c
       two (reads_object h.objects q.object h.b h.c h.object) in
-      let four = reads_both three_tokens graph_tokens four_tokens (λ (x : Three). (NameMeans q.subject x.0.0 × (iri_of x.0.1 ≡ q.predicate)) × ObjectMeans q.object x.1) (GraphMeans form q.graph)
-      (λ (x : Four). ((NameMeans q.subject x.0.0.0 × (iri_of x.0.0.1 ≡ q.predicate)) × ObjectMeans q.object x.0.1) × GraphMeans form q.graph x.1) (λ x y. (x, y)) (λ x y. refl) (λ x y e f. (e, f)) (2 + h.objects) h.graphs bytes h.c h.d
+      let four = reads_both three_tokens graph_tokens four_tokens
+      (λ (x : Three). (NameMeans q.subject x.0.0 × (iri_of x.0.1 ≡ q.predicate)) × ObjectMeans q.object x.1) (GraphMeans form q.graph)
+      (λ (x : Four). ((NameMeans q.subject x.0.0.0 × (iri_of x.0.0.1 ≡ q.predicate)) × ObjectMeans q.object x.0.1)
+      × GraphMeans form q.graph x.1) (λ x y. (x, y)) (λ x y. refl) (λ x y e f. (e, f)) (2 + h.objects) h.graphs bytes h.c h.d
       three (reads_graph form h.graphs q.graph h.c h.d h.graph) in
       subst (λ m. Reads statement_tokens (StatementMeans form q) m bytes h.e) (let e = h.count in omega (arith, e))
       (reads_both four_tokens (token_of Dot) statement_tokens
-      (λ (x : Four). ((NameMeans q.subject x.0.0.0 × (iri_of x.0.0.1 ≡ q.predicate)) × ObjectMeans q.object x.0.1) × GraphMeans form q.graph x.1) (λ l. Unit) (StatementMeans form q) whole (λ x y. refl)
+      (λ (x : Four). ((NameMeans q.subject x.0.0.0 × (iri_of x.0.0.1 ≡ q.predicate)) × ObjectMeans q.object x.0.1)
+      × GraphMeans form q.graph x.1) (λ l. Unit) (StatementMeans form q) whole (λ x y. refl)
       (λ x y e f. (
         same_quad Plain q _ _ _ _ e.0.0.0.0 e.0.0.1 e.0.1.0 e.1.0,
-        record { subject = e.0.0.0.1; predicate = ap has_scheme e.0.0.1 ∙ h.predicate.spelled.spelled.is.scheme; object = e.0.1.1; graph = e.1.1; labels = e.1.2 },
+        record {
+          subject = e.0.0.0.1;
+          predicate = ap has_scheme e.0.0.1 ∙ h.predicate.spelled.spelled.is.scheme;
+          object = e.0.1.1;
+          graph = e.1.1;
+          labels = e.1.2;
+        },
       )) (2 + h.objects + h.graphs) 1 bytes h.d h.e
       four (reads_dot h.d h.e h.dot))
 
@@ -426,7 +454,8 @@ module _ (iri : ℕ) where
 
   tail_formed : (n : ℕ) (t : Tail) (a b : List ℕ) → TailSpelled iri n t a b → IsTail t × TailWithin iri t
   tail_formed n (Lang t) a b h = (h.1.spelled.is_name, tt)
-  tail_formed n (Typed i) a b (inl h) = (subst IsIri (sym h.1) (xsd_iri iri), subst (λ x. length (encodes x) ≤ iri) (sym h.1) (subst (λ x. length x ≤ iri) (sym xsd) h.2))
+  tail_formed n (Typed i) a b (inl h) =
+      (subst IsIri (sym h.1) (xsd_iri iri), subst (λ x. length (encodes x) ≤ iri) (sym h.1) (subst (λ x. length x ≤ iri) (sym xsd) h.2))
   tail_formed n (Typed i) a b (inr h) = (h.1.spelled.spelled.is, h.1.spelled.spelled.within)
 
   term_formed : (n : ℕ) (t : Term) (a b : List ℕ) → TermSpelled iri n t a b → IsTerm t × CanWriteTerm Kept t × TermWithin iri t
@@ -436,11 +465,13 @@ module _ (iri : ℕ) where
       let f = tail_formed k.tokens t k.after b k.tail in
       ((k.string.are, f.0), tt, f.1)
 
-  graph_formed : (form : LineForm) (n : ℕ) (g : Option Subject) (a b : List ℕ) → GraphSpelled form iri n g a b → IsGraph g × CanWriteGraph Kept g × GraphWithin iri g
+  graph_formed : (form : LineForm) (n : ℕ) (g : Option Subject) (a b : List ℕ) → GraphSpelled form iri n g a b →
+      IsGraph g × CanWriteGraph Kept g × GraphWithin iri g
   graph_formed form n None a b h = (tt, tt, tt)
   graph_formed form n (Some g) a b h = subject_formed g a h.2.mid h.2.spelled
 
-  pub line_formed : (ending : LineEnding) (form : LineForm) (n : ℕ) (q : Quad) (bytes rest : List ℕ) → LineSpelled ending form iri n q bytes rest → IsQuad q × CanWrite Kept q × IrisWithin iri q
+  pub line_formed : (ending : LineEnding) (form : LineForm) (n : ℕ) (q : Quad) (bytes rest : List ℕ) →
+      LineSpelled ending form iri n q bytes rest → IsQuad q × CanWrite Kept q × IrisWithin iri q
   line_formed ending form n q bytes rest h =
       let s = subject_formed q.subject bytes h.subject.mid h.subject.spelled in
       let p = h.predicate.spelled.spelled in
@@ -457,7 +488,8 @@ end_scalars Lf = refl
 end_scalars CrLf = refl
 
 -- what comes after a line is no longer
-pub line_shorter : (ending : LineEnding) (form : LineForm) (iri n : ℕ) (q : Quad) (bytes rest : List ℕ) → LineSpelled ending form iri n q bytes rest → length rest ≤ length bytes
+pub line_shorter : (ending : LineEnding) (form : LineForm) (iri n : ℕ) (q : Quad) (bytes rest : List ℕ) →
+    LineSpelled ending form iri n q bytes rest → length rest ≤ length bytes
 line_shorter ending form iri n q bytes rest h =
     let s = reads_line iri ending form n q bytes rest h in
     let a = ap length s.stands ∙ length-append (encode_utf8_all s.w) h.e in
@@ -465,7 +497,8 @@ line_shorter ending form iri n q bytes rest h =
     omega (arith, a, b)
 
 -- Between two lines such a line is read as its quad, and leads back between two lines.
-pub line_read : (r : Driven LineAt) (ending : LineEnding) (n : ℕ) (q : Quad) (bytes rest : List ℕ) → r.grammar.mode ≡ Begin → 2 ≤ r.scanner.limit → length bytes ≤ r.scanner.limit →
+pub line_read : (r : Driven LineAt) (ending : LineEnding) (n : ℕ) (q : Quad) (bytes rest : List ℕ) → r.grammar.mode ≡ Begin →
+    2 ≤ r.scanner.limit → length bytes ≤ r.scanner.limit →
     LineSpelled ending r.grammar.rules.form r.grammar.rules.iri n q bytes rest →
     (front : List ℕ) × (bytes ≡ front ++ rest) × LeadsBack line_words r front (q ∷ []) (n + end_count ending)
 line_read r ending n q bytes rest begin e short h = (
@@ -474,16 +507,20 @@ line_read r ending n q bytes rest begin e short h = (
   record {
     utf8 = (w, (good, refl));
     spelled = ts;
-    count = let a = s.counted p in let b = end_counted ending (past p s.w) in let c = length-append (statement_tokens (s.tree p)) (end_tokens ending (past p s.w)) in omega (arith, a, b, c);
+    count = let a = s.counted p in let b = end_counted ending (past p s.w) in let c =
+        length-append (statement_tokens (s.tree p)) (end_tokens ending (past p s.w)) in omega (arith, a, b, c);
     spells = λ tail more.
         subst (λ x. tokens Lines limit tail false p (x ++ more) ≡ with_tokens ts (tokens Lines limit tail false (past p x) more)) (sym (chars-encodes w good))
-        ((spells_then limit s.w (end_text ending) (λ p. statement_tokens (s.tree p)) (end_tokens ending) (s.spells limit) (spells_end ending rules.form limit rules.iri ending)).reads tail p more
-        (short_both limit (statement_tokens (s.tree p)) (end_tokens ending (past p s.w)) small (end_short ending rules.form limit rules.iri e ending (past p s.w))));
+        ((spells_then limit s.w (end_text ending) (λ p. statement_tokens (s.tree p)) (end_tokens ending) (s.spells limit)
+        (spells_end ending rules.form limit rules.iri ending)).reads tail p more
+        (short_both limit (statement_tokens (s.tree p)) (end_tokens ending (past p s.w)) small
+        (end_short ending rules.form limit rules.iri e ending (past p s.w))));
     reached = λ x us given a. (
       a.0,
       subst (λ y. run (is_taken y.iri) y.form Begin (us ++ ts) ≡ ran r.grammar.mode (given ++ q ∷ [])) a.0
           (run_append (is_taken rules.iri) rules.form us ts Begin
-          ∙ (ap (λ z. then z (λ m. run (is_taken rules.iri) rules.form m ts)) (subst (λ (y : Rules). run (is_taken y.iri) y.form Begin us ≡ ran r.grammar.mode given) (sym a.0) a.1)
+          ∙ (ap (λ z. then z (λ m. run (is_taken rules.iri) rules.form m ts))
+          (subst (λ (y : Rules). run (is_taken y.iri) y.form Begin us ≡ ran r.grammar.mode given) (sym a.0) a.1)
           ∙ (ap (λ m. with_quads given (run (is_taken rules.iri) rules.form m ts)) begin
           ∙ (ap (with_quads given) line_ran
           ∙ ap (λ m. ran m (given ++ q ∷ [])) (sym begin))))),
@@ -527,6 +564,7 @@ line_read r ending n q bytes rest begin e short h = (
         let m = s.means p in
         let end = past p s.w in
         run_statement (is_taken rules.iri) rules.form (s.tree p) (end_tokens ending end)
-        (statement_taken rules.iri rules.form (s.tree p) m.1 (subst (IrisWithin rules.iri) (sym m.0) (line_formed rules.iri ending rules.form n q bytes rest h).2))
+        (statement_taken rules.iri rules.form (s.tree p) m.1
+        (subst (IrisWithin rules.iri) (sym m.0) (line_formed rules.iri ending rules.form n q bytes rest h).2))
         ∙ (ap (with_quad (quad_of (s.tree p))) (end_ran ending rules.form limit rules.iri ending end)
         ∙ ap (λ x. with_quad x (ran Begin [])) m.0)

@@ -66,7 +66,8 @@ run_clear w at end h r =
     let from = r.from in
     let within = r.within in
     let size = drop_size w at (omega (arith, from, within)) in
-    let run = passed_clear (drop at w) n (omega (arith, size, from, within)) (λ k l. ap (is_short_byte 34) (get_drop w at k) ∙ r.pass (at + k) (omega arith) (omega (arith, l, from))) in
+    let run = passed_clear (drop at w) n (omega (arith, size, from, within))
+    (λ k l. ap (is_short_byte 34) (get_drop w at k) ∙ r.pass (at + k) (omega arith) (omega (arith, l, from))) in
     ap (λ k. is_clear false (take k w)) (let e : end ≡ at + n = omega (arith, from) in e)
     ∙ (ap (is_clear false) (take_more w at n) ∙ clear_then false (take at w) (take n (drop at w)) h run)
 
@@ -96,7 +97,8 @@ plain_spelled limit part a b u h =
       stands =
           h.stands
           ∙ (ap (λ x. encodes (x ++ 62 ∷ []) ++ b) (each i)
-          ∙ (ap (λ x. x ++ b) (encodes-append i (62 ∷ []) ∙ (ap (λ x. x ++ encodes (62 ∷ [])) (encodes-chars part u) ∙ ap (λ x. part ++ x) (low 62 [] (omega arith))))
+          ∙ (ap (λ x. x ++ b) (encodes-append i (62 ∷ [])
+          ∙ (ap (λ x. x ++ encodes (62 ∷ [])) (encodes-chars part u) ∙ ap (λ x. part ++ x) (low 62 [] (omega arith))))
           ∙ append_assoc part (62 ∷ []) b));
     }
 

@@ -37,7 +37,8 @@ passes_nothing r old new e = record {
     are = refl;
     writable = tt;
     limit = refl;
-    read = λ x before quads h. subst (λ u. HasRead line_words r x u (quads ++ [])) (sym (append-nil before)) (subst (HasRead line_words r x before) (sym (append-nil quads)) h);
+    read = λ x before quads h. subst (λ u. HasRead line_words r x u (quads ++ [])) (sym (append-nil before))
+        (subst (HasRead line_words r x before) (sym (append-nil quads)) h);
   };
 }
 
@@ -51,8 +52,10 @@ can_less r m n e l =
     test : (a b : ℕ) → a ≤ b → nat_le a b ≡ true
     test a b l = grind (arith, nat_tests)
 
-module _ (ending : LineEnding) (r : Driven LineAt) (g : LineAt) (is : g ≡ r.grammar) (limit : r.scanner.limit ≡ r.grammar.limit) (rules : Rules) (same : rules ≡ g.rules)
-    (begin : g.mode ≡ Begin) (roomy : 64 ≤ g.limit) (n : ℕ) (q : Quad) (text rest : List ℕ) (short : length text ≤ g.limit) (spelled : LineSpelled ending rules.form rules.iri n q text rest) where
+module _ (ending : LineEnding) (r : Driven LineAt) (g : LineAt) (is : g ≡ r.grammar) (limit : r.scanner.limit ≡ r.grammar.limit)
+    (rules : Rules) (same : rules ≡ g.rules)
+    (begin : g.mode ≡ Begin) (roomy : 64 ≤ g.limit) (n : ℕ) (q : Quad) (text rest : List ℕ) (short : length text ≤ g.limit)
+    (spelled : LineSpelled ending rules.form rules.iri n q text rest) where
   here : rules ≡ r.grammar.rules
   here = same ∙ ap (λ (y : LineAt). y.rules) is
 
@@ -61,7 +64,8 @@ module _ (ending : LineEnding) (r : Driven LineAt) (g : LineAt) (is : g ≡ r.gr
 
   found : (front : List ℕ) × (text ≡ front ++ rest) × LeadsBack line_words r front (q ∷ []) (n + end_count ending)
   found =
-      line_read r ending n q text rest (ap (λ (y : LineAt). y.mode) (sym is) ∙ begin) (let a = at in omega (arith, a, roomy)) (let a = at in omega (arith, a, short))
+      line_read r ending n q text rest (ap (λ (y : LineAt). y.mode) (sym is) ∙ begin) (let a = at in omega (arith, a, roomy))
+      (let a = at in omega (arith, a, short))
       (subst (λ (y : Rules). LineSpelled ending y.form y.iri n q text rest) here spelled)
 
   -- the bytes of the line
@@ -71,15 +75,19 @@ module _ (ending : LineEnding) (r : Driven LineAt) (g : LineAt) (is : g ≡ r.gr
       let size : length text - length rest ≡ length found.0 = omega (arith, s) in
       ap (λ k. take k text) size ∙ (ap (take (length found.0)) found.1 ∙ take-append_seam found.0 rest)
 
-  back : (slice : List ℕ) (tokens : ℕ) → slice ≡ take (length text - length rest) text → tokens ≡ n + end_count ending → LeadsBack line_words r slice (q ∷ []) tokens
+  back : (slice : List ℕ) (tokens : ℕ) → slice ≡ take (length text - length rest) text → tokens ≡ n + end_count ending →
+      LeadsBack line_words r slice (q ∷ []) tokens
   back slice tokens e f =
       subst (λ x. LeadsBack line_words r x (q ∷ []) tokens) (sym (e ∙ bytes)) (subst (LeadsBack line_words r found.0 (q ∷ [])) (sym f) found.2)
 
-  pub line_leads : (slice : List ℕ) (tokens : ℕ) → slice ≡ take (length text - length rest) text → tokens ≡ n + end_count ending → (more : List Quad) × (1 ≡ length more) × LeadsBack line_words r slice more tokens
+  pub line_leads : (slice : List ℕ) (tokens : ℕ) → slice ≡ take (length text - length rest) text → tokens ≡ n + end_count ending →
+      (more : List Quad) × (1 ≡ length more) × LeadsBack line_words r slice more tokens
   line_leads slice tokens e f = (q ∷ [], refl, back slice tokens e f)
 
-  pub line_passes : (slice : List ℕ) (tokens : ℕ) → slice ≡ take (length text - length rest) text → tokens ≡ n + end_count ending → (new : Driven LineAt) → new ≡ passed r slice 1 tokens →
-      IsReadOn line_words r slice 1 tokens new → (before after : List ℕ) → after ≡ before ++ encode_utf8_all (line_in (unprefixed Kept Plain) q) → PassesInto r (take (length text - length rest) text) new before after
+  pub line_passes : (slice : List ℕ) (tokens : ℕ) → slice ≡ take (length text - length rest) text → tokens ≡ n + end_count ending →
+      (new : Driven LineAt) → new ≡ passed r slice 1 tokens →
+      IsReadOn line_words r slice 1 tokens new → (before after : List ℕ) → after ≡ before ++ encode_utf8_all
+      (line_in (unprefixed Kept Plain) q) → PassesInto r (take (length text - length rest) text) new before after
   line_passes slice tokens e f new p reads before after w = record {
     lines = encode_utf8_all (line_in (unprefixed Kept Plain) q);
     appended = w;
@@ -102,7 +110,8 @@ passes_then a b c u v x y z p q = record {
     are =
         ap (λ w. w ++ q.lines) p.passes.are
         ∙ (ap (λ w. encode_utf8_all (text Kept Plain p.passes.given) ++ w) q.passes.are
-        ∙ (sym (encodes-append (text Kept Plain p.passes.given) (text Kept Plain q.passes.given)) ∙ ap encode_utf8_all (sym (flat_map-append (line Kept Plain) p.passes.given q.passes.given))));
+        ∙ (sym (encodes-append (text Kept Plain p.passes.given) (text Kept Plain q.passes.given))
+        ∙ ap encode_utf8_all (sym (flat_map-append (line Kept Plain) p.passes.given q.passes.given))));
     writable = both p.passes.given q.passes.given p.passes.writable q.passes.writable;
     limit = q.passes.limit ∙ p.passes.limit;
     read = λ s before quads h.
@@ -117,7 +126,8 @@ passes_then a b c u v x y z p q = record {
     both (q ∷ qs) rs h k = (h.0, both qs rs h.1 k)
 
 -- one line more of a text
-pub passes_on : (a b c : Driven LineAt) (w rest : List ℕ) (at n : ℕ) (x y z : List ℕ) → rest ≡ take (length rest) (drop at w) → n ≤ length rest → PassesInto a (take at w) b x y → PassesInto b (take n rest) c y z →
+pub passes_on : (a b c : Driven LineAt) (w rest : List ℕ) (at n : ℕ) (x y z : List ℕ) → rest ≡ take (length rest) (drop at w) →
+    n ≤ length rest → PassesInto a (take at w) b x y → PassesInto b (take n rest) c y z →
     PassesInto a (take (at + n) w) c x z
 passes_on a b c w rest at n x y z e l p q =
     let same : take n rest ≡ take n (drop at w) = ap (take n) e ∙ take_shorter (drop at w) n (length rest) l in

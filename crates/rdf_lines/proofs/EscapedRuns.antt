@@ -75,7 +75,8 @@ stands e c h =
     (cases_lt c 128)
 
 -- characters that each stand as they are, by their bytes, stand so together
-each_stands : (p : ℕ → Bool) (f : ℕ → List ℕ) → ((c : ℕ) → all_have p (encode c) ≡ true → f c ≡ c ∷ []) → (cs : List ℕ) → all_have p (encodes cs) ≡ true → flat_map f cs ≡ cs
+each_stands : (p : ℕ → Bool) (f : ℕ → List ℕ) → ((c : ℕ) → all_have p (encode c) ≡ true → f c ≡ c ∷ []) → (cs : List ℕ) →
+    all_have p (encodes cs) ≡ true → flat_map f cs ≡ cs
 each_stands p f one [] h = refl
 each_stands p f one (c ∷ cs) h =
     let (a, b) = have_parts p (encode c) (encodes cs) h in
@@ -95,7 +96,8 @@ text_stands e w u h =
 front_passes : (p : ℕ → Bool) (w : List ℕ) (n : ℕ) → ((k : ℕ) → k < n → p (get_or w k 0) ≡ true) → n ≤ length w → all_have p (take n w) ≡ true
 front_passes p w zero h l = refl
 front_passes p [] (suc n) h l = refl
-front_passes p (c ∷ w) (suc n) h l = and_from (p c) (all_have p (take n w)) (h 0 (omega arith)) (front_passes p w n (λ k m. h (suc k) (omega arith)) (omega arith))
+front_passes p (c ∷ w) (suc n) h l =
+    and_from (p c) (all_have p (take n w)) (h 0 (omega arith)) (front_passes p w n (λ k m. h (suc k) (omega arith)) (omega arith))
 
 -- the front that a run went over passes its test
 run_front : (e : Escapes) (w : List ℕ) (n : ℕ) → IsRun (goes_over (run_of e)) w 0 n → all_have (passes e) (take n w) ≡ true
@@ -128,13 +130,15 @@ run_cut e w n u r =
     (cases_lt n (length w))
 
 -- a run, and what follows it
-pub run_written : (e : Escapes) (w : List ℕ) (n : ℕ) → IsUtf8 w → IsRun (goes_over (run_of e)) w 0 n → escaped_bytes e w ≡ take n w ++ escaped_bytes e (drop n w)
+pub run_written : (e : Escapes) (w : List ℕ) (n : ℕ) → IsUtf8 w → IsRun (goes_over (run_of e)) w 0 n →
+    escaped_bytes e w ≡ take n w ++ escaped_bytes e (drop n w)
 run_written e w n u r =
     let front = take n w in
     let rest = drop n w in
     let f = IsUtf8-take w n u (run_cut e w n u r) in
     let whole = encodes-chars front f in
-    let plain : flat_map (escaped e) (chars front) ≡ chars front = all_stand e (chars front) (subst (λ x. all_have (passes e) x ≡ true) (sym whole) (run_front e w n r)) in
+    let plain : flat_map (escaped e) (chars front) ≡ chars front =
+    all_stand e (chars front) (subst (λ x. all_have (passes e) x ≡ true) (sym whole) (run_front e w n r)) in
     ap (λ x. encodes (flat_map (escaped e) (chars x))) (sym (take-append-drop n w))
     ∙ (ap (λ x. encodes (flat_map (escaped e) x)) (chars-append front rest f)
     ∙ (ap encodes (flat_map-append (escaped e) (chars front) (chars rest))
@@ -142,7 +146,8 @@ run_written e w n u r =
     ∙ ap (λ x. x ++ escaped_bytes e rest) (ap encodes plain ∙ whole))))
 
 -- a character, and what follows it
-pub char_written : (e : Escapes) (w rest : List ℕ) (c : ℕ) → IsUtf8 w → w ≡ encode c ++ rest → escaped_bytes e w ≡ encode_utf8_all (escaped e c) ++ escaped_bytes e rest
+pub char_written : (e : Escapes) (w rest : List ℕ) (c : ℕ) → IsUtf8 w → w ≡ encode c ++ rest →
+    escaped_bytes e w ≡ encode_utf8_all (escaped e c) ++ escaped_bytes e rest
 char_written e w rest c u s =
     ap (λ x. encodes (flat_map (escaped e) x)) (chars_past_char w rest c u s) ∙ encodes-append (escaped e c) (flat_map (escaped e) (chars rest))
 

@@ -54,8 +54,20 @@ row_shape (suc n) (c ∷ w) l h =
 number_shape : (i : Inside) (w : List ℕ) (c : ℕ) → IsNumberEscape i w c → Matches shapes.uchar w
 unfolding has
 number_shape i w c m = ⊎_elim
-    (λ e. subst (Matches shapes.uchar) (sym e.0) (inl (92 ∷ 117 ∷ [], m.0, (92 ∷ [], 117 ∷ [], (92, refl, refl), (117 ∷ [], [], (117, refl, refl), refl, refl), refl), row_shape 3 m.0 e.1 m.2, refl)))
-    (λ e. subst (Matches shapes.uchar) (sym e.0) (inr (92 ∷ 85 ∷ [], m.0, (92 ∷ [], 85 ∷ [], (92, refl, refl), (85 ∷ [], [], (85, refl, refl), refl, refl), refl), row_shape 7 m.0 e.1 m.2, refl)))
+    (λ e. subst (Matches shapes.uchar) (sym e.0) (inl (
+      92 ∷ 117 ∷ [],
+      m.0,
+      (92 ∷ [], 117 ∷ [], (92, refl, refl), (117 ∷ [], [], (117, refl, refl), refl, refl), refl),
+      row_shape 3 m.0 e.1 m.2,
+      refl,
+    )))
+    (λ e. subst (Matches shapes.uchar) (sym e.0) (inr (
+      92 ∷ 85 ∷ [],
+      m.0,
+      (92 ∷ [], 85 ∷ [], (92, refl, refl), (85 ∷ [], [], (85, refl, refl), refl, refl), refl),
+      row_shape 7 m.0 e.1 m.2,
+      refl,
+    )))
     m.1
 
 -- what a letter stands for, it stands for by ECHAR
@@ -113,7 +125,8 @@ hexes_step (c ∷ u) w h =
 row_digits : (n : ℕ) (w : List ℕ) → Matches (digit_row n) w → all_have (has hex_digit) w ≡ true
 row_digits zero w m = subst (λ x. all_have (has hex_digit) x ≡ true) (sym m.2) (and_from (has hex_digit m.0) true m.1 refl)
 row_digits (suc n) w m =
-    subst (λ x. all_have (has hex_digit) x ≡ true) (sym (m.4 ∙ ap (λ x. x ++ m.1) m.2.2)) (and_from (has hex_digit m.2.0) (all_have (has hex_digit) m.1) m.2.1 (row_digits n m.1 m.3))
+    subst (λ x. all_have (has hex_digit) x ≡ true) (sym (m.4 ∙ ap (λ x. x ++ m.1) m.2.2))
+    (and_from (has hex_digit m.2.0) (all_have (has hex_digit) m.1) m.2.1 (row_digits n m.1 m.3))
 
 -- the one character of its class
 the_is : (c d : ℕ) → has (the c) d ≡ true → d ≡ c
@@ -187,7 +200,8 @@ first_quote false (c ∷ a) (d ∷ b) y z h k e =
     let k' : is_clear false (c ∷ b) ≡ true = subst (λ x. is_clear false (x ∷ b) ≡ true) (sym t.0) k in
     ⊎_elim
     (λ s. first_quote true a b y z (sym (cond-true (c == 92) (is_clear true a) _ s) ∙ h) (sym (cond-true (c == 92) (is_clear true b) _ s) ∙ k') t.1)
-    (λ s. first_quote false a b y z (and_parts _ _ (sym (cond-false (c == 92) (is_clear true a) _ s) ∙ h)).1 (and_parts _ _ (sym (cond-false (c == 92) (is_clear true b) _ s) ∙ k')).1 t.1)
+    (λ s. first_quote false a b y z (and_parts _ _ (sym (cond-false (c == 92) (is_clear true a) _ s) ∙ h)).1
+    (and_parts _ _ (sym (cond-false (c == 92) (is_clear true b) _ s) ∙ k')).1 t.1)
     (cases_Bool (c == 92))
 
 -- no longer text has the shape of a string
@@ -214,7 +228,8 @@ scalars_parts (c ∷ u) v h =
 -- a clear text of pieces has the inside of a string
 module _ where
   -- one piece more
-  pieces_more : (u w : List ℕ) (c : ℕ) → IsPiece of_string u c → scalars (u ++ w) ≡ true → is_clear false (u ++ w) ≡ true → Matches string_part u × (is_clear false w ≡ true)
+  pieces_more : (u w : List ℕ) (c : ℕ) → IsPiece of_string u c → scalars (u ++ w) ≡ true → is_clear false (u ++ w) ≡ true →
+      Matches string_part u × (is_clear false w ≡ true)
   pieces_more u w c (inl p) s h =
       let h' : is_clear false (c ∷ w) ≡ true = subst (λ x. is_clear false (x ++ w) ≡ true) p.0 h in
       let s' : scalars (c ∷ w) ≡ true = subst (λ x. scalars (x ++ w) ≡ true) p.0 s in
@@ -238,9 +253,11 @@ module _ where
       subst (Matches (many string_part)) (sym m.2) (many_more string_part m.0 m.1 p.0 (string_many m.1 v m.4 (scalars_parts m.0 m.1 s').1 p.1))
 
 -- a string in its quotes
-pub string_shaped : (w v : List ℕ) → string_value w ≡ Some v → scalars w ≡ true → is_clear false w ≡ true → Matches (shape Lines ShortString) (34 ∷ w ++ 34 ∷ [])
+pub string_shaped : (w v : List ℕ) → string_value w ≡ Some v → scalars w ≡ true → is_clear false w ≡ true →
+    Matches (shape Lines ShortString) (34 ∷ w ++ 34 ∷ [])
 unfolding shape has
-string_shaped w v e s h = inl (34 ∷ [], w ++ 34 ∷ [], (34, refl, refl), (w, 34 ∷ [], string_many w v ((string_means w v).0 e) s h, (34, refl, refl), refl), refl)
+string_shaped w v e s h =
+    inl (34 ∷ [], w ++ 34 ∷ [], (34, refl, refl), (w, 34 ∷ [], string_many w v ((string_means w v).0 e) s h, (34, refl, refl), refl), refl)
 
 -- bytes from 128 on
 high_step : (bs v : List ℕ) → AllByRecursion (λ b. 128 ≤ b) bs → is_clear false (bs ++ v) ≡ is_clear false v
@@ -266,7 +283,8 @@ after_slash [] v n a k = absurd (omega arith)
 after_slash (b ∷ bs) v n a k = sym (high_step bs v a.1) ∙ k
 
 -- a character from 128 on in front
-high_clear : (s : Bool) (c : ℕ) (u v : List ℕ) → 128 ≤ c → ((t : Bool) → is_clear t v ≡ true → is_clear t u ≡ true) → is_clear s (encode c ++ v) ≡ true → is_clear s (c ∷ u) ≡ true
+high_clear : (s : Bool) (c : ℕ) (u v : List ℕ) → 128 ≤ c → ((t : Bool) → is_clear t v ≡ true → is_clear t u ≡ true) →
+    is_clear s (encode c ++ v) ≡ true → is_clear s (c ∷ u) ≡ true
 high_clear true c u v l f k = f false (after_slash (encode c) v (let n = length-encode c in let one = (len_utf8_bounds c).0 in omega arith) (high_bytes c l) k)
 high_clear false c u v l f k = plain_step c u (short c l) ∙ f false (sym (high_step (encode c) v (high_bytes c l)) ∙ k)
   where

@@ -30,7 +30,8 @@ all_kept (q ∷ qs) = ap (λ x. x ∷ map (rename Kept) qs) (kept q) ∙ ap (λ 
 -- So the text in a form is that of the named quads with their labels kept.
 pub text_named : (f : Form) (qs : List Quad) → text_in f qs ≡ text Kept f.escapes (map (named f) qs)
 text_named f [] = refl
-text_named f (q ∷ qs) = ap (λ r. quad_text f.escapes r ++ text_in f qs) (sym (kept (named f q))) ∙ ap (λ x. quad_text f.escapes (rename Kept (named f q)) ++ x) (text_named f qs)
+text_named f (q ∷ qs) = ap (λ r. quad_text f.escapes r ++ text_in f qs) (sym (kept (named f q)))
+    ∙ ap (λ x. quad_text f.escapes (rename Kept (named f q)) ++ x) (text_named f qs)
 
 -- quads that can be written in the form can be written with their nodes named
 pub named_writable : (f : Form) (qs : List Quad) → IsNodePrefix f.prefix → Writable f.style qs → Writable Kept (map (named f) qs)
@@ -134,7 +135,8 @@ joined_read_back f g qs rs limit iri same p r h k l =
     let second : text_in g rs ≡ text Kept e vs = text_named g rs ∙ ap (λ x. text Kept x vs) (sym same) in
     let whole : text_in f qs ++ text_in g rs ≡ text Kept e (us ++ vs) =
     ap (λ x. x ++ text_in g rs) first ∙ (ap (λ x. text Kept e us ++ x) second ∙ sym (flat_map-append (line Kept e) us vs)) in
-    let back = bytes_read_back Kept e (us ++ vs) limit (both_writable us vs (named_writable f qs p h) (named_writable g rs r k)) (subst (λ x. length x ≤ limit) whole l) iri in
+    let back = bytes_read_back Kept e (us ++ vs) limit (both_writable us vs (named_writable f qs p h) (named_writable g rs r k))
+    (subst (λ x. length x ≤ limit) whole l) iri in
     subst (λ x. IsDocumentOf (in_lines NQuads limit iri) x (us ++ vs)) (ap encode_utf8_all (sym whole) ∙ encodes-append (text_in f qs) (text_in g rs))
     (subst (λ x. IsDocumentOf (in_lines NQuads limit iri) (encode_utf8_all (text Kept e (us ++ vs))) x) (all_kept (us ++ vs)) back)
   where
@@ -146,7 +148,8 @@ joined_read_back f g qs rs limit iri same p r h k l =
 pub form_ascii : PrefixedAsciiIsWritten
 form_ascii s p qs h w a =
     let f : Form = record { style = s; escapes = Ascii; prefix = p } in
-    subst (λ x. AllByRecursion (λ b. b < 128) (encode_utf8_all x)) (sym (text_named f qs)) (ascii_written Kept (map (named f) qs) (named_writable f qs h w) (all_low f h qs a))
+    subst (λ x. AllByRecursion (λ b. b < 128) (encode_utf8_all x)) (sym (text_named f qs))
+    (ascii_written Kept (map (named f) qs) (named_writable f qs h w) (all_low f h qs a))
   where
     subject_low : (f : Form) → IsNodePrefix f.prefix → (s : Subject) → SubjectHasAsciiLabel s → SubjectHasAsciiLabel (name_subject f s)
     subject_low f h (Iri i) a = tt
@@ -162,5 +165,11 @@ form_ascii s p qs h w a =
 
     all_low : (f : Form) → IsNodePrefix f.prefix → (qs : List Quad) → AllByRecursion HasAsciiLabels qs → AllByRecursion HasAsciiLabels (map (named f) qs)
     all_low f h [] a = tt
-    all_low f h (q ∷ qs) a =
-        (record { subject = subject_low f h q.subject a.0.subject; object = term_low f h q.object a.0.object; graph = graph_low f h q.graph a.0.graph }, all_low f h qs a.1)
+    all_low f h (q ∷ qs) a = (
+      record {
+        subject = subject_low f h q.subject a.0.subject;
+        object = term_low f h q.object a.0.object;
+        graph = graph_low f h q.graph a.0.graph;
+      },
+      all_low f h qs a.1,
+    )

@@ -69,11 +69,13 @@ pub stands_text : (part a b : List ℕ) → IsUtf8 part → a ≡ part ++ b → 
 stands_text part a b u e = e ∙ ap (λ x. x ++ b) (sym (encodes-chars part u))
 
 -- a run of such bytes with a scheme, up to the closing bracket, is an IRI of the line
-pub iri_stands : (limit : ℕ) (part a b : List ℕ) → IsUtf8 part → all_have (has iri_char) (chars part) ≡ true → has_scheme (chars part) ≡ true → length part ≤ limit → a ≡ part ++ 62 ∷ b → IriStands limit (chars part) a b
+pub iri_stands : (limit : ℕ) (part a b : List ℕ) → IsUtf8 part → all_have (has iri_char) (chars part) ≡ true →
+    has_scheme (chars part) ≡ true → length part ≤ limit → a ≡ part ++ 62 ∷ b → IriStands limit (chars part) a b
 iri_stands limit part a b u h s l e = record {
   is = record { characters = h; scheme = s };
   within = subst (λ x. length x ≤ limit) (sym (encodes-chars part u)) l;
-  stands = subst (λ w. Stands (w ++ 62 ∷ []) a b) (sym (each (chars part))) (stands_then (chars part) (62 ∷ []) a (62 ∷ b) b (stands_text part a (62 ∷ b) u e) (stands_byte 62 (62 ∷ b) b (omega arith) refl));
+  stands = subst (λ w. Stands (w ++ 62 ∷ []) a b) (sym (each (chars part)))
+      (stands_then (chars part) (62 ∷ []) a (62 ∷ b) b (stands_text part a (62 ∷ b) u e) (stands_byte 62 (62 ∷ b) b (omega arith) refl));
 }
 
 -- bytes that are a label's, at the front
@@ -108,12 +110,14 @@ characters_then a b c f g = record {
 }
 
 -- a run, and characters after it
-pub run_then : (a : List ℕ) (end : ℕ) (b c : List ℕ) → IsUtf8 a → IsRun (is_short_byte 34) a 0 end → a ≡ take end a ++ b → CharactersStand b c → CharactersStand a c
+pub run_then : (a : List ℕ) (end : ℕ) (b c : List ℕ) → IsUtf8 a → IsRun (is_short_byte 34) a 0 end → a ≡ take end a ++ b →
+    CharactersStand b c → CharactersStand a c
 run_then a end b c u r e f =
     let run = take end a in
     let good : IsUtf8 run = IsUtf8-take a end u (run_cut Plain a end u r) in
     let plain : flat_map (escaped Plain) run ≡ run = plain_front a end (λ k l. run_plain (get_or a k 0) (r.pass k (omega arith) l)) in
-    let same : encode_utf8_all (flat_map (escaped Plain) (chars run)) ≡ run = escaped_text (chars run) ∙ (ap (flat_map (escaped Plain)) (encodes-chars run good) ∙ plain) in
+    let same : encode_utf8_all (flat_map (escaped Plain) (chars run)) ≡ run =
+    escaped_text (chars run) ∙ (ap (flat_map (escaped Plain)) (encodes-chars run good) ∙ plain) in
     characters_then a b c (record { characters = chars run; are = all_scalar (chars run) (scalars-chars run good); stands = e ∙ ap (λ x. x ++ b) (sym same) }) f
 
 -- an escape
@@ -129,14 +133,17 @@ letter_means : (letter c : ℕ) (a b : List ℕ) → escaped Plain c ≡ 92 ∷ 
 letter_means letter c a b w s l e = record {
   character = c;
   is = s;
-  stands = subst (λ x. Stands x (92 ∷ a) b) (sym w) (stands_then (92 ∷ []) (letter ∷ []) (92 ∷ a) a b (stands_byte 92 (92 ∷ a) a (omega arith) refl) (stands_byte letter a b l e));
+  stands = subst (λ x. Stands x (92 ∷ a) b) (sym w)
+      (stands_then (92 ∷ []) (letter ∷ []) (92 ∷ a) a b (stands_byte 92 (92 ∷ a) a (omega arith) refl) (stands_byte letter a b l e));
 }
 
 -- a backslash and one of the four letters is the escape that would be written
 pub letter_stands : (letter : ℕ) (a b : List ℕ) → (letter ≡ 34) ⊎ ((letter ≡ 92) ⊎ ((letter ≡ 110) ⊎ (letter ≡ 114))) → a ≡ letter ∷ b → EscapeStands a b
 letter_stands letter a b h e =
-    let means = λ (n c : ℕ) (w : escaped Plain c ≡ 92 ∷ n ∷ []) (s : scalar c ≡ true) (l : n < 128) (i : letter ≡ n). letter_means n c a b w s l (e ∙ ap (λ x. x ∷ b) i) in
-    ⊎_elim (means 34 34 refl refl (omega arith)) (⊎_elim (means 92 92 refl refl (omega arith)) (⊎_elim (means 110 10 refl refl (omega arith)) (means 114 13 refl refl (omega arith)))) h
+    let means = λ (n c : ℕ) (w : escaped Plain c ≡ 92 ∷ n ∷ []) (s : scalar c ≡ true) (l : n < 128) (i : letter ≡ n). letter_means n c a b w
+    s l (e ∙ ap (λ x. x ∷ b) i) in
+    ⊎_elim (means 34 34 refl refl (omega arith)) (⊎_elim (means 92 92 refl refl (omega arith))
+    (⊎_elim (means 110 10 refl refl (omega arith)) (means 114 13 refl refl (omega arith)))) h
 
 module _ (limit : ℕ) where
   -- an IRI in its brackets
@@ -149,13 +156,25 @@ module _ (limit : ℕ) where
 
   -- an IRI in its brackets with a space is a subject
   pub iri_subject : (i a b c d : List ℕ) → a ≡ 60 ∷ b → IriStands limit i b c → c ≡ 32 ∷ d → SubjectStands limit a d
-  iri_subject i a b c d e h f = record { subject = Iri i; is = h.is; labels = tt; within = h.within; stands = spaced (iri_text Plain i) a c d (bracketed i a b c e h) f }
+  iri_subject i a b c d e h f = record {
+    subject = Iri i;
+    is = h.is;
+    labels = tt;
+    within = h.within;
+    stands = spaced (iri_text Plain i) a c d (bracketed i a b c e h) f;
+  }
 
   -- so is a label after its two characters, with a space
   pub label_subject : (a b c d r : List ℕ) → a ≡ 95 ∷ b → b ≡ 58 ∷ c → LabelStands c d → d ≡ 32 ∷ r → SubjectStands limit a r
   label_subject a b c d r e f h g =
       let mark : Stands (95 ∷ 58 ∷ []) a c = stands_then (95 ∷ []) (58 ∷ []) a b c (stands_byte 95 a b (omega arith) e) (stands_byte 58 b c (omega arith) f) in
-      record { subject = Blank (Label h.label); is = h.is; labels = tt; within = tt; stands = spaced (95 ∷ 58 ∷ h.label) a d r (stands_then (95 ∷ 58 ∷ []) h.label a c d mark h.stands) g }
+      record {
+        subject = Blank (Label h.label);
+        is = h.is;
+        labels = tt;
+        within = tt;
+        stands = spaced (95 ∷ 58 ∷ h.label) a d r (stands_then (95 ∷ 58 ∷ []) h.label a c d mark h.stands) g;
+      }
 
   -- an IRI and a space, as a predicate
   pub predicate_stands : (i a b c d : List ℕ) → a ≡ 60 ∷ b → IriStands limit i b c → c ≡ 32 ∷ d → PredicateStands limit a d
@@ -168,15 +187,18 @@ module _ (limit : ℕ) where
   -- a string and what comes after it are an object, with the tokens of both
   pub literal_object : (n : ℕ) (a b c d : List ℕ) → a ≡ 34 ∷ b → StringStands b c → TailStands limit n c d → ObjectStands limit (n + 1) a d
   literal_object n a b c d e s t =
-      let inner : Stands (flat_map (escaped Plain) s.characters ++ 34 ∷ []) b c = stands_then (flat_map (escaped Plain) s.characters) (34 ∷ []) b (34 ∷ c) c s.stands (stands_byte 34 (34 ∷ c) c (omega arith) refl) in
-      let w : Stands (string_text Plain s.characters) a c = stands_then (34 ∷ []) (flat_map (escaped Plain) s.characters ++ 34 ∷ []) a b c (stands_byte 34 a b (omega arith) e) inner in
+      let inner : Stands (flat_map (escaped Plain) s.characters ++ 34 ∷ []) b c = stands_then (flat_map (escaped Plain) s.characters)
+      (34 ∷ []) b (34 ∷ c) c s.stands (stands_byte 34 (34 ∷ c) c (omega arith) refl) in
+      let w : Stands (string_text Plain s.characters) a c =
+      stands_then (34 ∷ []) (flat_map (escaped Plain) s.characters ++ 34 ∷ []) a b c (stands_byte 34 a b (omega arith) e) inner in
       record {
         object = Literal s.characters t.tail;
         is = (s.are, t.is);
         labels = tt;
         within = t.within;
         count = let k = t.count in omega (arith, k);
-        stands = subst (λ x. Stands x a d) (sym (append_assoc (string_text Plain s.characters) (tail_text Plain t.tail) space)) (stands_then (string_text Plain s.characters) (tail_text Plain t.tail ++ space) a c d w t.stands);
+        stands = subst (λ x. Stands x a d) (sym (append_assoc (string_text Plain s.characters) (tail_text Plain t.tail) space))
+            (stands_then (string_text Plain s.characters) (tail_text Plain t.tail ++ space) a c d w t.stands);
       }
 
   -- the datatype that is not written is an IRI all the same
@@ -205,11 +227,14 @@ module _ (limit : ℕ) where
   }
 
   -- two carets, an IRI that is not that of xsd:string, and a space
-  pub typed_tail : (i a b c d f g : List ℕ) → IsUtf8 i → bytes_eq i xsd_string ≡ false → a ≡ 94 ∷ b → b ≡ 94 ∷ c → c ≡ 60 ∷ d → IriStands limit (chars i) d f → f ≡ 32 ∷ g → TailStands limit 2 a g
+  pub typed_tail : (i a b c d f g : List ℕ) → IsUtf8 i → bytes_eq i xsd_string ≡ false → a ≡ 94 ∷ b → b ≡ 94 ∷ c → c ≡ 60 ∷ d →
+      IriStands limit (chars i) d f → f ≡ 32 ∷ g → TailStands limit 2 a g
   typed_tail i a b c d f g u n e k l h m =
       let other : bytes_eq (chars i) xsd_string ≡ false = same_type i u ∙ n in
-      let carets : Stands (94 ∷ 94 ∷ []) a c = stands_then (94 ∷ []) (94 ∷ []) a b c (stands_byte 94 a b (omega arith) e) (stands_byte 94 b c (omega arith) k) in
-      let all : Stands (type_text Plain false (chars i) ++ space) a g = spaced (94 ∷ 94 ∷ iri_text Plain (chars i)) a f g (stands_then (94 ∷ 94 ∷ []) (iri_text Plain (chars i)) a c f carets (bracketed (chars i) c d f l h)) m in
+      let carets : Stands (94 ∷ 94 ∷ []) a c =
+      stands_then (94 ∷ []) (94 ∷ []) a b c (stands_byte 94 a b (omega arith) e) (stands_byte 94 b c (omega arith) k) in
+      let all : Stands (type_text Plain false (chars i) ++ space) a g = spaced (94 ∷ 94 ∷ iri_text Plain (chars i)) a f g
+      (stands_then (94 ∷ 94 ∷ []) (iri_text Plain (chars i)) a c f carets (bracketed (chars i) c d f l h)) m in
       record {
         tail = Typed (chars i);
         is = h.is;
@@ -234,7 +259,8 @@ module _ (limit : ℕ) where
 module _ (n : ℕ) (roomy : 64 ≤ n) where
   -- a datatype that is not written has 41 characters, fewer than the 64 that are asked
   typed_short : (b : Bool) (i : List ℕ) → (b ≡ true → i ≡ xsd_string) → length (type_text Plain b i) ≤ n → length (iri_text Plain i) ≤ n
-  typed_short true i e l = let k : length (iri_text Plain xsd_string) ≡ 41 = refl in let same : length (iri_text Plain i) ≡ length (iri_text Plain xsd_string) = ap (λ x. length (iri_text Plain x)) (e refl) in omega (arith, k, same)
+  typed_short true i e l = let k : length (iri_text Plain xsd_string) ≡ 41 = refl in let same : length (iri_text Plain i) ≡ length
+      (iri_text Plain xsd_string) = ap (λ x. length (iri_text Plain x)) (e refl) in omega (arith, k, same)
   typed_short false i e l = omega arith
 
   -- so what comes after a string keeps a limit that its text keeps
@@ -281,7 +307,8 @@ end_stands CrLf a b e = stands_then (13 ∷ []) (10 ∷ []) a (10 ∷ b) b (stan
 
 module _ (ending : LineEnding) where
   -- the parts in a row, a dot and the end are a line that may be passed
-  pub line_stands : (form : LineForm) (token limit m n : ℕ) (a b c d f g h : List ℕ) → SubjectStands limit a b → PredicateStands limit b c → ObjectStands limit m c d → GraphStands form limit n d f →
+  pub line_stands : (form : LineForm) (token limit m n : ℕ) (a b c d f g h : List ℕ) → SubjectStands limit a b → PredicateStands limit b c →
+      ObjectStands limit m c d → GraphStands form limit n d f →
       f ≡ 46 ∷ g → g ≡ end_text ending ++ h → 64 ≤ token → length a ≤ token → LineStands ending form token limit (m + n + 3 + end_count ending) a h
   line_stands form token limit m n a b c d f g h s p o r e t roomy l = record {
     quad = q;
@@ -327,12 +354,14 @@ module _ (ending : LineEnding) where
 
   module _ (form : LineForm) (token iri : ℕ) where
     -- what holds of the quads of two lists holds of both in a row
-    each-append : (qs rs : List Quad) → AllByRecursion (IsTaken form token iri) qs → AllByRecursion (IsTaken form token iri) rs → AllByRecursion (IsTaken form token iri) (qs ++ rs)
+    each-append : (qs rs : List Quad) → AllByRecursion (IsTaken form token iri) qs → AllByRecursion (IsTaken form token iri) rs →
+        AllByRecursion (IsTaken form token iri) (qs ++ rs)
     each-append [] rs h k = k
     each-append (q ∷ qs) rs h k = (h.0, each-append qs rs h.1 k)
 
     -- the lines so far and one line more
-    pub lines_more : (n m k : ℕ) (a b c : List ℕ) → LinesStand ending form token iri n m a b → LineStands ending form token iri k b c → LinesStand ending form token iri (n + 1) (m + k) a c
+    pub lines_more : (n m k : ℕ) (a b c : List ℕ) → LinesStand ending form token iri n m a b → LineStands ending form token iri k b c →
+        LinesStand ending form token iri (n + 1) (m + k) a c
     lines_more n m k a b c h l =
         let one = l.quad ∷ [] in
         let line : Stands (ended_lines ending one) b c = subst (λ w. Stands w b c) (sym (append-nil (ended_line ending l.quad))) l.stands in
@@ -341,7 +370,8 @@ module _ (ending : LineEnding) where
           each = each-append h.given one h.each (l.is, tt);
           quad_count = let x = h.quad_count in omega (arith, x, length-append h.given one);
           token_count = let x = h.token_count in let y = l.count in omega (arith, x, y, count-append h.given one);
-          stands = subst (λ w. Stands w a c) (sym (flat_map-append (ended_line ending) h.given one)) (stands_then (ended_lines ending h.given) (ended_lines ending one) a b c h.stands line);
+          stands = subst (λ w. Stands w a c) (sym (flat_map-append (ended_line ending) h.given one))
+              (stands_then (ended_lines ending h.given) (ended_lines ending one) a b c h.stands line);
         }
 
 -- there are no more tokens than bytes, nor quads
@@ -410,7 +440,8 @@ module _ (ending : LineEnding) where
       (omega (arith, quad_long h.quad, k, s, x), omega (arith, x))
 
   -- the bytes before the rest
-  pub lines_front : (form : LineForm) (token iri n m : ℕ) (a b : List ℕ) → LinesStand ending form token iri n m a b → AreLines ending form token iri n m (take (length a - length b) a)
+  pub lines_front : (form : LineForm) (token iri n m : ℕ) (a b : List ℕ) → LinesStand ending form token iri n m a b →
+      AreLines ending form token iri n m (take (length a - length b) a)
   lines_front form token iri n m a b h =
       let w = encode_utf8_all (ended_lines ending h.given) in
       let s = ap length h.stands ∙ length-append w b in

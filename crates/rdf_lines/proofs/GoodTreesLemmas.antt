@@ -60,9 +60,16 @@ module _ (test : List ℕ → Bool) where
       let x = split P (n ++ p ++ o) (graph_tokens s.graph) (split P (head_tokens s) (token Dot s.dot ∷ []) h).0 in
       let y = split P (n ++ p) o x.0 in
       let z = split P n p y.0 in
-      record { subject = name_good s.subject z.0; predicate = z.1.0 refl; object = object_good s.object y.1; graph = graph_good s.graph x.1; labels = label_fits f s.graph g }
+      record {
+        subject = name_good s.subject z.0;
+        predicate = z.1.0 refl;
+        object = object_good s.object y.1;
+        graph = graph_good s.graph x.1;
+        labels = label_fits f s.graph g;
+      }
 
-  pub tree_good : (f : LineForm) (d : Document) (n : ℕ) → Pass (document_tokens d) → AllByRecursion (λ (q : Marked). graph_fits f q.item.graph) (document_quads n d) →
+  pub tree_good : (f : LineForm) (d : Document) (n : ℕ) → Pass (document_tokens d) →
+      AllByRecursion (λ (q : Marked). graph_fits f q.item.graph) (document_quads n d) →
       GoodDocument test f d
   tree_good f (last L.empty e) n h g = tt
   tree_good f (last (L.one s) e) n h g = statement_good f s (split (iri_passes test) (statement_tokens s) (token End e ∷ []) h).0 g.0
@@ -105,9 +112,11 @@ module _ (test : List ℕ → Bool) where
   tree_passes f (last (L.one s) e) h = join (iri_passes test) (statement_tokens s) (token End e ∷ []) (statement_passes f s h) (other End e (λ e. cc), tt)
   tree_passes f (next L.empty e d) h = (other LineEnd e (λ e. cc), tree_passes f d h.1)
   tree_passes f (next (L.one s) e d) h =
-      join (iri_passes test) (statement_tokens s) (token LineEnd e ∷ document_tokens d) (statement_passes f s h.0) (other LineEnd e (λ e. cc), tree_passes f d h.1)
+      join (iri_passes test) (statement_tokens s) (token LineEnd e ∷ document_tokens d) (statement_passes f s h.0)
+      (other LineEnd e (λ e. cc), tree_passes f d h.1)
 
-  pub tree_labels : (f : LineForm) (d : Document) (n : ℕ) → GoodDocument test f d → AllByRecursion (λ (q : Marked). graph_fits f q.item.graph) (document_quads n d)
+  pub tree_labels : (f : LineForm) (d : Document) (n : ℕ) → GoodDocument test f d →
+      AllByRecursion (λ (q : Marked). graph_fits f q.item.graph) (document_quads n d)
   tree_labels f (last L.empty e) n h = tt
   tree_labels f (last (L.one s) e) n h = (fits_label f s.graph h.labels, tt)
   tree_labels f (next L.empty e d) n h = tree_labels f d (n + length (line_tokens L.empty) + 1) h.1

@@ -32,7 +32,8 @@ absolute_counts : (test : List ℕ → Bool) (i : List ℕ) (m : Mode) → Count
 absolute_counts test i m = cond_both (test i) (goes m) (refuses (iri_refused i)) (λ x. Counts x 0) (λ e. refl) (λ e. tt)
 
 -- after an object only the dot gives one
-object_counts : (test : List ℕ → Bool) (f : LineForm) (s : Subject) (p : List ℕ) (o : Term) (k : Kind) (l : Leaf) → Counts (object_then test f s p o k l) (is_dot k)
+object_counts : (test : List ℕ → Bool) (f : LineForm) (s : Subject) (p : List ℕ) (o : Term) (k : Kind) (l : Leaf) →
+    Counts (object_then test f s p o k l) (is_dot k)
 object_counts test f s p o Dot l = refl
 object_counts test NQuads s p o IriRef l = absolute_counts test (iri_of l) _
 object_counts test NQuads s p o LabelNode l = refl

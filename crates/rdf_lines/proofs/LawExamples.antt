@@ -105,7 +105,13 @@ ascii_written_so = refl
 -- they are quads that may be written
 faces_writable : Writable Tagged faces
 unfolding has
-faces_writable = ((record { subject = label_is; predicate = record { characters = refl; scheme = refl }; object = (refl, tag_is); graph = tt }, record { subject = tt; object = tt; graph = tt }), tt)
+faces_writable = (
+  (
+    record { subject = label_is; predicate = record { characters = refl; scheme = refl }; object = (refl, tag_is); graph = tt },
+    record { subject = tt; object = tt; graph = tt },
+  ),
+  tt,
+)
 
 -- the label is ASCII, which the law of bytes asks
 low_label : AllByRecursion (λ c. c < 128) label
@@ -226,12 +232,15 @@ example_is_writable = document_writable NQuads 12 10 bytes (map (rename Tagged) 
 -- the lines of renamed quads are read to their end
 pub example_lines_are_read : IsReadToItsEnd (in_lines NQuads 64 64) (encode_utf8_all (text Kept Plain (map (rename Tagged) example)))
 example_lines_are_read =
-    document_read_back Plain NQuads 12 10 bytes (map (rename Tagged) example) (short_reads_back 10) example_is_read.whole 64 64 (lit≤ tt) (lit≤ tt) (lit≤ tt) (lit≤ tt) (lit≤ tt)
+    document_read_back Plain NQuads 12 10 bytes (map (rename Tagged) example) (short_reads_back 10) example_is_read.whole 64 64 (lit≤ tt)
+    (lit≤ tt) (lit≤ tt) (lit≤ tt) (lit≤ tt)
 
 -- and with a word, where a token may have two characters more
-pub prefixed_lines_are_read : IsReadToItsEnd (in_lines NQuads 66 64) (encode_utf8_all (text_in (record { style = Kept; escapes = Plain; prefix = word }) (map (rename Tagged) example)))
+pub prefixed_lines_are_read : IsReadToItsEnd (in_lines NQuads 66 64)
+    (encode_utf8_all (text_in (record { style = Kept; escapes = Plain; prefix = word }) (map (rename Tagged) example)))
 prefixed_lines_are_read =
-    form_document_read Plain word NQuads 12 10 bytes (map (rename Tagged) example) refl (short_reads_back 10) example_is_read.whole 64 64 (lit≤ tt) (lit≤ tt) (lit≤ tt) (lit≤ tt) (lit≤ tt)
+    form_document_read Plain word NQuads 12 10 bytes (map (rename Tagged) example) refl (short_reads_back 10) example_is_read.whole 64 64
+    (lit≤ tt) (lit≤ tt) (lit≤ tt) (lit≤ tt) (lit≤ tt)
 
 -- a line of N-Triples
 abbrev one_line : List ℕ
@@ -242,7 +251,8 @@ spelled k n w = record { kind = k; text = w; at = record { offset = n; line = 1 
 
 abbrev line_tokens : List Token
 line_tokens =
-    spelled IriRef 0 (codes "<a:>") ∷ spelled IriRef 5 (codes "<a:>") ∷ spelled IriRef 10 (codes "<a:>") ∷ spelled Dot 14 (codes ".") ∷ spelled LineEnd 15 (codes "\n") ∷ []
+    spelled IriRef 0 (codes "<a:>") ∷ spelled IriRef 5 (codes "<a:>") ∷ spelled IriRef 10 (codes "<a:>") ∷ spelled Dot 14
+    (codes ".") ∷ spelled LineEnd 15 (codes "\n") ∷ []
 
 -- the scanner's tokens of it, computed
 line_read : (tokens_of Lines 8 one_line false).tokens ≡ line_tokens
@@ -262,14 +272,17 @@ line_due : Due (documents NTriples) line_tokens (line_quad ∷ [])
 line_due = due_ran NTriples line_tokens Begin (line_quad ∷ []) line_ran
 
 -- A reader that has read it has put its quad, and no other.
-pub line_is_put : (r : Driven LineAt) (iri : ℕ) (quads : List Quad) → r.scanner.limit ≡ 8 → HasRead line_words r (record { form = NTriples; iri = iri }) one_line quads → quads ≡ line_quad ∷ []
+pub line_is_put : (r : Driven LineAt) (iri : ℕ) (quads : List Quad) → r.scanner.limit ≡ 8 →
+    HasRead line_words r (record { form = NTriples; iri = iri }) one_line quads → quads ≡ line_quad ∷ []
 line_is_put r iri quads l h =
     let due = (quads_due r (record { form = NTriples; iri = iri }) one_line quads h).1 in
-    let here : Due (documents NTriples) (tokens_of Lines 8 one_line false).tokens quads = subst (λ n. Due (documents NTriples) (tokens_of Lines n one_line false).tokens quads) l due in
+    let here : Due (documents NTriples) (tokens_of Lines 8 one_line false).tokens quads =
+    subst (λ n. Due (documents NTriples) (tokens_of Lines n one_line false).tokens quads) l due in
     due_settled NTriples line_tokens quads (line_quad ∷ []) (subst (λ ts. Due (documents NTriples) ts quads) line_read here) line_due
 
 -- Each document that begins with the line has its quad first.
-pub line_is_first : (more : List Token) (all : List Marked) → documents NTriples (line_tokens ++ more) all → (rest : List Quad) × (unmarked all ≡ line_quad ∷ rest)
+pub line_is_first : (more : List Token) (all : List Marked) → documents NTriples (line_tokens ++ more) all →
+    (rest : List Quad) × (unmarked all ≡ line_quad ∷ rest)
 line_is_first more all d = due_begins NTriples line_tokens more (line_quad ∷ []) all line_due d
 
 -- the tree of the line, and of the end after it
@@ -279,7 +292,13 @@ spells n w = record { text = w; at = record { offset = n; line = 1 } }
 abbrev line_tree : Document
 line_tree =
     next
-    (one (record { subject = Ref (spells 0 (codes "<a:>")); predicate = spells 5 (codes "<a:>"); object = Named (Ref (spells 10 (codes "<a:>"))); graph = None; dot = spells 14 (codes ".") }))
+    (one (record {
+      subject = Ref (spells 0 (codes "<a:>"));
+      predicate = spells 5 (codes "<a:>");
+      object = Named (Ref (spells 10 (codes "<a:>")));
+      graph = None;
+      dot = spells 14 (codes ".");
+    }))
     (spells 15 (codes "\n")) (last empty (record { text = []; at = record { offset = 16; line = 2 } }))
 
 -- Whatever tree its tokens have, the quad is the same, and its mark is that of the object.
@@ -296,7 +315,8 @@ text_is_split = refl
 -- each of the two written lines is a document, and they have the quads of both
 pub example_is_its_lines : AreGoodLines (in_lines NQuads 12 10) true (split_lines bytes) (map (rename Tagged) example)
 unfolding digits encode
-example_is_its_lines = (documents_lines NQuads 12 10 bytes (map (rename Tagged) example) (lit≤ tt)).0 (record { document = short_reads_back 10; within = within })
+example_is_its_lines = (documents_lines NQuads 12 10 bytes (map (rename Tagged) example) (lit≤ tt)).0
+    (record { document = short_reads_back 10; within = within })
 
 -- a line without a token, and an empty one
 abbrev two_lines : List ℕ

@@ -42,8 +42,10 @@ free k = inr (refl, refl)
 -- a line end is one character
 one_long : (w : List ℕ) → Matches (shape Lines LineEnd) w → length w ≡ 1
 unfolding shape
-one_long w (inl m) = ap length m.4 ∙ (length-append m.0 m.1 ∙ (let a : length m.0 ≡ 1 = ap length m.2.2 in let b : length m.1 ≡ 0 = ap length m.3 in omega arith))
-one_long w (inr m) = ap length m.4 ∙ (length-append m.0 m.1 ∙ (let a : length m.0 ≡ 1 = ap length m.2.2 in let b : length m.1 ≡ 0 = ap length m.3 in omega arith))
+one_long w (inl m) = ap length m.4
+    ∙ (length-append m.0 m.1 ∙ (let a : length m.0 ≡ 1 = ap length m.2.2 in let b : length m.1 ≡ 0 = ap length m.3 in omega arith))
+one_long w (inr m) = ap length m.4
+    ∙ (length-append m.0 m.1 ∙ (let a : length m.0 ≡ 1 = ap length m.2.2 in let b : length m.1 ≡ 0 = ap length m.3 in omega arith))
 
 -- a text with a shape that has a line end in it is that line end
 alone : (k : Kind) (y v : List ℕ) (c : ℕ) → IsEnd c → Matches (shape Lines k) (y ++ c ∷ v) → (k ≡ LineEnd) × (length y ≡ 0) × (length v ≡ 0)
@@ -85,9 +87,11 @@ blank_stops : (b : Bool) (y : List ℕ) (c : ℕ) → IsEnd c → blank Lines b 
 blank_stops false [] c e = at_end (λ c. blank Lines false (c ∷ []) ≤ 0) (omega arith) (omega arith) c e
 blank_stops true [] c e = at_end (λ c. blank Lines true (c ∷ []) ≤ 0) (omega arith) (omega arith) c e
 blank_stops false (x ∷ y) c e =
-    blank_within (is_space Lines x) (x == 35) (blank Lines false (y ++ c ∷ [])) (blank Lines true (y ++ c ∷ [])) (length y) (blank_stops false y c e) (blank_stops true y c e)
+    blank_within (is_space Lines x) (x == 35) (blank Lines false (y ++ c ∷ [])) (blank Lines true (y ++ c ∷ [])) (length y)
+    (blank_stops false y c e) (blank_stops true y c e)
 blank_stops true (x ∷ y) c e =
-    comment_within (is_line_end x) (is_space Lines x) (blank Lines false (y ++ c ∷ [])) (blank Lines true (y ++ c ∷ [])) (length y) (blank_stops false y c e) (blank_stops true y c e)
+    comment_within (is_line_end x) (is_space Lines x) (blank Lines false (y ++ c ∷ [])) (blank Lines true (y ++ c ∷ [])) (length y)
+    (blank_stops false y c e) (blank_stops true y c e)
 
 -- a step stops as complete where nothing is left at the end of the input
 pub step_complete : (limit : ℕ) (t : Tail) (w : List ℕ) → step Lines limit t w ≡ stop complete → (t ≡ ended) × (w ≡ [])
@@ -201,14 +205,16 @@ reads (suc f) limit b p y c e l = at (λ q u h. reads f limit false q u c e h) (
     head : ℕ → Kind → Token
     head n k = record { kind = k; text = take n r; at = q }
 
-    through : (n : ℕ) (k : Kind) → step Lines limit goes_on r ≡ token n k → (0 < n) × (n ≤ length r) → (h : (x : Place) (u : List ℕ) → length u < f → Through limit false x (u ++ c ∷ []) ⊎ Stuck limit false x (u ++ c ∷ [])) →
+    through : (n : ℕ) (k : Kind) → step Lines limit goes_on r ≡ token n k → (0 < n) × (n ≤ length r) →
+        (h : (x : Place) (u : List ℕ) → length u < f → Through limit false x (u ++ c ∷ []) ⊎ Stuck limit false x (u ++ c ∷ [])) →
         Through limit b p w ⊎ Stuck limit b p w
     through n k s i h = ⊎_elim within whole (cases_lt n (suc (length z)))
       where
         size : length r ≡ length z + 1
         size = ap length left ∙ length-append z (c ∷ [])
 
-        on : (t : Tail) (v : List ℕ) → tokens Lines limit t b p (w ++ v) ≡ with_token (head n k) (tokens Lines limit t false (past q (take n r)) (drop n r ++ v))
+        on : (t : Tail) (v : List ℕ) → tokens Lines limit t b p (w ++ v) ≡ with_token (head n k)
+            (tokens Lines limit t false (past q (take n r)) (drop n r ++ v))
         on t v = more_token Lines limit b p w n k s t v
 
         whole : suc (length z) ≤ n → Through limit b p w ⊎ Stuck limit b p w
@@ -216,7 +222,8 @@ reads (suc f) limit b p y c e l = at (λ q u h. reads f limit false q u c e h) (
             let long : length r ≤ n = omega (arith, size, g) in
             let d : drop n r ≡ [] = drop_all n r long in
             let all : take n r ≡ z ++ c ∷ [] = take_all n r long ∙ left in
-            let shaped : Matches (shape Lines k) (z ++ c ∷ []) = shape_matches k (z ++ c ∷ []) (subst (Shape Lines k) all (step-token Lines limit goes_on r n k s).0) in
+            let shaped : Matches (shape Lines k) (z ++ c ∷ []) =
+            shape_matches k (z ++ c ∷ []) (subst (Shape Lines k) all (step-token Lines limit goes_on r n k s).0) in
             let end : past q (take n r) ≡ past p w = sym (ap (past (past q (take n r))) d) ∙ past_token p w m n in
             inl
             (record {
@@ -269,9 +276,11 @@ pub line_read : (limit : ℕ) (p : Place) (y : List ℕ) (c : ℕ) → IsEnd c �
 line_read limit p y c e = reads (suc (length y)) limit false p y c e (omega arith)
 
 -- nothing more is the end
-pub end_read : (limit : ℕ) (p : Place) → tokens Lines limit ended false p [] ≡ record { tokens = record { kind = End; text = []; at = p } ∷ []; outcome = complete; at = p }
+pub end_read : (limit : ℕ) (p : Place) → tokens Lines limit ended false p []
+    ≡ record { tokens = record { kind = End; text = []; at = p } ∷ []; outcome = complete; at = p }
 unfolding step
-end_read limit p = at_stop Lines limit ended false p [] complete (cond-false (over Lines limit []) _ _ (and_left (nat_lt limit 0) _ (le-ltb limit 0 (omega arith))))
+end_read limit p = at_stop Lines limit ended false p [] complete
+    (cond-false (over Lines limit []) _ _ (and_left (nat_lt limit 0) _ (le-ltb limit 0 (omega arith))))
 
 -- no token begins with a byte order mark
 no_kind : (k : Kind) → possible (after (shape Lines k) 0xFEFF) ≡ false
@@ -293,4 +302,5 @@ mark_stops limit t p w = by (step Lines limit t (0xFEFF ∷ w)) refl
         let d = step_complete limit t (0xFEFF ∷ w) (s ∙ ap stop o') in
         let h : 0xFEFF ∷ w ≡ [] = d.1 in
         cc
-    by (token n k) s e = shaped n k (step_token Lines limit t (0xFEFF ∷ w) n k s).0 (shape_matches k (take n (0xFEFF ∷ w)) (step-token Lines limit t (0xFEFF ∷ w) n k s).0)
+    by (token n k) s e = shaped n k (step_token Lines limit t (0xFEFF ∷ w) n k s).0
+        (shape_matches k (take n (0xFEFF ∷ w)) (step-token Lines limit t (0xFEFF ∷ w) n k s).0)

@@ -34,7 +34,8 @@ pub knows_next : (g : LineAt) (kind : Kind) (answer : Bool) → ((l : Leaf) → 
     KnowsNext line_words (λ x. trees x.form) g kind answer
 knows_next g kind answer is x ts qs r t k =
     let same : answer ≡ is_accepted (accept any_iri x.form g.mode t.kind (leaf_of t)) =
-    is (leaf_of t) ∙ ap (λ y. is_accepted (accept any_iri y.form g.mode kind (leaf_of t))) r.0 ∙ ap (λ y. is_accepted (accept any_iri x.form g.mode y (leaf_of t))) (sym k) in
+    is (leaf_of t) ∙ ap (λ y. is_accepted (accept any_iri y.form g.mode kind (leaf_of t))) r.0
+    ∙ ap (λ y. is_accepted (accept any_iri x.form g.mode y (leaf_of t))) (sym k) in
     subst (λ b. (b ≡ true) ↔ Shaped (trees x.form) (ts ++ t ∷ [])) (sym same) (one_more x.form ts t g.mode qs (in_trees x.iri x.form ts g.mode qs r.1))
 
 -- after a string, what may follow is what may follow an object, but for a tag and `^^`

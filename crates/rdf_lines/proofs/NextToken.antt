@@ -57,12 +57,14 @@ cut_kind w v t m l = no_kind (w ++ take (suc m) v) (λ n. t m l [] (subst (Match
 -- a text that is cut does not go on
 cut_live : (w v : List ℕ) → Cut w v → (m : ℕ) → m < length v → is_live Lines (w ++ take (suc m) v) ≡ false
 cut_live w v t m l =
-    ⊎_elim (λ e. absurd (let x = live-matches Lines (w ++ take (suc m) v) e in t m l (x.0 ∷ x.1) x.2)) (λ e. e) (cases_Bool (is_live Lines (w ++ take (suc m) v)))
+    ⊎_elim (λ e. absurd (let x = live-matches Lines (w ++ take (suc m) v) e in t m l (x.0 ∷ x.1) x.2)) (λ e. e)
+    (cases_Bool (is_live Lines (w ++ take (suc m) v)))
 
 -- the whole text begins nothing longer, where that holds of the token alone, or something comes after it
 pub cut_dead : (w v : List ℕ) → Cut w v → (v ≡ [] → is_live Lines w ≡ false) → is_live Lines (w ++ v) ≡ false
 cut_dead w [] t e = ap (is_live Lines) (append-nil w) ∙ e refl
-cut_dead w (x ∷ v) t e = ap (λ u. is_live Lines (w ++ u)) (sym (take_all (suc (length v)) (x ∷ v) (omega arith))) ∙ cut_live w (x ∷ v) t (length v) (omega arith)
+cut_dead w (x ∷ v) t e = ap (λ u. is_live Lines (w ++ u)) (sym (take_all (suc (length v)) (x ∷ v) (omega arith)))
+    ∙ cut_live w (x ∷ v) t (length v) (omega arith)
 
 -- The first character after it cannot stand in the shape.
 pub cut_by_other : (c : ℕ) (k : Kind) → Begins c k → (w : List ℕ) (x : ℕ) (v : List ℕ) → uses (shape Lines k) x ≡ false → Cut (c ∷ w) (x ∷ v)
@@ -95,7 +97,8 @@ longest_high c w v k e t (suc n) l =
     let z : length (c ∷ w) + suc n ≡ suc (length (c ∷ w) + n) = omega arith in
     let f : take (suc (length (c ∷ w) + n)) (c ∷ w ++ v) ≡ c ∷ w ++ take (suc n) v = ap (λ x. take x (c ∷ w ++ v)) (sym z) ∙ take-append (c ∷ w) v (suc n) in
     ap (longest Lines (c ∷ w ++ v)) z
-    ∙ (none_longer (suc (length (c ∷ w) + n)) false (kind_of Lines (take (suc (length (c ∷ w) + n)) (c ∷ w ++ v))) (longest Lines (c ∷ w ++ v) (length (c ∷ w) + n))
+    ∙ (none_longer (suc (length (c ∷ w) + n)) false (kind_of Lines (take (suc (length (c ∷ w) + n)) (c ∷ w ++ v)))
+    (longest Lines (c ∷ w ++ v) (length (c ∷ w) + n))
     (ap (kind_of Lines) f ∙ cut_kind (c ∷ w) v t n (omega arith))
     ∙ longest_high c w v k e t n (omega arith))
 
@@ -110,7 +113,8 @@ not_over limit c w v t l = ⊎_elim long (λ h. and_left _ _ (le-ltb _ _ h)) (ca
         let n : limit + 1 ≡ length (c ∷ w) + suc m = omega arith in
         let within : m < length v = omega arith in
         let front : take (limit + 1) (c ∷ w ++ v) ≡ c ∷ w ++ take (suc m) v = ap (λ k. take k (c ∷ w ++ v)) n ∙ take-append (c ∷ w) v (suc m) in
-        let kind : is_some (kind_of Lines (take (limit + 1) (c ∷ w ++ v))) ≡ false = ap (λ x. is_some (kind_of Lines x)) front ∙ ap is_some (cut_kind (c ∷ w) v t m within) in
+        let kind : is_some (kind_of Lines (take (limit + 1) (c ∷ w ++ v))) ≡ false =
+        ap (λ x. is_some (kind_of Lines x)) front ∙ ap is_some (cut_kind (c ∷ w) v t m within) in
         let live : is_live Lines (take (limit + 1) (c ∷ w ++ v)) ≡ false = ap (is_live Lines) front ∙ cut_live (c ∷ w) v t m within in
         and_right _ _ (ap (λ b. b || is_live Lines (take (limit + 1) (c ∷ w ++ v))) kind ∙ live)
 
@@ -145,12 +149,14 @@ next_token tail limit p c w v k z e f t dead l =
     let a : take n (rest_of Lines false W) ≡ c ∷ w = ap (take n) r ∙ take_at (c ∷ w) v n refl in
     let d : drop n (rest_of Lines false W) ≡ v = ap (drop n) r ∙ drop_at (c ∷ w) v n refl in
     at_token Lines limit tail false p W n k s
-    ∙ (ap (λ x. with_token (record { kind = k; text = take n (rest_of Lines false W); at = x }) (tokens Lines limit tail false (past x (take n (rest_of Lines false W))) (drop n (rest_of Lines false W)))) q
+    ∙ (ap (λ x. with_token (record { kind = k; text = take n (rest_of Lines false W); at = x })
+    (tokens Lines limit tail false (past x (take n (rest_of Lines false W))) (drop n (rest_of Lines false W)))) q
     ∙ (ap (λ x. with_token (record { kind = k; text = x; at = p }) (tokens Lines limit tail false (past p x) (drop n (rest_of Lines false W)))) a
     ∙ ap (λ x. with_token (record { kind = k; text = c ∷ w; at = p }) (tokens Lines limit tail false (past p (c ∷ w)) x)) d))
 
 -- a space is taken off
-pub skip_space : (tail : Tail) (limit : ℕ) (p : Place) (v : List ℕ) → tokens Lines limit tail false p (32 ∷ v) ≡ tokens Lines limit tail false (past p (32 ∷ [])) v
+pub skip_space : (tail : Tail) (limit : ℕ) (p : Place) (v : List ℕ) →
+    tokens Lines limit tail false p (32 ∷ v) ≡ tokens Lines limit tail false (past p (32 ∷ [])) v
 skip_space tail limit p v = tokens-step Lines limit tail false p (32 ∷ v) ∙ sym (tokens-step Lines limit tail false (past p (32 ∷ [])) v)
 
 -- No longer shape begins so at all.

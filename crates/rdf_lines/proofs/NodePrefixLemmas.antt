@@ -88,7 +88,8 @@ prefixed_node p h (Anon n) i c = absurd c
 prefixed_node p h (Cell n) i c = absurd c
 
 -- and so can a subject
-prefixed_subject : (p : List ℕ) → IsNodePrefix p → (s : Subject) → IsSubject s → CanWriteSubject Kept s → IsSubject (prefix_subject p s) × CanWriteSubject Kept (prefix_subject p s)
+prefixed_subject : (p : List ℕ) → IsNodePrefix p → (s : Subject) → IsSubject s → CanWriteSubject Kept s →
+    IsSubject (prefix_subject p s) × CanWriteSubject Kept (prefix_subject p s)
 prefixed_subject p h (Iri i) f c = (f, tt)
 prefixed_subject p h (Blank n) f c = prefixed_node p h n f c
 
@@ -98,7 +99,8 @@ prefixed_term p h (Resource s) f c = prefixed_subject p h s f c
 prefixed_term p h (Literal w t) f c = (f, tt)
 
 -- and so can a graph label
-prefixed_graph : (p : List ℕ) → IsNodePrefix p → (g : Option Subject) → IsGraph g → CanWriteGraph Kept g → IsGraph (prefix_graph p g) × CanWriteGraph Kept (prefix_graph p g)
+prefixed_graph : (p : List ℕ) → IsNodePrefix p → (g : Option Subject) → IsGraph g → CanWriteGraph Kept g →
+    IsGraph (prefix_graph p g) × CanWriteGraph Kept (prefix_graph p g)
 prefixed_graph p h None f c = (tt, tt)
 prefixed_graph p h (Some g) f c = prefixed_subject p h g f c
 

@@ -41,7 +41,8 @@ begins AfterDot e = absurd (let h : false ≡ true = e in cc)
 begins Finished e = absurd (let h : false ≡ true = e in cc)
 
 -- what a grammar knows of lines, its reader knows
-pub at_reader : (ending : LineEnding) (r : Driven LineAt) (g : LineAt) → g ≡ r.grammar → r.scanner.limit ≡ r.grammar.limit → (bytes : List ℕ) (quads tokens : ℕ) →
+pub at_reader : (ending : LineEnding) (r : Driven LineAt) (g : LineAt) → g ≡ r.grammar → r.scanner.limit ≡ r.grammar.limit →
+    (bytes : List ℕ) (quads tokens : ℕ) →
     AreLines ending g.rules.form g.limit g.rules.iri quads tokens bytes → (g.mode ≡ Begin) × (2 ≤ g.limit) →
     AreLines ending r.grammar.rules.form r.scanner.limit r.grammar.rules.iri quads tokens bytes × ((r.grammar.mode ≡ Begin) × (2 ≤ r.scanner.limit))
 at_reader ending r g e l bytes quads tokens lines b =
@@ -58,7 +59,8 @@ passes_none ending r = record {
   grammar = refl;
   limit = refl;
   done = refl;
-  read = λ x before quads h. subst (λ u. HasRead line_words r x u (quads ++ [])) (sym (append-nil before)) (subst (HasRead line_words r x before) (sym (append-nil quads)) h);
+  read = λ x before quads h. subst (λ u. HasRead line_words r x u (quads ++ [])) (sym (append-nil before))
+      (subst (HasRead line_words r x before) (sym (append-nil quads)) h);
 }
 
 module _ (ending : LineEnding) (r : Driven LineAt) (begin : r.grammar.mode ≡ Begin) (roomy : 2 ≤ r.scanner.limit) (bytes : List ℕ) (quads tokens : ℕ)
@@ -70,7 +72,8 @@ module _ (ending : LineEnding) (r : Driven LineAt) (begin : r.grammar.mode ≡ B
   leads = (lines.given, lines.quad_count, back)
 
   pub passes : (new : Driven LineAt) → new ≡ passed r bytes quads tokens →
-      ((more : List Quad) → quads ≡ length more → LeadsBack line_words r bytes more tokens → (x : Rules) (before : List ℕ) (given : List Quad) → HasRead line_words r x before given → HasRead line_words new x (before ++ bytes) (given ++ more)) →
+      ((more : List Quad) → quads ≡ length more → LeadsBack line_words r bytes more tokens → (x : Rules) (before : List ℕ)
+      (given : List Quad) → HasRead line_words r x before given → HasRead line_words new x (before ++ bytes) (given ++ more)) →
       PassesLines ending r bytes new
   passes new e reads = record {
     given = lines.given;

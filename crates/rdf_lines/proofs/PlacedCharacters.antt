@@ -42,7 +42,8 @@ run_placed bs from stop r =
     let n = stop - from in
     let run = take n (drop from bs) in
     let whole : from + n ≡ stop = omega (arith, r.from) in
-    let plain : flat_map (escaped Plain) run ≡ run = bytes_stand run (slice_passes (is_short_byte 34) bs from n (omega (arith, r.from, r.within)) (λ k a b. r.pass k a (omega (arith, r.from)))) in
+    let plain : flat_map (escaped Plain) run ≡ run = bytes_stand run
+    (slice_passes (is_short_byte 34) bs from n (omega (arith, r.from, r.within)) (λ k a b. r.pass k a (omega (arith, r.from)))) in
     ap (λ x. flat_map (escaped Plain) (take from bs) ++ x) (sym plain)
     ∙ (sym (flat_map-append (escaped Plain) (take from bs) run)
     ∙ ap (flat_map (escaped Plain)) (sym (take-add from n bs) ∙ ap (λ m. take m bs) whole))

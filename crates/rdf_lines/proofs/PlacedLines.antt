@@ -36,19 +36,22 @@ plain_iri_bytes i = between 60 62 (flat_map (written Plain) (iri_chars i)) (omeg
 pub placed_label : (s : Style) (e : Escapes) (prefix word : List ℕ) (l : LabelView) → encode_utf8_all prefix ≡ word
     → label_bytes s word l.text.now ≡ node_bytes (record { style = s; escapes = e; prefix = prefix }) (node_ref.Label l)
 placed_label Kept e prefix word l h = sym (encoded_node (record { style = Kept; escapes = e; prefix = prefix }) (node_ref.Label l) word l.text.now h refl)
-placed_label Tagged e prefix word l h = sym (encoded_node (record { style = Tagged; escapes = e; prefix = prefix }) (node_ref.Label l) word (110 ∷ l.text.now) h refl)
+placed_label Tagged e prefix word l h =
+    sym (encoded_node (record { style = Tagged; escapes = e; prefix = prefix }) (node_ref.Label l) word (110 ∷ l.text.now) h refl)
 
 -- the offset of a node without a label
 pub placed_anon : (s : Style) (e : Escapes) (prefix word : List ℕ) (n : ℕ) → encode_utf8_all prefix ≡ word
     → number_bytes s word 97 n ≡ node_bytes (record { style = s; escapes = e; prefix = prefix }) (node_ref.Anon n)
 placed_anon Kept e prefix word n h = refl
-placed_anon Tagged e prefix word n h = sym (encoded_node (record { style = Tagged; escapes = e; prefix = prefix }) (node_ref.Anon n) word (97 ∷ decimal n) h refl)
+placed_anon Tagged e prefix word n h =
+    sym (encoded_node (record { style = Tagged; escapes = e; prefix = prefix }) (node_ref.Anon n) word (97 ∷ decimal n) h refl)
 
 -- the same of a cell
 pub placed_cell : (s : Style) (e : Escapes) (prefix word : List ℕ) (n : ℕ) → encode_utf8_all prefix ≡ word
     → number_bytes s word 99 n ≡ node_bytes (record { style = s; escapes = e; prefix = prefix }) (node_ref.Cell n)
 placed_cell Kept e prefix word n h = refl
-placed_cell Tagged e prefix word n h = sym (encoded_node (record { style = Tagged; escapes = e; prefix = prefix }) (node_ref.Cell n) word (99 ∷ decimal n) h refl)
+placed_cell Tagged e prefix word n h =
+    sym (encoded_node (record { style = Tagged; escapes = e; prefix = prefix }) (node_ref.Cell n) word (99 ∷ decimal n) h refl)
 
 -- the line of three IRIs is that of their quad
 pub plain_iris_bytes : (f : Form) (s p o : IriView) → f.escapes ≡ Plain → iris_bytes s p o ≡ line_bytes f (iris_quad s p o)
@@ -86,7 +89,8 @@ usual_graph f (Some (subject.Node n)) e h = absurd h
 
 -- the line of a short quad in the usual form is its line
 pub short_line : (f : WrittenForm) (q : QuadRef) → IsShort f q →
-    (subject_bytes usual q.subject ++ space) ++ (iri_bytes Plain q.predicate ++ space) ++ (term_bytes usual q.object ++ space) ++ graph_bytes usual q.graph ++ 46 ∷ 10 ∷ []
+    (subject_bytes usual q.subject ++ space) ++ (iri_bytes Plain q.predicate ++ space) ++ (term_bytes usual q.object ++ space)
+    ++ graph_bytes usual q.graph ++ 46 ∷ 10 ∷ []
     ≡ line_bytes (form_of f) q
 short_line f q h =
     let e = h.plain in

@@ -23,7 +23,8 @@ same_lanes (x ∷ xs) (y ∷ ys) e = by (x == y) (mask_l (zip2 (λ a b. not (a =
     by false m h = grind (arith, nat_tests)
 
 -- xsd:string, by its first sixteen bytes, the sixteen after them and its last sixteen
-pub is_string : (bs : List ℕ) → length bs ≡ 39 → bytes_eq (take 16 bs) (take 16 xsd_string) ≡ true → bytes_eq (take 16 (drop 16 bs)) (take 16 (drop 16 xsd_string)) ≡ true →
+pub is_string : (bs : List ℕ) → length bs ≡ 39 → bytes_eq (take 16 bs) (take 16 xsd_string) ≡ true →
+    bytes_eq (take 16 (drop 16 bs)) (take 16 (drop 16 xsd_string)) ≡ true →
     bytes_eq (take 16 (drop 23 bs)) (take 16 (drop 23 xsd_string)) ≡ true → bs ≡ xsd_string
 is_string bs n p q r =
     let first : take 16 bs ≡ take 16 xsd_string = (bytes_eq-Decides (take 16 bs) (take 16 xsd_string)).0 p in
@@ -33,17 +34,20 @@ is_string bs n p q r =
     let whole : drop 23 bs ≡ drop 23 xsd_string = sym (take_all 16 (drop 23 bs) (omega arith)) ∙ third in
     let rest : drop 32 bs ≡ drop 32 xsd_string = sym (drop-drop 9 23 bs) ∙ ap (drop 9) whole in
     let inner : drop 16 bs ≡ drop 16 xsd_string =
-    sym (take-append-drop 16 (drop 16 bs)) ∙ (ap (λ v. v ++ drop 16 (drop 16 bs)) second ∙ ap (λ v. take 16 (drop 16 xsd_string) ++ v) (drop-drop 16 16 bs ∙ rest)) in
+    sym (take-append-drop 16 (drop 16 bs))
+    ∙ (ap (λ v. v ++ drop 16 (drop 16 bs)) second ∙ ap (λ v. take 16 (drop 16 xsd_string) ++ v) (drop-drop 16 16 bs ∙ rest)) in
     sym (take-append-drop 16 bs) ∙ (ap (λ v. v ++ drop 16 bs) first ∙ ap (λ v. take 16 xsd_string ++ v) inner)
 
 -- so the three tests are one
 pub string_by : (bs : List ℕ) → length bs ≡ 39 →
-    (bytes_eq (take 16 bs) (take 16 xsd_string) && bytes_eq (take 16 (drop 16 bs)) (take 16 (drop 16 xsd_string)) && bytes_eq (take 16 (drop 23 bs)) (take 16 (drop 23 xsd_string)))
+    (bytes_eq (take 16 bs) (take 16 xsd_string) && bytes_eq (take 16 (drop 16 bs)) (take 16 (drop 16 xsd_string)) && bytes_eq
+    (take 16 (drop 23 bs)) (take 16 (drop 23 xsd_string)))
     ≡ bytes_eq bs xsd_string
 string_by bs n = both_ways _ _ from to
   where
     parts : Bool
-    parts = bytes_eq (take 16 bs) (take 16 xsd_string) && bytes_eq (take 16 (drop 16 bs)) (take 16 (drop 16 xsd_string)) && bytes_eq (take 16 (drop 23 bs)) (take 16 (drop 23 xsd_string))
+    parts = bytes_eq (take 16 bs) (take 16 xsd_string) && bytes_eq (take 16 (drop 16 bs)) (take 16 (drop 16 xsd_string)) && bytes_eq
+        (take 16 (drop 23 bs)) (take 16 (drop 23 xsd_string))
 
     from : parts ≡ true → bytes_eq bs xsd_string ≡ true
     from t =
@@ -53,4 +57,5 @@ string_by bs n = both_ways _ _ from to
 
     to : bytes_eq bs xsd_string ≡ true → parts ≡ true
     to t = let e : bs ≡ xsd_string = (bytes_eq-Decides bs xsd_string).0 t in
-        ap (λ v. bytes_eq (take 16 v) (take 16 xsd_string) && bytes_eq (take 16 (drop 16 v)) (take 16 (drop 16 xsd_string)) && bytes_eq (take 16 (drop 23 v)) (take 16 (drop 23 xsd_string))) e
+        ap (λ v. bytes_eq (take 16 v) (take 16 xsd_string) && bytes_eq (take 16 (drop 16 v)) (take 16 (drop 16 xsd_string)) && bytes_eq
+        (take 16 (drop 23 v)) (take 16 (drop 23 xsd_string))) e

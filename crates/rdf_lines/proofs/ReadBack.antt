@@ -36,7 +36,8 @@ HasTree s e qs limit =
     × IsPlain has_scheme NQuads (tokens_of Lines limit (encode_utf8_all (text s e qs)) true).tokens (map (rename s) qs)
 
 -- So it is where no token is longer than the limit.
-short_read_back : (s : Style) (e : Escapes) (qs : List Quad) (limit : ℕ) → Writable s qs → AllShort limit (document_tokens (document_tree e first_place (map (rename s) qs))) → HasTree s e qs limit
+short_read_back : (s : Style) (e : Escapes) (qs : List Quad) (limit : ℕ) → Writable s qs →
+    AllShort limit (document_tokens (document_tree e first_place (map (rename s) qs))) → HasTree s e qs limit
 short_read_back s e qs limit h l =
     let w = all_written s qs h in
     let rs = map (rename s) qs in
@@ -47,19 +48,23 @@ short_read_back s e qs limit h l =
     subst (λ x. ((tokens_of Lines limit x true).outcome ≡ complete) × IsPlain has_scheme NQuads (tokens_of Lines limit x true).tokens rs) (sym same) whole
 
 -- Any limit serves that no token of the quads passes.
-pub tokens_tree : (s : Style) (e : Escapes) (qs : List Quad) (limit : ℕ) → Writable s qs → 2 ≤ limit → AllByRecursion (TokensWithin e limit) (map (rename s) qs) → HasTree s e qs limit
+pub tokens_tree : (s : Style) (e : Escapes) (qs : List Quad) (limit : ℕ) → Writable s qs → 2 ≤ limit →
+    AllByRecursion (TokensWithin e limit) (map (rename s) qs) → HasTree s e qs limit
 tokens_tree s e qs limit h t l = short_read_back s e qs limit h (document_short e limit (map (rename s) qs) t l first_place)
 
 -- A tree with its marks makes a document.
 marked_back : (s : Style) (e : Escapes) (qs : List Quad) (limit : ℕ) → HasTree s e qs limit → ReadsBack s e qs limit
 marked_back s e qs limit t iri =
-    let m = document_marked has_scheme NQuads (tokens_of Lines limit (encode_utf8_all (text s e qs)) true).tokens (map (rename s) qs) t.1 in (t.0, m.0, m.1, m.2)
+    let m = document_marked has_scheme NQuads (tokens_of Lines limit (encode_utf8_all (text s e qs)) true).tokens (map (rename s) qs) t.1 in
+    (t.0, m.0, m.1, m.2)
 
 -- The law: what is written reads back, with any limit that is not below the text's length.
 pub bytes_read_back : (s : Style) (e : Escapes) (qs : List Quad) (limit : ℕ) → Writable s qs → length (text s e qs) ≤ limit → ReadsBack s e qs limit
 bytes_read_back s e qs limit h l =
-    marked_back s e qs limit (short_read_back s e qs limit h (text_short e limit (map (rename s) qs) (all_written s qs h) (subst (λ x. length x ≤ limit) (text_renamed s e qs) l) first_place))
+    marked_back s e qs limit (short_read_back s e qs limit h
+    (text_short e limit (map (rename s) qs) (all_written s qs h) (subst (λ x. length x ≤ limit) (text_renamed s e qs) l) first_place))
 
 -- And with any that no token of the quads passes.
-pub tokens_read_back : (s : Style) (e : Escapes) (qs : List Quad) (limit : ℕ) → Writable s qs → 2 ≤ limit → AllByRecursion (TokensWithin e limit) (map (rename s) qs) → ReadsBack s e qs limit
+pub tokens_read_back : (s : Style) (e : Escapes) (qs : List Quad) (limit : ℕ) → Writable s qs → 2 ≤ limit →
+    AllByRecursion (TokensWithin e limit) (map (rename s) qs) → ReadsBack s e qs limit
 tokens_read_back s e qs limit h t l = marked_back s e qs limit (tokens_tree s e qs limit h t l)

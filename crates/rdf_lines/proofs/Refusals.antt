@@ -84,7 +84,8 @@ reason_same : {r s : Reason} → refuses r ≡ refuses s → r ≡ s
 reason_same e = cc
 
 -- what is unexpected is so under each test
-unexpected_same : (k : Kind) (l : Leaf) (a : (List ℕ → Bool) → Answer) (test other : List ℕ → Bool) → Tested k l a → a test ≡ refuses Unexpected → a other ≡ refuses Unexpected
+unexpected_same : (k : Kind) (l : Leaf) (a : (List ℕ → Bool) → Answer) (test other : List ℕ → Bool) → Tested k l a →
+    a test ≡ refuses Unexpected → a other ≡ refuses Unexpected
 unexpected_same k l a test other (inl (x, h, same)) e = same other ∙ (sym (same test) ∙ e)
 unexpected_same k l a test other (inr (h, m, same)) e =
     ⊎_elim
@@ -106,7 +107,8 @@ pub record Fell (l : Leaf) (k : Kind) (a : (List ℕ → Bool) → Answer) (test
   pub other : (other : List ℕ → Bool) → a other ≡ absolute other (iri_of l) mode
 
 -- a refusal for another reason is that of an IRI that fails the test
-fell : (k : Kind) (l : Leaf) (a : (List ℕ → Bool) → Answer) (test : List ℕ → Bool) (r : Reason) → Tested k l a → r ≢ Unexpected → a test ≡ refuses r → Fell l k a test r
+fell : (k : Kind) (l : Leaf) (a : (List ℕ → Bool) → Answer) (test : List ℕ → Bool) (r : Reason) → Tested k l a → r ≢ Unexpected →
+    a test ≡ refuses r → Fell l k a test r
 fell k l a test r (inl (x, h, same)) n e = absurd (n (no_test_unexpected k r (subst (NoTest k) (sym (same test) ∙ e) h)))
 fell k l a test r (inr (h, m, same)) n e =
     ⊎_elim
@@ -122,8 +124,10 @@ module _ (narrow wide : List ℕ → Bool) (wider : (i : List ℕ) → narrow i 
   wider_one k l a more n qs (inl (x, h, same)) e = ap (λ y. go_on y (more narrow)) (same wide ∙ sym (same narrow)) ∙ e
   wider_one k l a more n qs (inr (h, m, same)) e =
       ⊎_elim
-      (λ t. ap (λ y. go_on y (more narrow)) (same wide ∙ (absolute_goes wide (iri_of l) m (wider (iri_of l) t) ∙ sym (same narrow ∙ absolute_goes narrow (iri_of l) m t))) ∙ e)
-      (λ t. absurd (let z : refused (iri_refused (iri_of l)) ≡ ran n qs = sym (ap (λ y. go_on y (more narrow)) (same narrow ∙ absolute_refuses narrow (iri_of l) m t)) ∙ e in cc))
+      (λ t. ap (λ y. go_on y (more narrow)) (same wide
+      ∙ (absolute_goes wide (iri_of l) m (wider (iri_of l) t) ∙ sym (same narrow ∙ absolute_goes narrow (iri_of l) m t))) ∙ e)
+      (λ t. absurd (let z : refused (iri_refused (iri_of l)) ≡ ran n qs =
+      sym (ap (λ y. go_on y (more narrow)) (same narrow ∙ absolute_refuses narrow (iri_of l) m t)) ∙ e in cc))
       (cases_Bool (narrow (iri_of l)))
 
   -- so a run that goes on under one test goes on under one that passes more, to the same quads
@@ -149,7 +153,8 @@ taken_scheme n i t = by (has_scheme i) t
     by false e = e
 
 -- tokens that are taken with the limit are taken without it
-pub in_documents : (n : ℕ) (f : LineForm) (ts : List Token) (m : Mode) (qs : List Quad) → run (is_taken n) f Begin ts ≡ ran m qs → run has_scheme f Begin ts ≡ ran m qs
+pub in_documents : (n : ℕ) (f : LineForm) (ts : List Token) (m : Mode) (qs : List Quad) → run (is_taken n) f Begin ts ≡ ran m qs →
+    run has_scheme f Begin ts ≡ ran m qs
 in_documents n f ts m qs e = wider_run (is_taken n) has_scheme (taken_scheme n) f ts Begin m qs e
 
 -- an absolute IRI that is not taken is over the limit
@@ -179,19 +184,22 @@ module _ (n : ℕ) (f : LineForm) (ts : List Token) (t : Token) (m : Mode) (qs :
   -- The first token that the machine refuses as unexpected begins no tree, so no document.
   pub unexpected : one (is_taken n) ≡ refuses Unexpected → Shaped (trees f) (ts ++ t ∷ []) → ⊥
   unexpected a v =
-      not_viable any_iri f ts t m qs Unexpected (in_trees n f ts m qs e) (unexpected_same t.kind (leaf_of t) one (is_taken n) any_iri (tested f m t.kind (leaf_of t)) a) v
+      not_viable any_iri f ts t m qs Unexpected (in_trees n f ts m qs e)
+      (unexpected_same t.kind (leaf_of t) one (is_taken n) any_iri (tested f m t.kind (leaf_of t)) a) v
 
   -- nor does it begin a document, whose IRIs have schemes
   pub unexpected_not_viable : one (is_taken n) ≡ refuses Unexpected → Viable (documents f) (ts ++ t ∷ []) → ⊥
   unexpected_not_viable a v =
-      not_viable has_scheme f ts t m qs Unexpected (in_documents n f ts m qs e) (unexpected_same t.kind (leaf_of t) one (is_taken n) has_scheme (tested f m t.kind (leaf_of t)) a) v
+      not_viable has_scheme f ts t m qs Unexpected (in_documents n f ts m qs e)
+      (unexpected_same t.kind (leaf_of t) one (is_taken n) has_scheme (tested f m t.kind (leaf_of t)) a) v
 
   -- a refusal that is not of the kind is one of an IRI by the test
   fell_here : (r : Reason) → r ≢ Unexpected → one (is_taken n) ≡ refuses r → Fell (leaf_of t) t.kind one (is_taken n) r
   fell_here r x a = fell t.kind (leaf_of t) one (is_taken n) r (tested f m t.kind (leaf_of t)) x a
 
   -- the token passes another test
-  taken_by : (test : List ℕ → Bool) (r : Reason) (x : Fell (leaf_of t) t.kind one (is_taken n) r) → test (iri_of (leaf_of t)) ≡ true → run test f Begin ts ≡ ran m qs →
+  taken_by : (test : List ℕ → Bool) (r : Reason) (x : Fell (leaf_of t) t.kind one (is_taken n) r) → test (iri_of (leaf_of t)) ≡ true →
+      run test f Begin ts ≡ ran m qs →
       run test f Begin (ts ++ t ∷ []) ≡ ran x.mode (qs ++ [])
   taken_by test r x h s =
       run_one test f ts t Begin m qs s ∙ ap (λ y. with_quads qs (go_on y (λ k. ran k []))) (x.other test ∙ absolute_goes test (iri_of (leaf_of t)) x.mode h)
@@ -204,7 +212,8 @@ module _ (n : ℕ) (f : LineForm) (ts : List Token) (t : Token) (m : Mode) (qs :
   no_scheme : one (is_taken n) ≡ refuses RelativeIri → has_scheme (iri_of (leaf_of t)) ≡ false
   no_scheme a =
       ⊎_elim
-      (λ h. absurd (let z : IriTooLong ≡ RelativeIri = sym (cond-true (has_scheme (iri_of (leaf_of t))) IriTooLong RelativeIri h) ∙ (relative_fell a).reason in cc))
+      (λ h. absurd (let z : IriTooLong ≡ RelativeIri = sym (cond-true (has_scheme (iri_of (leaf_of t))) IriTooLong RelativeIri h)
+      ∙ (relative_fell a).reason in cc))
       (λ h. h)
       (cases_Bool (has_scheme (iri_of (leaf_of t))))
 
@@ -218,7 +227,8 @@ module _ (n : ℕ) (f : LineForm) (ts : List Token) (t : Token) (m : Mode) (qs :
   pub relative_not_viable : one (is_taken n) ≡ refuses RelativeIri → Viable (documents f) (ts ++ t ∷ []) → ⊥
   relative_not_viable a v =
       let x = relative_fell a in
-      not_viable has_scheme f ts t m qs (iri_refused (iri_of (leaf_of t))) (in_documents n f ts m qs e) (x.other has_scheme ∙ absolute_refuses has_scheme (iri_of (leaf_of t)) x.mode (no_scheme a)) v
+      not_viable has_scheme f ts t m qs (iri_refused (iri_of (leaf_of t))) (in_documents n f ts m qs e)
+      (x.other has_scheme ∙ absolute_refuses has_scheme (iri_of (leaf_of t)) x.mode (no_scheme a)) v
 
   -- so is a refusal as too long
   long_fell : one (is_taken n) ≡ refuses IriTooLong → Fell (leaf_of t) t.kind one (is_taken n) IriTooLong
@@ -229,7 +239,8 @@ module _ (n : ℕ) (f : LineForm) (ts : List Token) (t : Token) (m : Mode) (qs :
   with_scheme a =
       ⊎_elim
       (λ h. h)
-      (λ h. absurd (let z : RelativeIri ≡ IriTooLong = sym (cond-false (has_scheme (iri_of (leaf_of t))) IriTooLong RelativeIri h) ∙ (long_fell a).reason in cc))
+      (λ h. absurd (let z : RelativeIri ≡ IriTooLong = sym (cond-false (has_scheme (iri_of (leaf_of t))) IriTooLong RelativeIri h)
+      ∙ (long_fell a).reason in cc))
       (cases_Bool (has_scheme (iri_of (leaf_of t))))
 
   -- A token that is refused as too long is an IRI that passes the limit, and some document has it there.
@@ -241,7 +252,8 @@ module _ (n : ℕ) (f : LineForm) (ts : List Token) (t : Token) (m : Mode) (qs :
       )
 
 -- Each IRI of a run passes the test.
-one_taken : (k : Kind) (l : Leaf) (a : (List ℕ → Bool) → Answer) (test : List ℕ → Bool) (more : Mode → Run) (n : Mode) (rs qs : List Quad) → Tested k l a → k ≡ IriRef →
+one_taken : (k : Kind) (l : Leaf) (a : (List ℕ → Bool) → Answer) (test : List ℕ → Bool) (more : Mode → Run) (n : Mode) (rs qs : List Quad) →
+    Tested k l a → k ≡ IriRef →
     with_quads rs (go_on (a test) more) ≡ ran n qs → test (iri_of l) ≡ true
 one_taken k l a test more n rs qs (inl (x, h, same)) i e =
     let u : x ≡ refuses Unexpected = subst (λ j. NoTest j x) i h in
@@ -249,16 +261,20 @@ one_taken k l a test more n rs qs (inl (x, h, same)) i e =
 one_taken k l a test more n rs qs (inr (h, m, same)) i e =
     ⊎_elim
     (λ t. t)
-    (λ t. absurd (let z : refused (iri_refused (iri_of l)) ≡ ran n qs = sym (ap (λ y. with_quads rs (go_on y more)) (same test ∙ absolute_refuses test (iri_of l) m t)) ∙ e in cc))
+    (λ t. absurd (let z : refused (iri_refused (iri_of l)) ≡ ran n qs =
+    sym (ap (λ y. with_quads rs (go_on y more)) (same test ∙ absolute_refuses test (iri_of l) m t)) ∙ e in cc))
     (cases_Bool (test (iri_of l)))
 
 -- each IRI of tokens that are taken passes the test
-all_taken : (test : List ℕ → Bool) (f : LineForm) (ts : List Token) (m k : Mode) (qs : List Quad) → run test f m ts ≡ ran k qs → (ahead after : List Token) (t : Token) →
+all_taken : (test : List ℕ → Bool) (f : LineForm) (ts : List Token) (m k : Mode) (qs : List Quad) → run test f m ts ≡ ran k qs →
+    (ahead after : List Token) (t : Token) →
     ts ≡ ahead ++ t ∷ after → t.kind ≡ IriRef → test (iri_of (leaf_of t)) ≡ true
 all_taken test f ts m k qs e ahead after t s i =
-    let whole : then (run test f m ahead) (λ x. run test f x (t ∷ after)) ≡ ran k qs = sym (run_append test f ahead (t ∷ after) m) ∙ (ap (run test f m) (sym s) ∙ e) in
+    let whole : then (run test f m ahead) (λ x. run test f x (t ∷ after)) ≡ ran k qs =
+    sym (run_append test f ahead (t ∷ after) m) ∙ (ap (run test f m) (sym s) ∙ e) in
     let front = then_ran (run test f m ahead) (λ x. run test f x (t ∷ after)) k qs whole in
-    one_taken t.kind (leaf_of t) (λ test. accept test f front.0 t.kind (leaf_of t)) test (λ x. run test f x after) k front.1 qs (tested f front.0 t.kind (leaf_of t)) i
+    one_taken t.kind (leaf_of t) (λ test. accept test f front.0 t.kind (leaf_of t)) test (λ x. run test f x after) k front.1 qs
+    (tested f front.0 t.kind (leaf_of t)) i
     (sym (ap (λ r. then r (λ x. run test f x (t ∷ after))) front.2) ∙ whole)
 
 -- The tokens of a run pass no limit.

@@ -71,8 +71,13 @@ rest_before u w m n =
 -- a label with a letter or a digit in front is a label
 pub label_front : (c : ℕ) (x : List ℕ) → (has (pn_u Lines) c ≡ true) ⊎ (has digit c ≡ true) → IsLabel x → IsLabel (c ∷ x)
 label_front c x h m =
-    let first : Matches (one (pn_char Lines)) m.0 = ⊎_elim (λ a. (a.0, first_char a.0 a.1, a.2)) (λ a. (a.0, digit_char a.0 a.1, a.2)) m.2 in
-    (c ∷ [], x, ⊎_elim (λ u. inl (c, u, refl)) (λ d. inr (c, d, refl)) h, inr (subst (Matches (many middle · one (pn_char Lines))) (sym m.4) (rest_before m.0 m.1 first m.3)), refl)
+    let first : Matches (one (pn_char Lines)) m.0 = ⊎_elim (λ a. (a.0, first_char a.0 a.1, a.2)) (λ a. (a.0, digit_char a.0 a.1, a.2)) m.2 in (
+      c ∷ [],
+      x,
+      ⊎_elim (λ u. inl (c, u, refl)) (λ d. inr (c, d, refl)) h,
+      inr (subst (Matches (many middle · one (pn_char Lines))) (sym m.4) (rest_before m.0 m.1 first m.3)),
+      refl,
+    )
 
 -- a label with a character at its end is a label, if it is no dot
 label_more : (x : List ℕ) (c : ℕ) → has (pn_char Lines) c ≡ true → IsLabel x → IsLabel (x ++ c ∷ [])

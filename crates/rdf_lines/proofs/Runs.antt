@@ -47,7 +47,8 @@ run_append test f (t ∷ ts) us m = at (λ n. run_append test f ts us n) (accept
     quad_in q (refused x) = refl
     quad_in q (ran n qs) = both q qs (run test f n us)
 
-    at : ((n : Mode) → run test f n (ts ++ us) ≡ then (run test f n ts) (λ k. run test f k us)) → (a : Answer) → go_on a (λ n. run test f n (ts ++ us)) ≡ then (go_on a (λ n. run test f n ts)) (λ n. run test f n us)
+    at : ((n : Mode) → run test f n (ts ++ us) ≡ then (run test f n ts) (λ k. run test f k us)) → (a : Answer) →
+        go_on a (λ n. run test f n (ts ++ us)) ≡ then (go_on a (λ n. run test f n ts)) (λ n. run test f n us)
     at h (goes n) = h n
     at h (gives q n) = ap (with_quad q) (h n) ∙ quad_in q (run test f n ts)
     at h (refuses r) = refl
@@ -63,7 +64,8 @@ added qs (ran n rs) m all e = (rs, cc)
 added qs (refused r) m all e = absurd (let z : refused r ≡ ran m all = e in cc)
 
 -- The quads that were given out begin those of each document that begins so.
-pub given_begin : (test : List ℕ → Bool) (f : LineForm) (ts more : List Token) (m : Mode) (qs all : List Quad) → run test f Begin ts ≡ ran m qs → IsPlain test f (ts ++ more) all →
+pub given_begin : (test : List ℕ → Bool) (f : LineForm) (ts more : List Token) (m : Mode) (qs all : List Quad) →
+    run test f Begin ts ≡ ran m qs → IsPlain test f (ts ++ more) all →
     (rest : List Quad) × (all ≡ qs ++ rest)
 given_begin test f ts more m qs all e d =
     added qs (run test f m more) Finished all

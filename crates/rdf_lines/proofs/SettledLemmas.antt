@@ -63,10 +63,12 @@ no_dot_head s =
     let n = name_tokens s.subject in
     let p = token IriRef s.predicate ∷ [] in
     let o = object_tokens s.object in
-    no_dot_both (n ++ p ++ o) (graph_tokens s.graph) (no_dot_both (n ++ p) o (no_dot_both n p (no_dot_name s.subject) (λ n ts. refl)) (no_dot_object s.object)) (no_dot_graph s.graph)
+    no_dot_both (n ++ p ++ o) (graph_tokens s.graph)
+    (no_dot_both (n ++ p) o (no_dot_both n p (no_dot_name s.subject) (λ n ts. refl)) (no_dot_object s.object)) (no_dot_graph s.graph)
 
 -- A statement's dot stands after its head.
-dots_statement : (s : Statement) (n : ℕ) (rest : List Token) → dots_at n (statement_tokens s ++ rest) ≡ (n + length (head_tokens s)) ∷ dots_at (n + length (head_tokens s) + 1) rest
+dots_statement : (s : Statement) (n : ℕ) (rest : List Token) → dots_at n (statement_tokens s ++ rest)
+    ≡ (n + length (head_tokens s)) ∷ dots_at (n + length (head_tokens s) + 1) rest
 dots_statement s n rest = ap (dots_at n) (append_assoc (head_tokens s) (token Dot s.dot ∷ []) rest) ∙ no_dot_head s n (token Dot s.dot ∷ rest)
 
 -- The marks of a tree are where its dots stand.

@@ -75,11 +75,13 @@ abbrev Sound : (List ℕ → Bool) → LineForm → List Token → Part → Type
 Sound test f ts r = (qs : List Quad) → Bound test f r → run test f (mode r) ts ≡ ran Finished qs → IsPlain test f (read r ++ ts) (given r ++ qs)
 
 -- a run goes on after an IRI only if it passes the test
-accepted_absolute : (test : List ℕ → Bool) (i : List ℕ) (m n : Mode) (qs : List Quad) (more : Mode → Run) → go_on (absolute test i m) more ≡ ran n qs → (test i ≡ true) × (more m ≡ ran n qs)
+accepted_absolute : (test : List ℕ → Bool) (i : List ℕ) (m n : Mode) (qs : List Quad) (more : Mode → Run) →
+    go_on (absolute test i m) more ≡ ran n qs → (test i ≡ true) × (more m ≡ ran n qs)
 accepted_absolute test i m n qs more e =
     ⊎_elim
     (λ h. (h, sym (ap (λ x. go_on x more) (cond-true (test i) (goes m) (refuses (iri_refused i)) h)) ∙ e))
-    (λ h. absurd (let z : refused (iri_refused i) ≡ ran n qs = sym (ap (λ x. go_on x more) (cond-false (test i) (goes m) (refuses (iri_refused i)) h)) ∙ e in cc))
+    (λ h. absurd (let z : refused (iri_refused i) ≡ ran n qs =
+    sym (ap (λ x. go_on x more) (cond-false (test i) (goes m) (refuses (iri_refused i)) h)) ∙ e in cc))
     (cases_Bool (test i))
 
 -- a quad that is given out first is the first of all
@@ -88,14 +90,17 @@ quad_first q (ran n rest) m qs e = (rest, (let z : n ≡ m = cc in ap (λ x. ran
 quad_first q (refused r) m qs e = absurd (let z : refused r ≡ ran m qs = e in cc)
 
 -- one token more
-step : (test : List ℕ → Bool) (f : LineForm) (ts : List Token) → ((r : Part) → Sound test f ts r) → (r s : Part) (k : Kind) (l : Leaf) (qs : List Quad) → Bound test f s →
-    read s ++ ts ≡ read r ++ token k l ∷ ts → given s ≡ [] → given r ≡ [] → run test f (mode s) ts ≡ ran Finished qs → IsPlain test f (read r ++ token k l ∷ ts) (given r ++ qs)
+step : (test : List ℕ → Bool) (f : LineForm) (ts : List Token) → ((r : Part) → Sound test f ts r) →
+    (r s : Part) (k : Kind) (l : Leaf) (qs : List Quad) → Bound test f s →
+    read s ++ ts ≡ read r ++ token k l ∷ ts → given s ≡ [] → given r ≡ [] → run test f (mode s) ts ≡ ran Finished qs →
+    IsPlain test f (read r ++ token k l ∷ ts) (given r ++ qs)
 step test f ts ih r s k l qs b e g h m =
     let d = ih s qs b m in
     subst (λ x. IsPlain test f (read r ++ token k l ∷ ts) x) (ap (λ x. x ++ qs) (g ∙ sym h)) (subst (λ x. IsPlain test f x (given s ++ qs)) e d)
 
 -- a dot ends the statement, and the rest of the document follows
-closed : (test : List ℕ → Bool) (f : LineForm) (ts : List Token) → ((r : Part) → Sound test f ts r) → (r : Part) (s : Statement) (l : Leaf) (qs : List Quad) → GoodStatement test f s →
+closed : (test : List ℕ → Bool) (f : LineForm) (ts : List Token) → ((r : Part) → Sound test f ts r) →
+    (r : Part) (s : Statement) (l : Leaf) (qs : List Quad) → GoodStatement test f s →
     statement_tokens s ++ ts ≡ read r ++ token Dot l ∷ ts → given r ≡ [] → with_quad (quad_of s) (run test f AfterDot ts) ≡ ran Finished qs →
     IsPlain test f (read r ++ token Dot l ∷ ts) (given r ++ qs)
 closed test f ts ih r s l qs b e h m =
@@ -121,9 +126,11 @@ no_end : (qs : List Quad) → refused Unexpected ≡ ran Finished qs → ⊥
 no_end qs e = cc
 
 -- the step of one token in each part
-one : (test : List ℕ → Bool) (f : LineForm) (ts : List Token) → ((r : Part) → Sound test f ts r) → (r : Part) (k : Kind) (l : Leaf) (qs : List Quad) → Bound test f r →
+one : (test : List ℕ → Bool) (f : LineForm) (ts : List Token) → ((r : Part) → Sound test f ts r) →
+    (r : Part) (k : Kind) (l : Leaf) (qs : List Quad) → Bound test f r →
     go_on (accept test f (mode r) k l) (λ n. run test f n ts) ≡ ran Finished qs → IsPlain test f (read r ++ token k l ∷ ts) (given r ++ qs)
-one test f ts ih begin IriRef l qs b e = let a = accepted_absolute test (iri_of l) _ Finished qs (λ n. run test f n ts) e in step test f ts ih begin (subject (Ref l)) IriRef l qs a.0 refl refl refl a.1
+one test f ts ih begin IriRef l qs b e = let a = accepted_absolute test (iri_of l) _ Finished qs (λ n. run test f n ts) e in
+    step test f ts ih begin (subject (Ref l)) IriRef l qs a.0 refl refl refl a.1
 one test f ts ih begin LabelNode l qs b e = step test f ts ih begin (subject (Lab l)) LabelNode l qs tt refl refl refl e
 one test f ts ih begin LineEnd l qs b e = let d = ih begin qs tt e in (next L.empty l d.0, ap (λ x. token LineEnd l ∷ x) d.1, (tt, d.2), d.3)
 one test f ts ih begin End l qs b e = step test f ts ih begin (finished L.empty l) End l qs tt refl refl refl e
@@ -133,12 +140,15 @@ one test f ts ih (subject n) IriRef l qs b e =
 one test f ts ih (predicate n p) IriRef l qs b e =
     let a = accepted_absolute test (iri_of l) _ Finished qs (λ n. run test f n ts) e in
     step test f ts ih (predicate n p) (object n p (Named (Ref l))) IriRef l qs (b.0, b.1, a.0) (simp append_assoc) refl refl a.1
-one test f ts ih (predicate n p) LabelNode l qs b e = step test f ts ih (predicate n p) (object n p (Named (Lab l))) LabelNode l qs (b.0, b.1, tt) (simp append_assoc) refl refl e
+one test f ts ih (predicate n p) LabelNode l qs b e =
+    step test f ts ih (predicate n p) (object n p (Named (Lab l))) LabelNode l qs (b.0, b.1, tt) (simp append_assoc) refl refl e
 one test f ts ih (predicate n p) ShortString l qs b e = step test f ts ih (predicate n p) (string n p l) ShortString l qs b (simp append_assoc) refl refl e
-one test f ts ih (string n p w) LangTag l qs b e = step test f ts ih (string n p w) (object n p (WithTag w l)) LangTag l qs (b.0, b.1, tt) (simp append_assoc) refl refl e
+one test f ts ih (string n p w) LangTag l qs b e =
+    step test f ts ih (string n p w) (object n p (WithTag w l)) LangTag l qs (b.0, b.1, tt) (simp append_assoc) refl refl e
 one test f ts ih (string n p w) Carets l qs b e = step test f ts ih (string n p w) (carets n p w l) Carets l qs b (simp append_assoc) refl refl e
 one test f ts ih (string n p w) Dot l qs b e =
-    closed test f ts ih (string n p w) (plain_end n p (Plain w) l) l qs (record { subject = b.0; predicate = b.1; object = tt; graph = tt; labels = no_label f }) (simp append_assoc) refl e
+    closed test f ts ih (string n p w) (plain_end n p (Plain w) l) l qs
+    (record { subject = b.0; predicate = b.1; object = tt; graph = tt; labels = no_label f }) (simp append_assoc) refl e
 one test NQuads ts ih (string n p w) IriRef l qs b e =
     let a = accepted_absolute test (iri_of l) _ Finished qs (λ n. run test NQuads n ts) e in
     step test NQuads ts ih (string n p w) (graph n p (Plain w) (Ref l)) IriRef l qs (b.0, b.1, tt, a.0, refl) (simp append_assoc) refl refl a.1
@@ -148,7 +158,8 @@ one test f ts ih (carets n p w c) IriRef l qs b e =
     let a = accepted_absolute test (iri_of l) _ Finished qs (λ n. run test f n ts) e in
     step test f ts ih (carets n p w c) (object n p (WithType w c l)) IriRef l qs (b.0, b.1, a.0) (simp append_assoc) refl refl a.1
 one test f ts ih (object n p o) Dot l qs b e =
-    closed test f ts ih (object n p o) (plain_end n p o l) l qs (record { subject = b.0; predicate = b.1; object = b.2; graph = tt; labels = no_label f }) (simp append_assoc) refl e
+    closed test f ts ih (object n p o) (plain_end n p o l) l qs
+    (record { subject = b.0; predicate = b.1; object = b.2; graph = tt; labels = no_label f }) (simp append_assoc) refl e
 one test NQuads ts ih (object n p o) IriRef l qs b e =
     let a = accepted_absolute test (iri_of l) _ Finished qs (λ n. run test NQuads n ts) e in
     step test NQuads ts ih (object n p o) (graph n p o (Ref l)) IriRef l qs (b.0, b.1, b.2, a.0, refl) (simp append_assoc) refl refl a.1
@@ -175,7 +186,8 @@ sound_all test f [] (predicate n p) qs b m = absurd (let z : ran (AfterPredicate
 sound_all test f [] (string n p w) qs b m = absurd (let z : ran (AfterString (subject_of n) (iri_of p) (string_of w)) [] ≡ ran Finished qs = m in cc)
 sound_all test f [] (carets n p w c) qs b m = absurd (let z : ran (AfterCarets (subject_of n) (iri_of p) (string_of w)) [] ≡ ran Finished qs = m in cc)
 sound_all test f [] (object n p o) qs b m = absurd (let z : ran (AfterObject (subject_of n) (iri_of p) (term_of o)) [] ≡ ran Finished qs = m in cc)
-sound_all test f [] (graph n p o g) qs b m = absurd (let z : ran (AfterGraph (subject_of n) (iri_of p) (term_of o) (subject_of g)) [] ≡ ran Finished qs = m in cc)
+sound_all test f [] (graph n p o g) qs b m =
+    absurd (let z : ran (AfterGraph (subject_of n) (iri_of p) (term_of o) (subject_of g)) [] ≡ ran Finished qs = m in cc)
 sound_all test f [] (dot s) qs b m = absurd (let z : ran AfterDot [] ≡ ran Finished qs = m in cc)
 sound_all test f (t ∷ ts) r qs b m = one test f ts (λ s. sound_all test f ts s) r t.kind (leaf_of t) qs b m
 

@@ -22,7 +22,8 @@ module _ (n : ℕ) (bytes : List ℕ) (utf8 : IsUtf8 bytes) (scheme : has_scheme
 
   -- an IRI with a scheme within the limit is taken
   pub short_taken : length bytes ≤ n → is_taken n (chars bytes) ≡ true
-  short_taken l = and_from (has_scheme (chars bytes)) (not (nat_lt n (byte_len (chars bytes)))) scheme (ap not (le-ltb n (byte_len (chars bytes)) (omega (arith, size))))
+  short_taken l = and_from (has_scheme (chars bytes)) (not (nat_lt n (byte_len (chars bytes)))) scheme
+      (ap not (le-ltb n (byte_len (chars bytes)) (omega (arith, size))))
 
   -- one over it is refused, and for its length
   pub long_refused : n < length bytes → (is_taken n (chars bytes) ≡ false) × (iri_refused (chars bytes) ≡ IriTooLong)

@@ -47,7 +47,8 @@ total (t ∷ ts) = length t.text + total ts
 -- A text spells tokens, if these are read from it, whatever comes after it, where none is too long; they depend on its place alone.
 pub record Spells (limit : ℕ) (w : List ℕ) (f : Place → List Token) : Type 0 where
   pub size : (p : Place) → total (f p) ≤ length w
-  pub reads : (tail : Behind) (p : Place) (v : List ℕ) → AllShort limit (f p) → tokens Lines limit tail false p (w ++ v) ≡ with_tokens (f p) (tokens Lines limit tail false (past p w) v)
+  pub reads : (tail : Behind) (p : Place) (v : List ℕ) → AllShort limit (f p) →
+      tokens Lines limit tail false p (w ++ v) ≡ with_tokens (f p) (tokens Lines limit tail false (past p w) v)
 
 -- two lists of tokens have the characters of both
 total-append : (ts us : List Token) → total (ts ++ us) ≡ total ts + total us
@@ -99,7 +100,8 @@ spells_then limit u w f g a b = record { size = size; reads = reads }
         ∙ ap (λ q. with_tokens (f p ++ g (past p u)) (tokens Lines limit tail false q v)) (sym (past-append u w p)))))
 
 -- a text is one token, if what follows cuts it
-pub spells_alone : (limit c : ℕ) (w : List ℕ) (k : Kind) → ((v : List ℕ) → blank Lines false (c ∷ v) ≡ 0) → kind_of Lines (c ∷ w) ≡ Some k → is_fit k (c ∷ w) ≡ true →
+pub spells_alone : (limit c : ℕ) (w : List ℕ) (k : Kind) → ((v : List ℕ) → blank Lines false (c ∷ v) ≡ 0) → kind_of Lines (c ∷ w) ≡ Some k →
+    is_fit k (c ∷ w) ≡ true →
     ((v : List ℕ) → Cut (c ∷ w) v) → is_live Lines (c ∷ w) ≡ false → Spells limit (c ∷ w) (alone k (c ∷ w))
 spells_alone limit c w k z e f t dead = record {
   size = λ p. omega arith;
@@ -107,14 +109,16 @@ spells_alone limit c w k z e f t dead = record {
 }
 
 -- a space cuts it
-pub spells_before_space : (limit c : ℕ) (w : List ℕ) (k : Kind) → ((v : List ℕ) → blank Lines false (c ∷ v) ≡ 0) → kind_of Lines (c ∷ w) ≡ Some k → is_fit k (c ∷ w) ≡ true →
+pub spells_before_space : (limit c : ℕ) (w : List ℕ) (k : Kind) → ((v : List ℕ) → blank Lines false (c ∷ v) ≡ 0) →
+    kind_of Lines (c ∷ w) ≡ Some k → is_fit k (c ∷ w) ≡ true →
     ((v : List ℕ) → Cut (c ∷ w) (32 ∷ v)) → Spells limit (c ∷ w ++ space) (alone k (c ∷ w))
 spells_before_space limit c w k z e f t = record {
   size = λ p. let s = length-append (c ∷ w) space in omega arith;
   reads = λ tail p v h.
       ap (tokens Lines limit tail false p) (append_assoc (c ∷ w) space v)
       ∙ (next_token tail limit p c w (32 ∷ v) k (z (w ++ 32 ∷ v)) e f (t v) (cut_dead (c ∷ w) (32 ∷ v) (t v) (λ x. absurd (let y : 32 ∷ v ≡ [] = x in cc))) h.0
-      ∙ ap (with_tokens (alone k (c ∷ w) p)) (skip_space tail limit (past p (c ∷ w)) v ∙ ap (λ q. tokens Lines limit tail false q v) (sym (past-append (c ∷ w) space p))));
+      ∙ ap (with_tokens (alone k (c ∷ w) p)) (skip_space tail limit (past p (c ∷ w)) v
+      ∙ ap (λ q. tokens Lines limit tail false q v) (sym (past-append (c ∷ w) space p))));
 }
 
 -- a space is no token
@@ -148,7 +152,8 @@ module _ (form : Escapes) where
   -- an IRI in its brackets, as the scanner finds it
   spells_iri : (limit : ℕ) (i : List ℕ) → IsIri i → Spells limit (iri_text form i ++ space) (alone IriRef (iri_text form i))
   spells_iri limit i h =
-      spells_before_space limit 60 (flat_map (written form) i ++ 62 ∷ []) IriRef (λ v. refl) (kind_at 60 IriRef begins_iri (flat_map (written form) i ++ 62 ∷ []) (iri_shape form i h.characters)) (iri_fit form i h.characters)
+      spells_before_space limit 60 (flat_map (written form) i ++ 62 ∷ []) IriRef (λ v. refl) (kind_at 60 IriRef begins_iri
+      (flat_map (written form) i ++ 62 ∷ []) (iri_shape form i h.characters)) (iri_fit form i h.characters)
       (λ v. cut_by_other 60 IriRef begins_iri (flat_map (written form) i ++ 62 ∷ []) 32 v iri_space)
 
   -- a label has the shape of its token
@@ -193,7 +198,8 @@ module _ (form : Escapes) where
   -- so a string is one token whatever comes after it
   spells_string : (limit : ℕ) (w : List ℕ) → all_have scalar w ≡ true → Spells limit (string_text form w) (alone ShortString (string_text form w))
   spells_string limit w a =
-      spells_alone limit 34 (flat_map (escaped form) w ++ 34 ∷ []) ShortString (λ v. refl) (kind_at 34 ShortString begins_string _ (string_shape form w a)) (string_fit form w a)
+      spells_alone limit 34 (flat_map (escaped form) w ++ 34 ∷ []) ShortString (λ v. refl)
+      (kind_at 34 ShortString begins_string _ (string_shape form w a)) (string_fit form w a)
       (λ v. cut_by_shape 34 ShortString begins_string _ v (string_ends form w a)) (string_dead w a)
 
   -- two carets are a token, which nothing makes longer
@@ -223,7 +229,8 @@ module _ (form : Escapes) where
   abbrev pub typed_tree : Bool → Place → List ℕ → List ℕ → Object
   typed_tree true p w i = Plain (leaf (string_text form w) p)
   typed_tree false p w i =
-      WithType (leaf (string_text form w) p) (leaf (94 ∷ 94 ∷ []) (past p (string_text form w))) (leaf (iri_text form i) (past (past p (string_text form w)) (94 ∷ 94 ∷ [])))
+      WithType (leaf (string_text form w) p) (leaf (94 ∷ 94 ∷ []) (past p (string_text form w)))
+      (leaf (iri_text form i) (past (past p (string_text form w)) (94 ∷ 94 ∷ [])))
 
   abbrev pub object_tree : Place → Term → Object
   object_tree p (Resource s) = Named (name_tree p s)
@@ -257,32 +264,38 @@ module _ (form : Escapes) where
 
   abbrev pub document_tree : Place → List Quad → Document
   document_tree p [] = last L.empty (leaf [] p)
-  document_tree p (q ∷ qs) = next (L.one (statement_tree p q)) (leaf (10 ∷ []) (past p (upto_graph q ++ 46 ∷ []))) (document_tree (past p (quad_text form q)) qs)
+  document_tree p (q ∷ qs) =
+      next (L.one (statement_tree p q)) (leaf (10 ∷ []) (past p (upto_graph q ++ 46 ∷ []))) (document_tree (past p (quad_text form q)) qs)
 
   -- a subject is one token
-  spells_name : (limit : ℕ) (s : Subject) → IsSubject s → CanWriteSubject Kept s → Spells limit (subject_text form s ++ space) (λ p. name_tokens (name_tree p s))
+  spells_name : (limit : ℕ) (s : Subject) → IsSubject s → CanWriteSubject Kept s →
+      Spells limit (subject_text form s ++ space) (λ p. name_tokens (name_tree p s))
   spells_name limit (Iri i) h c = spells_iri limit i h
   spells_name limit (Blank (Label x)) h c = spells_label limit x h
   spells_name limit (Blank (Anon n)) h c = absurd c
   spells_name limit (Blank (Cell n)) h c = absurd c
 
   -- a literal with a datatype is one token, or three where the type is written
-  spells_typed : (limit : ℕ) (b : Bool) (w i : List ℕ) → all_have scalar w ≡ true → IsIri i → Spells limit (string_text form w ++ type_text form b i ++ space) (λ p. object_tokens (typed_tree b p w i))
+  spells_typed : (limit : ℕ) (b : Bool) (w i : List ℕ) → all_have scalar w ≡ true → IsIri i →
+      Spells limit (string_text form w ++ type_text form b i ++ space) (λ p. object_tokens (typed_tree b p w i))
   spells_typed limit true w i a h =
       subst (λ x. Spells limit x (λ p. object_tokens (typed_tree true p w i))) (ap (λ x. x ++ space) (sym (append-nil (string_text form w))))
       (spells_then limit (string_text form w) space (alone ShortString (string_text form w)) (λ p. []) (spells_string limit w a) (spells_space limit))
   spells_typed limit false w i a h =
       subst (λ x. Spells limit x (λ p. object_tokens (typed_tree false p w i))) (sym (append_assoc (string_text form w) (94 ∷ 94 ∷ iri_text form i) space))
-      (spells_then limit (string_text form w) (94 ∷ 94 ∷ iri_text form i ++ space) (alone ShortString (string_text form w)) (λ p. alone Carets (94 ∷ 94 ∷ []) p ++ alone IriRef (iri_text form i) (past p (94 ∷ 94 ∷ [])))
+      (spells_then limit (string_text form w) (94 ∷ 94 ∷ iri_text form i ++ space) (alone ShortString (string_text form w))
+      (λ p. alone Carets (94 ∷ 94 ∷ []) p ++ alone IriRef (iri_text form i) (past p (94 ∷ 94 ∷ [])))
       (spells_string limit w a)
-      (spells_then limit (94 ∷ 94 ∷ []) (iri_text form i ++ space) (alone Carets (94 ∷ 94 ∷ [])) (alone IriRef (iri_text form i)) (spells_carets limit) (spells_iri limit i h)))
+      (spells_then limit (94 ∷ 94 ∷ []) (iri_text form i ++ space) (alone Carets (94 ∷ 94 ∷ [])) (alone IriRef (iri_text form i))
+      (spells_carets limit) (spells_iri limit i h)))
 
   -- an object has the tokens of its tree
   spells_object : (limit : ℕ) (t : Term) → IsTerm t → CanWriteTerm Kept t → Spells limit (term_text form t ++ space) (λ p. object_tokens (object_tree p t))
   spells_object limit (Resource s) h c = spells_name limit s h c
   spells_object limit (Literal w (Lang t)) h c =
       subst (λ x. Spells limit x (λ p. object_tokens (object_tree p (Literal w (Lang t))))) (sym (append_assoc (string_text form w) (64 ∷ t) space))
-      (spells_then limit (string_text form w) (64 ∷ t ++ space) (alone ShortString (string_text form w)) (alone LangTag (64 ∷ t)) (spells_string limit w h.0) (spells_tag limit t h.1))
+      (spells_then limit (string_text form w) (64 ∷ t ++ space) (alone ShortString (string_text form w)) (alone LangTag (64 ∷ t))
+      (spells_string limit w h.0) (spells_tag limit t h.1))
   spells_object limit (Literal w (Typed i)) h c = spells_typed limit (bytes_eq i xsd_string) w i h.0 h.1
 
   -- so has a graph label
@@ -291,18 +304,22 @@ module _ (form : Escapes) where
   spells_graph limit (Some g) h c = spells_name limit g h c
 
   -- so has a statement, up to its dot
-  pub spells_statement : (limit : ℕ) (q : Quad) → IsQuad q → CanWrite Kept q → Spells limit (upto_graph q ++ 46 ∷ []) (λ p. statement_tokens (statement_tree p q))
+  pub spells_statement : (limit : ℕ) (q : Quad) → IsQuad q → CanWrite Kept q →
+      Spells limit (upto_graph q ++ 46 ∷ []) (λ p. statement_tokens (statement_tree p q))
   spells_statement limit q h c =
       spells_then limit (upto_graph q) (46 ∷ [])
-      (λ p. name_tokens (name_tree p q.subject) ++ alone IriRef (iri_text form q.predicate) (past p (upto_subject q)) ++ object_tokens (object_tree (past p (upto_predicate q)) q.object) ++ graph_tokens (graph_tree (past p (upto_object q)) q.graph))
+      (λ p. name_tokens (name_tree p q.subject) ++ alone IriRef (iri_text form q.predicate) (past p (upto_subject q)) ++ object_tokens
+      (object_tree (past p (upto_predicate q)) q.object) ++ graph_tokens (graph_tree (past p (upto_object q)) q.graph))
       (alone Dot (46 ∷ []))
       (spells_then limit (upto_object q) (graph_text form q.graph)
-      (λ p. name_tokens (name_tree p q.subject) ++ alone IriRef (iri_text form q.predicate) (past p (upto_subject q)) ++ object_tokens (object_tree (past p (upto_predicate q)) q.object))
+      (λ p. name_tokens (name_tree p q.subject) ++ alone IriRef (iri_text form q.predicate) (past p (upto_subject q)) ++ object_tokens
+      (object_tree (past p (upto_predicate q)) q.object))
       (λ p. graph_tokens (graph_tree p q.graph))
       (spells_then limit (upto_predicate q) (term_text form q.object ++ space)
       (λ p. name_tokens (name_tree p q.subject) ++ alone IriRef (iri_text form q.predicate) (past p (upto_subject q)))
       (λ p. object_tokens (object_tree p q.object))
-      (spells_then limit (upto_subject q) (iri_text form q.predicate ++ space) (λ p. name_tokens (name_tree p q.subject)) (alone IriRef (iri_text form q.predicate))
+      (spells_then limit (upto_subject q) (iri_text form q.predicate ++ space) (λ p. name_tokens (name_tree p q.subject))
+      (alone IriRef (iri_text form q.predicate))
       (spells_name limit q.subject h.subject c.subject)
       (spells_iri limit q.predicate h.predicate))
       (spells_object limit q.object h.object c.object))
@@ -313,7 +330,8 @@ module _ (form : Escapes) where
   spells_line : (limit : ℕ) (q : Quad) → IsQuad q → CanWrite Kept q →
       Spells limit (quad_text form q) (λ p. statement_tokens (statement_tree p q) ++ alone LineEnd (10 ∷ []) (past p (upto_graph q ++ 46 ∷ [])))
   spells_line limit q h c =
-      spells_then limit (upto_graph q ++ 46 ∷ []) (10 ∷ []) (λ p. statement_tokens (statement_tree p q)) (alone LineEnd (10 ∷ [])) (spells_statement limit q h c) (spells_line_end limit)
+      spells_then limit (upto_graph q ++ 46 ∷ []) (10 ∷ []) (λ p. statement_tokens (statement_tree p q)) (alone LineEnd (10 ∷ []))
+      (spells_statement limit q h c) (spells_line_end limit)
 
   -- after the last line only the end is read
   reads_end : (limit : ℕ) (p : Place) → tokens Lines limit ended false p [] ≡ record { tokens = alone End [] p; outcome = complete; at = p }
@@ -338,7 +356,8 @@ module _ (form : Escapes) where
 
   -- the scanner finds the tokens of the tree in all lines, where none is too long
   reads_text : (limit : ℕ) (qs : List Quad) → Written qs → (p : Place) → AllShort limit (document_tokens (document_tree p qs)) →
-      tokens Lines limit ended false p (flat_map (quad_text form) qs) ≡ record { tokens = document_tokens (document_tree p qs); outcome = complete; at = past p (flat_map (quad_text form) qs) }
+      tokens Lines limit ended false p (flat_map (quad_text form) qs)
+      ≡ record { tokens = document_tokens (document_tree p qs); outcome = complete; at = past p (flat_map (quad_text form) qs) }
   reads_text limit [] h p s = reads_end limit p
   reads_text limit (q ∷ qs) h p s =
       let w = quad_text form q in
@@ -350,7 +369,8 @@ module _ (form : Escapes) where
       let m = reads_text limit qs h.1 (past p w) (short_rest limit (f ++ e) ts all) in
       (spells_line limit q h.0.0 h.0.1).reads ended p rest (short_front limit (f ++ e) ts all)
       ∙ (ap (with_tokens (f ++ e)) m
-      ∙ (ap (λ (x : List Token). record { tokens = x; outcome = complete; at = past (past p w) rest }) (append_assoc f e (document_tokens (document_tree (past p w) qs)))
+      ∙ (ap (λ (x : List Token). record { tokens = x; outcome = complete; at = past (past p w) rest })
+      (append_assoc f e (document_tokens (document_tree (past p w) qs)))
       ∙ ap (λ (x : Place). record { tokens = document_tokens (document_tree p (q ∷ qs)); outcome = complete; at = x }) (sym (past-append w rest p))))
 
   -- the token of a subject is as long as its text
@@ -359,7 +379,8 @@ module _ (form : Escapes) where
   name_short limit p (Blank n) h = (h, tt)
 
   -- those of a literal with a datatype are its string, its IRI, and the two carets
-  typed_short : (limit : ℕ) (p : Place) (b : Bool) (w i : List ℕ) → 2 ≤ limit → length (string_text form w) ≤ limit → length (iri_text form i) ≤ limit → AllShort limit (object_tokens (typed_tree b p w i))
+  typed_short : (limit : ℕ) (p : Place) (b : Bool) (w i : List ℕ) → 2 ≤ limit → length (string_text form w) ≤ limit →
+      length (iri_text form i) ≤ limit → AllShort limit (object_tokens (typed_tree b p w i))
   typed_short limit p true w i t h k = (h, tt)
   typed_short limit p false w i t h k = (h, (t, (k, tt)))
 
@@ -390,16 +411,19 @@ module _ (form : Escapes) where
       (omega arith, tt)
 
   -- those of all lines: this is how the limit on tokens is met
-  pub document_short : (limit : ℕ) (qs : List Quad) → 2 ≤ limit → AllByRecursion (TokensWithin form limit) qs → (p : Place) → AllShort limit (document_tokens (document_tree p qs))
+  pub document_short : (limit : ℕ) (qs : List Quad) → 2 ≤ limit → AllByRecursion (TokensWithin form limit) qs → (p : Place) →
+      AllShort limit (document_tokens (document_tree p qs))
   document_short limit [] e h p = (omega arith, tt)
   document_short limit (q ∷ qs) e h p =
-      short_both limit (statement_tokens (statement_tree p q)) (token LineEnd (leaf (10 ∷ []) (past p (upto_graph q ++ 46 ∷ []))) ∷ document_tokens (document_tree (past p (quad_text form q)) qs))
+      short_both limit (statement_tokens (statement_tree p q)) (token LineEnd
+      (leaf (10 ∷ []) (past p (upto_graph q ++ 46 ∷ []))) ∷ document_tokens (document_tree (past p (quad_text form q)) qs))
       (statement_short limit p q e h.0)
       (omega arith, document_short limit qs e h.1 (past p (quad_text form q)))
 
   -- the token of a written IRI means the IRI
   iri_leaf : (i : List ℕ) → IsIri i → (p : Place) → iri_of (leaf (iri_text form i) p) ≡ i
-  iri_leaf i h p = ap (λ x. unwrap_or (iri_value x) []) (inside_one 60 62 (flat_map (written form) i)) ∙ ap (λ x. unwrap_or x []) (iri_meant form i h.characters)
+  iri_leaf i h p = ap (λ x. unwrap_or (iri_value x) []) (inside_one 60 62 (flat_map (written form) i))
+      ∙ ap (λ x. unwrap_or x []) (iri_meant form i h.characters)
 
   -- the token of a written string means its characters
   string_leaf : (w : List ℕ) → all_have scalar w ≡ true → (p : Place) → string_of (leaf (string_text form w) p) ≡ w
@@ -421,7 +445,8 @@ module _ (form : Escapes) where
       (term_of (typed_tree b p w i) ≡ Literal w (Typed i)) × object_bound has_scheme (typed_tree b p w i)
   typed_meant p true w i e a h = (ap (λ x. Literal x (Typed xsd_string)) (string_leaf w a p) ∙ ap (λ x. Literal w (Typed x)) (sym (e refl)), tt)
   typed_meant p false w i e a h = (
-    ap (λ x. Literal x (Typed (iri_of (leaf (iri_text form i) (past (past p (string_text form w)) (94 ∷ 94 ∷ [])))))) (string_leaf w a p) ∙ ap (λ x. Literal w (Typed x)) (iri_leaf i h (past (past p (string_text form w)) (94 ∷ 94 ∷ []))),
+    ap (λ x. Literal x (Typed (iri_of (leaf (iri_text form i) (past (past p (string_text form w)) (94 ∷ 94 ∷ [])))))) (string_leaf w a p)
+        ∙ ap (λ x. Literal w (Typed x)) (iri_leaf i h (past (past p (string_text form w)) (94 ∷ 94 ∷ []))),
     iri_bound i h (past (past p (string_text form w)) (94 ∷ 94 ∷ [])),
   )
 
@@ -432,7 +457,8 @@ module _ (form : Escapes) where
   object_meant p (Literal w (Typed i)) h c = typed_meant p (bytes_eq i xsd_string) w i (bytes_eq-Decides i xsd_string).0 h.0 h.1
 
   -- that of a graph label means the label
-  graph_meant : (p : Place) (g : Option Subject) → IsGraph g → CanWriteGraph Kept g → (option_map subject_of (graph_tree p g) ≡ g) × graph_bound has_scheme (graph_tree p g)
+  graph_meant : (p : Place) (g : Option Subject) → IsGraph g → CanWriteGraph Kept g →
+      (option_map subject_of (graph_tree p g) ≡ g) × graph_bound has_scheme (graph_tree p g)
   graph_meant p None h c = (refl, tt)
   graph_meant p (Some g) h c = let m = name_meant p g h c in (ap (λ x. Some x) m.0, m.1)
 
@@ -446,7 +472,8 @@ module _ (form : Escapes) where
       ∙ ap (λ (x : Option Subject). let r : Quad = record { subject = q.subject; predicate = q.predicate; object = q.object; graph = x } in r) d))
 
   -- so the tree of a line means its quad, and is a statement of N-Quads
-  pub statement_meant : (p : Place) (q : Quad) → IsQuad q → CanWrite Kept q → (quad_of (statement_tree p q) ≡ q) × GoodStatement has_scheme NQuads (statement_tree p q)
+  pub statement_meant : (p : Place) (q : Quad) → IsQuad q → CanWrite Kept q →
+      (quad_of (statement_tree p q) ≡ q) × GoodStatement has_scheme NQuads (statement_tree p q)
   statement_meant p q h c =
       let s = name_meant p q.subject h.subject c.subject in
       let v = iri_leaf q.predicate h.predicate (past p (upto_subject q)) in
@@ -466,12 +493,14 @@ module _ (form : Escapes) where
 
   -- so what is written is a document of those quads
   pub reads_back : (limit : ℕ) (qs : List Quad) → Written qs → (p : Place) → AllShort limit (document_tokens (document_tree p qs)) →
-      ((tokens Lines limit ended false p (flat_map (quad_text form) qs)).outcome ≡ complete) × IsPlain has_scheme NQuads (tokens Lines limit ended false p (flat_map (quad_text form) qs)).tokens qs
+      ((tokens Lines limit ended false p (flat_map (quad_text form) qs)).outcome ≡ complete) × IsPlain has_scheme NQuads
+      (tokens Lines limit ended false p (flat_map (quad_text form) qs)).tokens qs
   reads_back limit qs h p s =
       let r = reads_text limit qs h p s in
       let m = document_meant p qs h in
       (ap (λ x. x.outcome) r, (document_tree p qs, ap (λ x. x.tokens) r, m.1, m.0))
 
   -- with a limit of the text's length no token is too long
-  pub text_short : (limit : ℕ) (qs : List Quad) → Written qs → length (flat_map (quad_text form) qs) ≤ limit → (p : Place) → AllShort limit (document_tokens (document_tree p qs))
+  pub text_short : (limit : ℕ) (qs : List Quad) → Written qs → length (flat_map (quad_text form) qs) ≤ limit → (p : Place) →
+      AllShort limit (document_tokens (document_tree p qs))
   text_short limit qs h l p = total_short limit (document_tokens (document_tree p qs)) (let s = text_size limit qs h p in omega arith)

@@ -45,7 +45,8 @@ end_ended b (x ∷ xs) e h = (record { front = []; last = b; is_end = e; whole =
 -- the lines of a text end so
 pub split_ended : (w : List ℕ) → AreEnded (split_lines w)
 split_ended [] = tt
-split_ended (b ∷ w) = cond_both (is_line_end b) ((b ∷ []) ∷ split_lines w) (put_byte b (split_lines w)) AreEnded (λ t. end_ended b (split_lines w) (tested_end b t) (split_ended w)) (λ f. put_ended b (split_lines w) (split_ended w))
+split_ended (b ∷ w) = cond_both (is_line_end b) ((b ∷ []) ∷ split_lines w) (put_byte b (split_lines w)) AreEnded
+    (λ t. end_ended b (split_lines w) (tested_end b t) (split_ended w)) (λ f. put_ended b (split_lines w) (split_ended w))
 
 -- a byte in front of the first line is one in front of all
 put_whole : (b : ℕ) (ls : List (List ℕ)) → concat (put_byte b ls) ≡ b ∷ concat ls
@@ -77,13 +78,18 @@ module _ (form : LineForm) (limit iri : ℕ) where
   lines_joined first [] qs e g = (subst (IsRun form limit iri []) (sym g) (nothing_run form limit iri), λ f. nothing_unmarked)
   lines_joined first (x ∷ []) qs e (ps, rs, h, n, s) =
       let all : qs ≡ ps = s ∙ (ap (λ y. ps ++ y) n ∙ append-nil ps) in
-      let one : x ++ [] ≡ x = append-nil x in
-      (subst (λ w. IsRun form limit iri w qs) (sym one) (subst (IsRun form limit iri x) (sym all) (accepted_run form limit iri x ps h.accepted)), subst (Unmarked first) (sym one) h.marked)
+      let one : x ++ [] ≡ x = append-nil x in (
+        subst (λ w. IsRun form limit iri w qs) (sym one) (subst (IsRun form limit iri x) (sym all)
+            (accepted_run form limit iri x ps h.accepted)),
+        subst (Unmarked first) (sym one) h.marked,
+      )
   lines_joined first (x ∷ y ∷ ys) qs e (ps, rs, h, n, s) =
       let more = lines_joined false (y ∷ ys) rs e.1 n in
       let b = concat (y ∷ ys) in
-      let line : IsRun form limit iri (e.0.front ++ e.0.last ∷ []) ps = subst (λ w. IsRun form limit iri w ps) e.0.whole (accepted_run form limit iri x ps h.accepted) in
-      let both : IsRun form limit iri ((e.0.front ++ e.0.last ∷ []) ++ b) (ps ++ rs) = joined form limit iri e.0.front e.0.last b e.0.is_end ps rs line more.0 (more.1 refl) in
+      let line : IsRun form limit iri (e.0.front ++ e.0.last ∷ []) ps =
+      subst (λ w. IsRun form limit iri w ps) e.0.whole (accepted_run form limit iri x ps h.accepted) in
+      let both : IsRun form limit iri ((e.0.front ++ e.0.last ∷ []) ++ b) (ps ++ rs) =
+      joined form limit iri e.0.front e.0.last b e.0.is_end ps rs line more.0 (more.1 refl) in
       let m = mark_same form limit iri e.0.front e.0.last b e.0.is_end (run_utf8 form limit iri _ _ both) in
       let whole : (e.0.front ++ e.0.last ∷ []) ++ b ≡ x ++ b = ap (λ w. w ++ b) (sym e.0.whole) in (
         subst (λ w. IsRun form limit iri w qs) whole (subst (IsRun form limit iri ((e.0.front ++ e.0.last ∷ []) ++ b)) (sym s) both),
@@ -91,7 +97,8 @@ module _ (form : LineForm) (limit iri : ℕ) where
       )
 
   -- and a document is good lines
-  pub lines_split : (first : Bool) (ls : List (List ℕ)) (qs : List Quad) → AreEnded ls → length (concat ls) ≤ most_bytes → IsRun form limit iri (concat ls) qs → Unmarked first (concat ls) →
+  pub lines_split : (first : Bool) (ls : List (List ℕ)) (qs : List Quad) → AreEnded ls → length (concat ls) ≤ most_bytes →
+      IsRun form limit iri (concat ls) qs → Unmarked first (concat ls) →
       AreGoodLines (in_lines form limit iri) first ls qs
   lines_split first [] qs e k r m =
       let none : qs ≡ [] = same_quads r (nothing_run form limit iri) in none
@@ -127,7 +134,8 @@ module _ (form : LineForm) (limit iri : ℕ) where
       )
 
   -- lines that are good after others are so at the beginning
-  first_good : (first : Bool) (ls : List (List ℕ)) (qs : List Quad) → AreGoodLines (in_lines form limit iri) false ls qs → AreGoodLines (in_lines form limit iri) first ls qs
+  first_good : (first : Bool) (ls : List (List ℕ)) (qs : List Quad) → AreGoodLines (in_lines form limit iri) false ls qs →
+      AreGoodLines (in_lines form limit iri) first ls qs
   first_good first [] qs g = g
   first_good first (x ∷ xs) qs (ps, rs, h, n, s) = (ps, rs, record { accepted = h.accepted; marked = λ f. h.marked refl }, n, s)
 
@@ -138,7 +146,8 @@ module _ (form : LineForm) (limit iri : ℕ) where
     pub none : ls ≡ [] → kept ≡ []
     pub size : length (concat kept) ≤ length (concat ls)
 
-  pub sifted : (first : Bool) (ls kept bad : List (List ℕ)) (qs : List Quad) → AreEnded ls → Sifts (in_lines form limit iri) first ls kept bad qs → IsKept first ls kept qs
+  pub sifted : (first : Bool) (ls kept bad : List (List ℕ)) (qs : List Quad) → AreEnded ls →
+      Sifts (in_lines form limit iri) first ls kept bad qs → IsKept first ls kept qs
   sifted first [] kept bad qs e s = record {
     ended = subst AreEnded (sym s.0) tt;
     good = subst (λ k. AreGoodLines (in_lines form limit iri) first k qs) (sym s.0) s.2;
@@ -151,7 +160,8 @@ module _ (form : LineForm) (limit iri : ℕ) where
         ended = subst AreEnded (sym s.lines) (ended xs s.kept_after e h.ended h.none);
         good = subst (λ k. AreGoodLines (in_lines form limit iri) first k qs) (sym s.lines) (s.quads, s.quads_after, s.is_good, h.good, s.all);
         none = λ z. absurd (let z : x ∷ xs ≡ [] = z in cc);
-        size = let a = ap (λ k. length (concat k)) s.lines in let b = h.size in omega (arith, a, b, length-append x (concat s.kept_after), length-append x (concat xs));
+        size = let a = ap (λ k. length (concat k)) s.lines in let b = h.size in
+            omega (arith, a, b, length-append x (concat s.kept_after), length-append x (concat xs));
       }
     where
       ended : (xs ks : List (List ℕ)) → AreEnded (x ∷ xs) → AreEnded ks → (xs ≡ [] → ks ≡ []) → AreEnded (x ∷ ks)
@@ -172,15 +182,18 @@ pub documents_lines : DocumentsAreTheirLines
 documents_lines form limit iri bytes qs l =
     let whole = split_whole bytes in
     let e = split_ended bytes in (
-      λ a. lines_split form limit iri true (split_lines bytes) qs e (subst (λ w. length w ≤ most_bytes) (sym whole) l) (subst (λ w. IsRun form limit iri w qs) (sym whole) (accepted_run form limit iri bytes qs a)) (λ f. absurd (let z : true ≡ false = f in cc)),
-      λ g. run_accepted form limit iri bytes qs l (subst (λ w. IsRun form limit iri w qs) whole (lines_joined form limit iri true (split_lines bytes) qs e g).0),
+      λ a. lines_split form limit iri true (split_lines bytes) qs e (subst (λ w. length w ≤ most_bytes) (sym whole) l)
+          (subst (λ w. IsRun form limit iri w qs) (sym whole) (accepted_run form limit iri bytes qs a)) (λ f. absurd (let z : true ≡ false = f in cc)),
+      λ g. run_accepted form limit iri bytes qs l
+          (subst (λ w. IsRun form limit iri w qs) whole (lines_joined form limit iri true (split_lines bytes) qs e g).0),
     )
 
 -- what is left of one without its bad lines is one
 pub good_read : GoodLinesAreRead
 good_read form limit iri bytes kept bad qs l s =
     let k = sifted form limit iri true (split_lines bytes) kept bad qs (split_ended bytes) s in
-    let size : length (concat kept) ≤ most_bytes = let a = k.size in let b : length (concat (split_lines bytes)) ≡ length bytes = ap length (split_whole bytes) in omega (arith, a, b, l) in
+    let size : length (concat kept) ≤ most_bytes = let a = k.size in let b : length (concat (split_lines bytes)) ≡ length bytes =
+    ap length (split_whole bytes) in omega (arith, a, b, l) in
     run_accepted form limit iri (concat kept) qs size (lines_joined form limit iri true kept qs k.ended k.good).0
 
 -- good lines are sifted so that none is bad
@@ -196,4 +209,5 @@ good_sifted form limit iri first bytes qs g =
     let whole = split_whole bytes in
     all_kept (in_lines form limit iri) first (split_lines bytes) qs
     (lines_split form limit iri first (split_lines bytes) qs (split_ended bytes) (subst (λ w. length w ≤ most_bytes) (sym whole) g.accepted.within.size)
-    (subst (λ w. IsRun form limit iri w qs) (sym whole) (accepted_run form limit iri bytes qs g.accepted)) (λ f. ap (λ w. has_byte_order_mark (good w)) whole ∙ g.marked f))
+    (subst (λ w. IsRun form limit iri w qs) (sym whole) (accepted_run form limit iri bytes qs g.accepted))
+    (λ f. ap (λ w. has_byte_order_mark (good w)) whole ∙ g.marked f))

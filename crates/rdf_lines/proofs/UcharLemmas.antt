@@ -36,7 +36,8 @@ written_cases Ascii P c raw escape = cond_both (nat_le c 0x7F) (c ∷ []) (uchar
 
 -- what holds of both forms of the escape holds of it
 pub uchar_cases : (P : List ℕ → Type 0) (c : ℕ) → (c ≤ 0xFFFF → P (92 ∷ 117 ∷ four c)) → (0xFFFF < c → P (92 ∷ 85 ∷ eight c)) → P (uchar c)
-uchar_cases P c short long = cond_both (nat_le c 0xFFFF) (92 ∷ 117 ∷ four c) (92 ∷ 85 ∷ eight c) P (λ h. short (within c 0xFFFF h)) (λ h. long (above c 0xFFFF h))
+uchar_cases P c short long =
+    cond_both (nat_le c 0xFFFF) (92 ∷ 117 ∷ four c) (92 ∷ 85 ∷ eight c) P (λ h. short (within c 0xFFFF h)) (λ h. long (above c 0xFFFF h))
 
 -- a digit
 glyph_is : (d : ℕ) → d < 16 → has hex_digit (hex_character d) ≡ true
@@ -95,7 +96,13 @@ pub uchar_shape : (c : ℕ) → Matches shapes.uchar (uchar c)
 unfolding has
 uchar_shape c =
     uchar_cases (Matches shapes.uchar) c
-    (λ l. inl (92 ∷ 117 ∷ [], four c, (92 ∷ [], 117 ∷ [], (92, refl, refl), (117 ∷ [], [], (117, refl, refl), refl, refl), refl), row_shape 0x1000 (0x100 ∷ 0x10 ∷ 1 ∷ []) c, refl))
+    (λ l. inl (
+      92 ∷ 117 ∷ [],
+      four c,
+      (92 ∷ [], 117 ∷ [], (92, refl, refl), (117 ∷ [], [], (117, refl, refl), refl, refl), refl),
+      row_shape 0x1000 (0x100 ∷ 0x10 ∷ 1 ∷ []) c,
+      refl,
+    ))
     (λ l. inr (
       92 ∷ 85 ∷ [],
       eight c,
@@ -137,7 +144,8 @@ four_number c l =
 eight_number : (c : ℕ) → c < 0x100000000 → c ≡ hex_number (eight c)
 eight_number c l =
     let whole : c ≡ number_at (0x10000000 ∷ 0x1000000 ∷ 0x100000 ∷ 0x10000 ∷ 0x1000 ∷ 0x100 ∷ 0x10 ∷ 1 ∷ []) c = omega arith in
-    whole ∙ sym (digits_number (0x10000000 ∷ 0x1000000 ∷ 0x100000 ∷ 0x10000 ∷ 0x1000 ∷ 0x100 ∷ 0x10 ∷ 1 ∷ []) c (refl, (refl, (refl, (refl, (refl, (refl, (refl, (refl, tt)))))))))
+    whole ∙ sym (digits_number (0x10000000 ∷ 0x1000000 ∷ 0x100000 ∷ 0x10000 ∷ 0x1000 ∷ 0x100 ∷ 0x10 ∷ 1 ∷ []) c
+    (refl, (refl, (refl, (refl, (refl, (refl, (refl, (refl, tt)))))))))
 
 -- a scalar value has no more than eight digits
 scalar_bound : (c : ℕ) → scalar c ≡ true → c < 0x100000000
@@ -148,4 +156,11 @@ pub uchar_meant : (i : Inside) (c : ℕ) → scalar c ≡ true → MayMean i c �
 uchar_meant i c s m =
     uchar_cases (λ w. IsNumberEscape i w c) c
     (λ l. (four c, inl (refl, refl), digits_are (0x1000 ∷ 0x100 ∷ 0x10 ∷ 1 ∷ []) c, four_number c l, s, m))
-    (λ l. (eight c, inr (refl, refl), digits_are (0x10000000 ∷ 0x1000000 ∷ 0x100000 ∷ 0x10000 ∷ 0x1000 ∷ 0x100 ∷ 0x10 ∷ 1 ∷ []) c, eight_number c (scalar_bound c s), s, m))
+    (λ l. (
+      eight c,
+      inr (refl, refl),
+      digits_are (0x10000000 ∷ 0x1000000 ∷ 0x100000 ∷ 0x10000 ∷ 0x1000 ∷ 0x100 ∷ 0x10 ∷ 1 ∷ []) c,
+      eight_number c (scalar_bound c s),
+      s,
+      m,
+    ))

@@ -72,11 +72,13 @@ completed_ran test f h ts m qs e =
     (document_quads 0 d.0, good_document test f (ts ++ completion m) d.0 d.1 d.2)
 
 -- so they begin one
-pub viable_ran : (test : List ℕ → Bool) (f : LineForm) → test word ≡ true → (ts : List Token) (m : Mode) (qs : List Quad) → run test f Begin ts ≡ ran m qs → Viable (IsDocument test f) ts
+pub viable_ran : (test : List ℕ → Bool) (f : LineForm) → test word ≡ true → (ts : List Token) (m : Mode) (qs : List Quad) →
+    run test f Begin ts ≡ ran m qs → Viable (IsDocument test f) ts
 viable_ran test f h ts m qs e = let d = completed_ran test f h ts m qs e in (completion m, d.0, d.1)
 
 -- tokens that begin a document are accepted
-pub ran_viable : (test : List ℕ → Bool) (f : LineForm) (ts : List Token) → Viable (IsDocument test f) ts → (m : Mode) × (qs : List Quad) × (run test f Begin ts ≡ ran m qs)
+pub ran_viable : (test : List ℕ → Bool) (f : LineForm) (ts : List Token) → Viable (IsDocument test f) ts →
+    (m : Mode) × (qs : List Quad) × (run test f Begin ts ≡ ran m qs)
 ran_viable test f ts v =
     let d = v.2 in
     then_ran (run test f Begin ts) (λ n. run test f n v.0) Finished (plain_quads d.0)
@@ -93,7 +95,8 @@ not_viable test f ts t m qs r e a v =
 
 -- each token of a completion is one of those that are written so
 dot_closes : All IsClosing ends
-dot_closes = All-cons IsClosing (token Dot (leaf (codes "."))) (token End (leaf []) ∷ []) refl (All-cons IsClosing (token End (leaf [])) [] refl (All-nil IsClosing))
+dot_closes = All-cons IsClosing (token Dot (leaf (codes "."))) (token End (leaf []) ∷ []) refl
+    (All-cons IsClosing (token End (leaf [])) [] refl (All-nil IsClosing))
 
 iri_closes : (ts : List Token) → All IsClosing ts → All IsClosing (iri ∷ ts)
 iri_closes ts h = All-cons IsClosing iri ts refl h
@@ -110,7 +113,8 @@ all_close AfterDot = All-cons IsClosing (token End (leaf [])) [] refl (All-nil I
 all_close Finished = All-nil IsClosing
 
 -- What begins a document, or a tree, is completed by these tokens.
-completed : (test : List ℕ → Bool) (f : LineForm) → test word ≡ true → (ts : List Token) → Viable (IsDocument test f) ts → CompletedWith IsClosing (IsDocument test f) ts
+completed : (test : List ℕ → Bool) (f : LineForm) → test word ≡ true → (ts : List Token) → Viable (IsDocument test f) ts →
+    CompletedWith IsClosing (IsDocument test f) ts
 completed test f h ts v =
     let r = ran_viable test f ts v in
     let d = completed_ran test f h ts r.0 r.1 r.2 in

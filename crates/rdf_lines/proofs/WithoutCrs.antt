@@ -85,7 +85,8 @@ escaped_others : (c : ℕ) → Others (escaped Plain c)
 escaped_others c = test 34 _ _ refl (test 92 _ _ refl (test 10 _ _ refl last))
   where
     test : (x : ℕ) (u v : List ℕ) → Others u → Others v → Others (cond (c == x) u v)
-    test x u v a b = ⊎_elim (λ t. ap (all_have is_other) (cond-true (c == x) u v t) ∙ a) (λ t. ap (all_have is_other) (cond-false (c == x) u v t) ∙ b) (cases_Bool (c == x))
+    test x u v a b = ⊎_elim (λ t. ap (all_have is_other) (cond-true (c == x) u v t) ∙ a)
+        (λ t. ap (all_have is_other) (cond-false (c == x) u v t) ∙ b) (cases_Bool (c == x))
 
     last : Others (cond (c == 13) (92 ∷ 114 ∷ []) (c ∷ []))
     last =
@@ -112,7 +113,8 @@ type_others false i h = iri_others i h
 term_others : (t : Term) → IsTerm t → CanWriteTerm Kept t → Others (term_text Plain t)
 term_others (Resource s) h c = subject_others s h c
 term_others (Literal w (Lang t)) h c = both (string_text Plain w) (64 ∷ t) (string_others w) (matched tag_name tag_cr t h.1)
-term_others (Literal w (Typed i)) h c = both (string_text Plain w) (type_text Plain (bytes_eq i xsd_string) i) (string_others w) (type_others (bytes_eq i xsd_string) i h.1)
+term_others (Literal w (Typed i)) h c =
+    both (string_text Plain w) (type_text Plain (bytes_eq i xsd_string) i) (string_others w) (type_others (bytes_eq i xsd_string) i h.1)
 
 -- and a graph label
 graph_others : (g : Option Subject) → IsGraph g → CanWriteGraph Kept g → Others (graph_text Plain g)
@@ -129,7 +131,8 @@ statement_others q h c =
     both (s ++ p ++ o ++ g) (46 ∷ [])
     (both (s ++ p ++ o) g
     (both (s ++ p) o
-    (both s p (both (subject_text Plain q.subject) space (subject_others q.subject h.subject c.subject) refl) (both (iri_text Plain q.predicate) space (iri_others q.predicate h.predicate) refl))
+    (both s p (both (subject_text Plain q.subject) space (subject_others q.subject h.subject c.subject) refl)
+    (both (iri_text Plain q.predicate) space (iri_others q.predicate h.predicate) refl))
     (both (term_text Plain q.object) space (term_others q.object h.object c.object) refl))
     (graph_others q.graph h.graph c.graph))
     refl

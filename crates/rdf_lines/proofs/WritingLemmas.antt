@@ -66,7 +66,8 @@ many_more : (r : Regex) (u w : List ℕ) → Matches r u → Matches (many r) w 
 many_more r u w m n = (u ∷ n.0, (m, n.1), ap (λ x. u ++ x) n.2)
 
 -- a text of pieces is a repetition of what each piece is
-pub many_of : (r : Regex) (test : ℕ → Bool) (f : ℕ → List ℕ) → ((c : ℕ) → test c ≡ true → Matches r (f c)) → (w : List ℕ) → all_have test w ≡ true → Matches (many r) (flat_map f w)
+pub many_of : (r : Regex) (test : ℕ → Bool) (f : ℕ → List ℕ) → ((c : ℕ) → test c ≡ true → Matches r (f c)) → (w : List ℕ) →
+    all_have test w ≡ true → Matches (many r) (flat_map f w)
 many_of r test f g [] a = ([], tt, refl)
 many_of r test f g (c ∷ w) a =
     let p = and_parts (test c) (all_have test w) a in
@@ -139,7 +140,8 @@ all_others c s a b d e = grind (arith, nat_tests)
 escape_cases : (e : Escapes) (P : ℕ → List ℕ → Type 0) → P 34 (92 ∷ 34 ∷ []) → P 92 (92 ∷ 92 ∷ []) → P 10 (92 ∷ 110 ∷ []) → P 13 (92 ∷ 114 ∷ []) →
     ((c : ℕ) → has plain_double c ≡ true → P c (written e c)) → (c : ℕ) → scalar c ≡ true → P c (escaped e c)
 escape_cases e P quote back feed return plain c s =
-    test 34 (92 ∷ 34 ∷ []) _ quote (λ a. test 92 (92 ∷ 92 ∷ []) _ back (λ b. test 10 (92 ∷ 110 ∷ []) _ feed (λ d. test 13 (92 ∷ 114 ∷ []) _ return (λ f. plain c (all_others c s a b d f)))))
+    test 34 (92 ∷ 34 ∷ []) _ quote (λ a. test 92 (92 ∷ 92 ∷ []) _ back
+    (λ b. test 10 (92 ∷ 110 ∷ []) _ feed (λ d. test 13 (92 ∷ 114 ∷ []) _ return (λ f. plain c (all_others c s a b d f)))))
   where
     test : (x : ℕ) (u v : List ℕ) → P x u → ((c == x) ≡ false → P c v) → P c (cond (c == x) u v)
     test x u v h k =
@@ -226,7 +228,8 @@ last_off x v m =
     (n.1, m.1, n.3, m.3, (let z : v ≡ n.1 ++ m.1 = cc in z))
 
 -- what is left of a string after a backslash and its letter
-left_after : (r : Regex) (x : ℕ) → clean (after_all string_rest (92 ∷ x ∷ [])) ≡ (r · many part) · one (the 34) → (v : List ℕ) → Matches string_rest (92 ∷ x ∷ v) → Left r v
+left_after : (r : Regex) (x : ℕ) → clean (after_all string_rest (92 ∷ x ∷ [])) ≡ (r · many part) · one (the 34) → (v : List ℕ) →
+    Matches string_rest (92 ∷ x ∷ v) → Left r v
 left_after r x e v m =
     subst (λ r. Matches r v) e (matches-clean (after_all string_rest (92 ∷ x ∷ [])) v (matches-after_all (92 ∷ x ∷ []) v string_rest m))
 
@@ -261,7 +264,8 @@ escapes_after : (e : Escapes) (w : List ℕ) → all_have scalar w ≡ true → 
 escapes_after e [] a v m = m
 escapes_after e (c ∷ w) a v m =
     let p = and_parts (scalar c) (all_have scalar w) a in
-    escapes_after e w p.1 v (escape_after e c p.0 (flat_map (escaped e) w ++ v) (subst (Matches string_rest) (append_assoc (escaped e c) (flat_map (escaped e) w) v) m))
+    escapes_after e w p.1 v (escape_after e c p.0 (flat_map (escaped e) w ++ v)
+    (subst (Matches string_rest) (append_assoc (escaped e c) (flat_map (escaped e) w) v) m))
 
 -- after the last quote nothing is left
 end_after : clean (after string_rest 34) ≡ empty
@@ -281,10 +285,12 @@ unfolding shape has
 shape_rest = refl
 
 -- no string begins with a whole written one
-pub string_ends : (e : Escapes) (w : List ℕ) → all_have scalar w ≡ true → (x : ℕ) (u : List ℕ) → Matches (shape Lines ShortString) (string_text e w ++ x ∷ u) → ⊥
+pub string_ends : (e : Escapes) (w : List ℕ) → all_have scalar w ≡ true → (x : ℕ) (u : List ℕ) →
+    Matches (shape Lines ShortString) (string_text e w ++ x ∷ u) → ⊥
 string_ends e w a x u m =
     let rest = (flat_map (escaped e) w ++ 34 ∷ []) ++ x ∷ u in
-    let n = subst (λ r. Matches r rest) shape_rest (matches-clean (after (shape Lines ShortString) 34) rest (matches-after (shape Lines ShortString) 34 rest m)) in
+    let n = subst (λ r. Matches r rest) shape_rest
+    (matches-clean (after (shape Lines ShortString) 34) rest (matches-after (shape Lines ShortString) 34 rest m)) in
     let f = escapes_after e w a (34 ∷ x ∷ u) (subst (Matches string_rest) (append_assoc (flat_map (escaped e) w) (34 ∷ []) (x ∷ u)) n) in
     let z : x ∷ u ≡ [] = subst (λ r. Matches r (x ∷ u)) end_after (matches-clean (after string_rest 34) (x ∷ u) (matches-after string_rest 34 (x ∷ u) f)) in
     cc
@@ -302,7 +308,8 @@ string_piece e =
     (inr (inl (92, refl, inr (inr (inr (inr (inr (inr (inr (inl (refl, refl)))))))))))
     (inr (inl (110, refl, inr (inr (inl (refl, refl))))))
     (inr (inl (114, refl, inr (inr (inr (inl (refl, refl)))))))
-    (λ c h. written_cases e (λ w. IsPiece of_string w c) c (inl (refl, not_slash c ((plain_others c h).2), tt)) (λ l. inr (inr (uchar_meant of_string c (plain_scalar c h) tt))))
+    (λ c h. written_cases e (λ w. IsPiece of_string w c) c (inl (refl, not_slash c ((plain_others c h).2), tt))
+    (λ l. inr (inr (uchar_meant of_string c (plain_scalar c h) tt))))
 
 -- so all pieces mean the characters, as they are read back
 string_pieces : (e : Escapes) (w : List ℕ) → all_have scalar w ≡ true → Means (IsPiece of_string) (flat_map (escaped e) w) w

@@ -74,7 +74,8 @@ all_short f n h (c ∷ w) =
 
 -- a string as it is written has its quotes, and so many characters for each at most; an IRI its brackets, and so many for each byte
 pub written_string : (e : Escapes) (w : List ℕ) → length (string_text e w) ≤ 2 + string_width e * length w
-written_string e w = let a = all_short (escaped e) (string_width e) (escaped_short e) w in let s = length-append (flat_map (escaped e) w) (34 ∷ []) in omega arith
+written_string e w = let a = all_short (escaped e) (string_width e) (escaped_short e) w in let s =
+    length-append (flat_map (escaped e) w) (34 ∷ []) in omega arith
 
 -- an escape has up to ten characters for a character of two bytes or more
 uchar_bytes : (c : ℕ) → 127 < c → length (uchar c) ≤ 3 * length (encode c)
@@ -106,7 +107,8 @@ iri_bytes e (c ∷ i) =
     let b = iri_bytes e i in
     let s = length-append (written e c) (flat_map (written e) i) in
     let t = length-append (encode c) (encodes i) in
-    let m : iri_width e * (length (encode c) + byte_len i) ≡ iri_width e * length (encode c) + iri_width e * byte_len i = mul-add (iri_width e) (length (encode c)) (byte_len i) in
+    let m : iri_width e * (length (encode c) + byte_len i) ≡ iri_width e * length (encode c) + iri_width e * byte_len i =
+    mul-add (iri_width e) (length (encode c)) (byte_len i) in
     let k : iri_width e * byte_len (c ∷ i) ≡ iri_width e * (length (encode c) + byte_len i) = ap (λ x. iri_width e * x) t in
     omega arith
 
@@ -139,7 +141,8 @@ pub token_room : (e : Escapes) (limit t : ℕ) → string_width e * limit ≤ t 
 token_room escapes.Plain limit t a = omega arith
 token_room escapes.Ascii limit t a = omega arith
 
-module _ (form : Escapes) (limit n token_then iri_then : ℕ) (a : string_width form * limit ≤ token_then) (b : iri_width form * n + 2 ≤ token_then) (c : 64 ≤ token_then) (d : n ≤ iri_then) (e : 64 ≤ iri_then) where
+module _ (form : Escapes) (limit n token_then iri_then : ℕ) (a : string_width form * limit ≤ token_then)
+    (b : iri_width form * n + 2 ≤ token_then) (c : 64 ≤ token_then) (d : n ≤ iri_then) (e : 64 ≤ iri_then) where
   -- what is known of a token
   abbrev Good : Token → Type 0
   Good t = (length t.text ≤ limit) × (t.kind ≡ IriRef → byte_len (iri_of (leaf_of t)) ≤ n)
@@ -167,7 +170,8 @@ module _ (form : Escapes) (limit n token_then iri_then : ℕ) (a : string_width 
   name_fits (Lab l) g = (tt, label_fits l g.0)
 
   -- so does the object
-  object_fits : (x : Object) → AllByRecursion Good (object_tokens x) → TermWithin iri_then (term_of x) × TermShort form token_then (rename_term Kept (term_of x))
+  object_fits : (x : Object) → AllByRecursion Good (object_tokens x) →
+      TermWithin iri_then (term_of x) × TermShort form token_then (rename_term Kept (term_of x))
   object_fits (Named x) g = name_fits x g
   object_fits (Plain l) g = (let z = xsd_bytes in omega arith, (string_fits l g.0, let w = xsd_text form in omega arith))
   object_fits (WithType l k i) g = let z = iri_fits i g.1.1.0 in (z.0, (string_fits l g.0, z.1))
@@ -227,8 +231,10 @@ module _ (form : Escapes) (limit n token_then iri_then : ℕ) (a : string_width 
   )
 
 -- so the quads of a document fit
-document_fits : (x : Escapes) (form : LineForm) (limit n : ℕ) (bytes : List ℕ) (qs : List Quad) → IsDocumentOf (in_lines form limit n) bytes qs → IsWhole (in_lines form limit n) bytes →
-    (token_then iri_then : ℕ) (a : string_width x * limit ≤ token_then) (b : iri_width x * n + 2 ≤ token_then) (c : 64 ≤ token_then) (d : n ≤ iri_then) (e : 64 ≤ iri_then) →
+document_fits : (x : Escapes) (form : LineForm) (limit n : ℕ) (bytes : List ℕ) (qs : List Quad) →
+    IsDocumentOf (in_lines form limit n) bytes qs → IsWhole (in_lines form limit n) bytes →
+    (token_then iri_then : ℕ) (a : string_width x * limit ≤ token_then) (b : iri_width x * n + 2 ≤ token_then) (c : 64 ≤ token_then)
+    (d : n ≤ iri_then) (e : 64 ≤ iri_then) →
     AllByRecursion (Fits x limit n token_then iri_then a b c d e) qs
 document_fits x form limit n bytes qs document whole token_then iri_then a b c d e =
     let ts = (tokens_of Lines limit bytes true).tokens in
@@ -244,8 +250,10 @@ pub record Fitting (x : Escapes) (qs : List Quad) (token_then iri_then : ℕ) : 
   pub shorts : AllByRecursion (TokensWithin x token_then) (map (rename Kept) qs)
   pub iris : AllByRecursion (IrisWithin iri_then) qs
 
-pub fitting : (x : Escapes) (form : LineForm) (limit n : ℕ) (bytes : List ℕ) (qs : List Quad) → IsDocumentOf (in_lines form limit n) bytes qs → IsWhole (in_lines form limit n) bytes →
-    (token_then iri_then : ℕ) → string_width x * limit ≤ token_then → iri_width x * n + 2 ≤ token_then → 64 ≤ token_then → n ≤ iri_then → 64 ≤ iri_then → Fitting x qs token_then iri_then
+pub fitting : (x : Escapes) (form : LineForm) (limit n : ℕ) (bytes : List ℕ) (qs : List Quad) →
+    IsDocumentOf (in_lines form limit n) bytes qs → IsWhole (in_lines form limit n) bytes →
+    (token_then iri_then : ℕ) → string_width x * limit ≤ token_then → iri_width x * n + 2 ≤ token_then → 64 ≤ token_then → n ≤ iri_then →
+    64 ≤ iri_then → Fitting x qs token_then iri_then
 fitting x form limit n bytes qs document whole token_then iri_then a b c d e =
     let fits = document_fits x form limit n bytes qs document whole token_then iri_then a b c d e in
     record {

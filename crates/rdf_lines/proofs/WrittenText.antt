@@ -68,7 +68,8 @@ written_scalars : (e : Escapes) (c : ℕ) → scalar c ≡ true → scalars (wri
 written_scalars e c h = written_cases e (λ w. scalars w ≡ true) c (and_from _ true (same_scalar c h) refl) (λ l. low_scalars (uchar c) (uchar_low c))
 
 -- a text is of scalar values where what stands for each character is
-all_written : (f : ℕ → List ℕ) (test : ℕ → Bool) → ((c : ℕ) → test c ≡ true → scalars (f c) ≡ true) → (w : List ℕ) → all_have test w ≡ true → scalars (flat_map f w) ≡ true
+all_written : (f : ℕ → List ℕ) (test : ℕ → Bool) → ((c : ℕ) → test c ≡ true → scalars (f c) ≡ true) → (w : List ℕ) →
+    all_have test w ≡ true → scalars (flat_map f w) ≡ true
 all_written f test g [] a = refl
 all_written f test g (c ∷ w) a = let p = and_parts (test c) (all_have test w) a in scalars_append (f c) (flat_map f w) (g c p.0) (all_written f test g w p.1)
 
@@ -137,9 +138,11 @@ text_scalars e (q ∷ qs) h = scalars_append (quad_text e q) (flat_map (quad_tex
 pub no_mark : (e : Escapes) (qs : List Quad) → Written qs → has_byte_order_mark (flat_map (quad_text e) qs) ≡ false
 no_mark x [] h = refl
 no_mark x (q ∷ qs) h =
-    at q.subject space (iri_text x q.predicate ++ space) (term_text x q.object ++ space) (graph_text x q.graph) (46 ∷ []) (10 ∷ []) (flat_map (quad_text x) qs) h.0.0.subject h.0.1.subject
+    at q.subject space (iri_text x q.predicate ++ space) (term_text x q.object ++ space) (graph_text x q.graph) (46 ∷ []) (10 ∷ [])
+    (flat_map (quad_text x) qs) h.0.0.subject h.0.1.subject
   where
-    at : (s : Subject) (a b d e f g r : List ℕ) → IsSubject s → CanWriteSubject Kept s → has_byte_order_mark (subject_text x s ++ a ++ b ++ d ++ e ++ f ++ g ++ r) ≡ false
+    at : (s : Subject) (a b d e f g r : List ℕ) → IsSubject s → CanWriteSubject Kept s →
+        has_byte_order_mark (subject_text x s ++ a ++ b ++ d ++ e ++ f ++ g ++ r) ≡ false
     at (Iri i) a b d e f g r h c = refl
     at (Blank (Label x)) a b d e f g r h c = refl
     at (Blank (Anon n)) a b d e f g r h c = absurd c

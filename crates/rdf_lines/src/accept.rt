@@ -4,7 +4,9 @@ ghost use Rattle.std.specs.Prelude.{◌≡◌, ℕ, false, OnOk, IfOk, IfErr};
 ghost use Rattle.rdf_lines.specs.declared.rules.Rules.{Rules};
 ghost use Rattle.rdf_lines.specs.Machine as M;
 ghost use Rattle.rdf_lines.specs.Machine.{goes, gives};
-ghost use Rattle.rdf_lines.specs.States.{mode_of, mode_at, answer, quad_with, IsLineToken, Declines, Does, DoesByAnyRules, Fails, FailsByAnyRules, LeadsTo, IsDeclined, HoldsAt, StaysWithin};
+ghost use Rattle.rdf_lines.specs.States.{mode_of, mode_at, answer, quad_with, IsLineToken, Declines, Does};
+ghost use Rattle.rdf_lines.specs.States.{DoesByAnyRules, Fails, FailsByAnyRules, LeadsTo, IsDeclined, HoldsAt};
+ghost use Rattle.rdf_lines.specs.States.{StaysWithin};
 
 use crate::form::LineForm;
 use crate::rules::Rules;

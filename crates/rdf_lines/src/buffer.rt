@@ -1,6 +1,7 @@
 // Lines in memory that is filled once and used again.
 
-ghost use Rattle.std.specs.Prelude.{◌≡◌, ◌↔◌, ◌≤◌, ◌++◌, [], length, take, true, false, encode_utf8_all, IfOk, OnErr, OnOk};
+ghost use Rattle.std.specs.Prelude.{◌≡◌, ◌↔◌, ◌≤◌, ◌++◌, [], length, take, true, false, encode_utf8_all, IfOk, OnErr};
+ghost use Rattle.std.specs.Prelude.{OnOk};
 ghost use Rattle.std.specs.Result.{IsErrOf};
 ghost use Rattle.rdf_terms.specs.Views.{iris_quad, quad_of};
 ghost use Rattle.rdf_lines.specs.Escaped.{PassesInto};

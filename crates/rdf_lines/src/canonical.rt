@@ -5,7 +5,9 @@ ghost use Rattle.std.specs.Str.{chars, IsUtf8};
 ghost use Rattle.rdf_terms.specs.Runs.{is_short_byte, IsRun};
 ghost use Rattle.rdf_tokens.specs.Scans.{most_bytes};
 ghost use Rattle.rdf_lines.specs.Canonical.{PassesLines, end_count, end_text};
-ghost use Rattle.rdf_lines.specs.Fronts.{IriStands, LabelStands, TagStands, StringStands, SubjectStands, PredicateStands, TailStands, ObjectStands, GraphStands, LineStandsByAnyLimit, AreLines, CharactersStand, EscapeStands};
+ghost use Rattle.rdf_lines.specs.Fronts.{IriStands, LabelStands, TagStands, StringStands, SubjectStands};
+ghost use Rattle.rdf_lines.specs.Fronts.{PredicateStands, TailStands, ObjectStands, GraphStands, LineStandsByAnyLimit};
+ghost use Rattle.rdf_lines.specs.Fronts.{AreLines, CharactersStand, EscapeStands};
 
 use crate::form::{LineEnding, LineForm};
 use crate::grammar::LineGrammar;

@@ -1,12 +1,14 @@
 // Lines whose strings and IRIs may have any escapes.
 
-ghost use Rattle.std.specs.Prelude.{◌≡◌, ◌<◌, ◌≤◌, ◌+◌, ◌++◌, ◌∷◌, ℕ, false, drop, length, take, option_map, true, IfOk, IfSome, OnErr};
+ghost use Rattle.std.specs.Prelude.{◌≡◌, ◌<◌, ◌≤◌, ◌+◌, ◌++◌, ◌∷◌, ℕ, false, drop, length, take, option_map, true};
+ghost use Rattle.std.specs.Prelude.{IfOk, IfSome, OnErr};
 ghost use Rattle.std.specs.Str.{chars, IsUtf8};
 ghost use Rattle.rdf_lines.specs.Canonical.{end_text};
 ghost use Rattle.rdf_lines.specs.Fronts.{IriStands};
 ghost use Rattle.rdf_terms.specs.Terms.{IsLabel, IsTag, Resource};
 ghost use Rattle.rdf_terms.specs.Views.{quad_of, subject_by, term_by, tail_by};
-ghost use Rattle.rdf_lines.specs.Escaped.{is_clear, GraphSpelled, IriSpelled, LineSpelled, NameStands, PassesInto, StringSpelled, SubjectSpelled, TailSpelled, TermSpelled};
+ghost use Rattle.rdf_lines.specs.Escaped.{is_clear, GraphSpelled, IriSpelled, LineSpelled, NameStands, PassesInto};
+ghost use Rattle.rdf_lines.specs.Escaped.{StringSpelled, SubjectSpelled, TailSpelled, TermSpelled};
 
 use crate::buffer::LineBuffer;
 use crate::canonical::{IriPart, after_byte, after_byte_at, after_end, iri};

@@ -7,8 +7,13 @@ ghost use Rattle.rdf_lines.specs.declared.form.Style.{Style};
 ghost use Rattle.rdf_lines.specs.Writing.{Writable, rename_node, text};
 ghost use Rattle.rdf_lines.specs.SplitLines.{DocumentsAreTheirLines, GoodLinesAreRead};
 ghost use Rattle.rdf_lines.specs.Canonical.{CanonicalLinesAreRead, CanonicalLinesAreWritten};
-ghost use Rattle.rdf_lines.specs.Laws.{ReadsBack, MarksNeverFall, TokensSettleTheQuads, TokensSettleWhatIsDue, DueBeginsTheQuads, BeginningsAreCompleted, ReadQuadsAreDue, DocumentsAreRead, RefusedIsNoDocument, WrittenTextIsRead, DocumentIsWritable, WrittenDocumentIsRead, AsciiIsWritten};
-ghost use Rattle.rdf_lines.specs.Laws.{PrefixedTextReadsBack, PrefixedTextIsRead, PrefixedDocumentIsRead, PrefixedAsciiIsWritten, FormsAgreeOnAscii, PrefixedNamesStayApart, PrefixesKeepApart, JoinedTextsReadBack, NoPrefixIsNoChange};
+ghost use Rattle.rdf_lines.specs.Laws.{ReadsBack, MarksNeverFall, TokensSettleTheQuads, TokensSettleWhatIsDue};
+ghost use Rattle.rdf_lines.specs.Laws.{DueBeginsTheQuads, BeginningsAreCompleted, ReadQuadsAreDue, DocumentsAreRead};
+ghost use Rattle.rdf_lines.specs.Laws.{RefusedIsNoDocument, WrittenTextIsRead, DocumentIsWritable};
+ghost use Rattle.rdf_lines.specs.Laws.{WrittenDocumentIsRead, AsciiIsWritten};
+ghost use Rattle.rdf_lines.specs.Laws.{PrefixedTextReadsBack, PrefixedTextIsRead, PrefixedDocumentIsRead};
+ghost use Rattle.rdf_lines.specs.Laws.{PrefixedAsciiIsWritten, FormsAgreeOnAscii, PrefixedNamesStayApart};
+ghost use Rattle.rdf_lines.specs.Laws.{PrefixesKeepApart, JoinedTextsReadBack, NoPrefixIsNoChange};
 
 /// The bytes written for quads are a document of N-Quads, whose quads are these, renamed, one for one and in
 /// order. Any limit on a token's characters that is not below the text's length serves.

@@ -11,7 +11,8 @@ mod string;
 mod term;
 pub(crate) mod writable;
 
-ghost use Rattle.std.specs.Prelude.{◌≡◌, ◌↔◌, ◌∷◌, ◌++◌, ◌≤◌, chars, encode_utf8_all, length, string_bytes, None, IfOk, IfSome, OnErr, OnOk};
+ghost use Rattle.std.specs.Prelude.{◌≡◌, ◌↔◌, ◌∷◌, ◌++◌, ◌≤◌, chars, encode_utf8_all, length, string_bytes, None, IfOk};
+ghost use Rattle.std.specs.Prelude.{IfSome, OnErr, OnOk};
 ghost use Rattle.std.specs.Result.{IsErrOf};
 ghost use Rattle.rdf_terms.specs.Views.{iris_quad, node_of, quad_of};
 ghost use Rattle.rdf_lines.specs.declared.form.Escapes.TheVariants.{Plain};

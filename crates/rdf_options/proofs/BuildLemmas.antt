@@ -16,9 +16,11 @@ HaveRules (x ∷ xs) (r ∷ rs) = HasRule x r × HaveRules xs rs
 HaveRules _ _ = ⊥
 
 -- arguments that are added in turn read as their rules
-pub with_arguments : (old new : Command) (xs : List Arg) (rs : List Rule) (a : App) → AddsInTurn AddsArg old xs new → ReadsAs old a → HaveRules xs rs → ReadsAs new (fold with_rule a rs)
+pub with_arguments : (old new : Command) (xs : List Arg) (rs : List Rule) (a : App) → AddsInTurn AddsArg old xs new → ReadsAs old a →
+    HaveRules xs rs → ReadsAs new (fold with_rule a rs)
 with_arguments old new [] [] a added reads have = subst (λ c. ReadsAs c a) added reads
-with_arguments old new (x ∷ xs) (r ∷ rs) a added reads have = with_arguments added.0 new xs rs (with_rule a r) added.2 (with_argument old added.0 x a r added.1 reads have.0) have.1
+with_arguments old new (x ∷ xs) (r ∷ rs) a added reads have =
+    with_arguments added.0 new xs rs (with_rule a r) added.2 (with_argument old added.0 x a r added.1 reads have.0) have.1
 with_arguments old new [] (r ∷ rs) a added reads have = absurd have
 with_arguments old new (x ∷ xs) [] a added reads have = absurd have
 

@@ -5,8 +5,10 @@ ghost use Rattle.clap.specs.Words.{App, Rule, app_of, with_subcommand};
 ghost use Rattle.clap.specs.declared.builder.value_parser.ValueParser.TheVariants.{Names};
 ghost use Rattle.rdf_options.specs.Building.{HasRule, ReadsAs};
 ghost use Rattle.rdf_options.specs.Options.{action_app, check_app, convert_app, limit_rule, rdfconv, show_app};
-ghost use Rattle.rdf_options.specs.Options.{ascii_rule, base_rule, bindings_rule, depth_rule, explain_rule, file_rule, files_rule, format_rule};
-ghost use Rattle.rdf_options.specs.Options.{graph_rule, iri_rule, node_prefix_rule, output_rule, prefixes_rule, skip_rule, token_rule};
+ghost use Rattle.rdf_options.specs.Options.{ascii_rule, base_rule, bindings_rule, depth_rule, explain_rule, file_rule};
+ghost use Rattle.rdf_options.specs.Options.{files_rule, format_rule};
+ghost use Rattle.rdf_options.specs.Options.{graph_rule, iri_rule, node_prefix_rule, output_rule, prefixes_rule};
+ghost use Rattle.rdf_options.specs.Options.{skip_rule, token_rule};
 
 use clap::builder::ValueParser;
 use clap::{Arg, ArgAction, Command};

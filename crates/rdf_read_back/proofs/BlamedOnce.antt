@@ -45,7 +45,8 @@ module _ (form : DocForm) (start : InForce) (ahead : List Token) (t : Token) whe
       by s n e No h z = absurd (let y : None ≡ Some n = z in cc)
       by s n e (Go x early now c m) h z =
           same_sense false form start ahead t s x u early now c m e h p
-          ∙ opened_use s.setting.scope t.kind (leaf_of t) x o (subst (Facts (depth s.mode) s.setting.scope t.kind (leaf_of t)) h (step_facts form s.setting s.mode t.kind (leaf_of t))).1
+          ∙ opened_use s.setting.scope t.kind (leaf_of t) x o
+          (subst (Facts (depth s.mode) s.setting.scope t.kind (leaf_of t)) h (step_facts form s.setting s.mode t.kind (leaf_of t))).1
 
   -- what stands for something in a document begins one
   stands_viable : (u : Use) → StandsFor form start ahead t u → Viable (documents form start) (ahead ++ t ∷ [])

@@ -32,7 +32,8 @@ use Rattle.rdf_read_back.specs.Laws.{ConvertedIsRead, IsJob, Suffice}
 use Rattle.rdf_read_back.proofs.PlacedLimits.{placed_iris, placed_shorts}
 use Rattle.rdf_read_back.proofs.WrittenLimits.{fitting as trees_fit}
 
-module _ (job : JobRead) (bytes : List ℕ) (old new : Option (List ℕ)) (s : Summary) (is : IsJob job) (token_then iri_then : ℕ) (l : Suffice job token_then iri_then) where
+module _ (job : JobRead) (bytes : List ℕ) (old new : Option (List ℕ)) (s : Summary) (is : IsJob job) (token_then iri_then : ℕ)
+    (l : Suffice job token_then iri_then) where
   -- the graph's IRI as it is written
   graph_fits : (g : Option (List ℕ)) → IfSome g (λ i. (iri_width job.escapes * byte_len i + 2 ≤ token_then) × (byte_len i ≤ iri_then))
       → IfSome g (λ i. length (iri_text job.escapes i) ≤ token_then) × IfSome g (λ i. byte_len i ≤ iri_then)
@@ -45,21 +46,25 @@ module _ (job : JobRead) (bytes : List ℕ) (old new : Option (List ℕ)) (s : S
       → IsReadToItsEnd (in_lines NQuads (length job.node_prefix + token_then) iri_then) (lines_of (written_form style job) (all_in_graph job.graph qs))
   read style qs writable least shorts iris =
       let fits = graph_fits job.graph l.graph in
-      form_text_read (written_form style job) (all_in_graph job.graph qs) token_then iri_then is.word (placed_writable style job.graph is.graph qs writable) least
+      form_text_read (written_form style job) (all_in_graph job.graph qs) token_then iri_then is.word
+      (placed_writable style job.graph is.graph qs writable) least
       (placed_shorts style job.escapes token_then job.graph fits.0 qs shorts) (placed_iris iri_then job.graph fits.1 qs iris)
 
   -- those of a document of a line format
-  of_lines : (form : LineForm) (qs : List Quad) → IsDocumentOf (in_lines form job.limits.token job.limits.iri) bytes qs → IsWhole (in_lines form job.limits.token job.limits.iri) bytes
+  of_lines : (form : LineForm) (qs : List Quad) → IsDocumentOf (in_lines form job.limits.token job.limits.iri) bytes qs →
+      IsWhole (in_lines form job.limits.token job.limits.iri) bytes
       → IsReadToItsEnd (in_lines NQuads (length job.node_prefix + token_then) iri_then) (lines_of (written_form Kept job) (all_in_graph job.graph qs))
   of_lines form qs document whole =
       let fits = lines_fit job.escapes form job.limits.token job.limits.iri bytes qs document whole token_then iri_then l.strings l.iris l.token l.kept l.iri in
       read Kept qs fits.writable fits.least fits.shorts fits.iris
 
   -- and those of a document of Turtle or TriG
-  of_trees : (form : DocForm) (qs : List Quad) → length bytes ≤ most_bytes → IsDocumentOf (language form (tree_job form job).start) bytes qs → IsWhole (language form (tree_job form job).start) bytes
+  of_trees : (form : DocForm) (qs : List Quad) → length bytes ≤ most_bytes →
+      IsDocumentOf (language form (tree_job form job).start) bytes qs → IsWhole (language form (tree_job form job).start) bytes
       → IsReadToItsEnd (in_lines NQuads (length job.node_prefix + token_then) iri_then) (lines_of (written_form Tagged job) (all_in_graph job.graph qs))
   of_trees form qs size document whole =
-      let fits = trees_fit job.escapes form (tree_job form job).start bytes qs is.iris size document whole token_then iri_then l.strings l.iris l.token l.kept l.iri in
+      let fits = trees_fit job.escapes form (tree_job form job).start bytes qs is.iris size document whole token_then iri_then l.strings
+      l.iris l.token l.kept l.iri in
       read Tagged qs fits.writable fits.least fits.shorts fits.iris
 
   by_form : (f : Form) (a : Accepts (conversion_by (kind_of f) job) bytes old new s) → let c = conversion_by (kind_of f) job in

@@ -96,7 +96,8 @@ pub nameless_with_a_word : text_in (record { style = Tagged; escapes = Plain; pr
 unfolding digits
 nameless_with_a_word = refl
 
-pub nameless_with_a_word_is_read : IsReadToItsEnd (in_lines NQuads 66 64) (encode_utf8_all (text_in (record { style = Tagged; escapes = Plain; prefix = codes "b7" }) nameless_quads))
+pub nameless_with_a_word_is_read : IsReadToItsEnd (in_lines NQuads 66 64)
+    (encode_utf8_all (text_in (record { style = Tagged; escapes = Plain; prefix = codes "b7" }) nameless_quads))
 nameless_with_a_word_is_read =
     form_document_read Plain (codes "b7") Turtle small nameless nameless_quads refl small_iris (lit≤ tt) nameless_is nameless_whole 64 64
     (lit≤ tt) (lit≤ tt) (lit≤ tt) (lit≤ tt) (lit≤ tt)

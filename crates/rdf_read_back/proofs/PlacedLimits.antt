@@ -19,12 +19,14 @@ module _ (s : Style) (e : Escapes) (n : ℕ) where
   label_short i l (Some g) h = h
 
   -- so are all tokens of the quad
-  quad_short : (g : Option (List ℕ)) → IfSome g (λ i. length (iri_text e i) ≤ n) → (q : Quad) → TokensWithin e n (rename s q) → TokensWithin e n (rename s (in_graph g q))
+  quad_short : (g : Option (List ℕ)) → IfSome g (λ i. length (iri_text e i) ≤ n) → (q : Quad) → TokensWithin e n (rename s q) →
+      TokensWithin e n (rename s (in_graph g q))
   quad_short None l q h = h
   quad_short (Some i) l q h = record { subject = h.subject; predicate = h.predicate; object = h.object; graph = label_short i l q.graph h.graph }
 
   -- and those of all quads
-  pub placed_shorts : (g : Option (List ℕ)) → IfSome g (λ i. length (iri_text e i) ≤ n) → (qs : List Quad) → AllByRecursion (TokensWithin e n) (map (rename s) qs)
+  pub placed_shorts : (g : Option (List ℕ)) → IfSome g (λ i. length (iri_text e i) ≤ n) → (qs : List Quad) →
+      AllByRecursion (TokensWithin e n) (map (rename s) qs)
       → AllByRecursion (TokensWithin e n) (map (rename s) (all_in_graph g qs))
   placed_shorts g l [] h = tt
   placed_shorts g l (q ∷ qs) h = (quad_short g l q h.0, placed_shorts g l qs h.1)
@@ -41,6 +43,7 @@ module _ (n : ℕ) where
   quad_within (Some i) l q h = record { subject = h.subject; predicate = h.predicate; object = h.object; graph = label_within i l q.graph h.graph }
 
   -- and those of all quads
-  pub placed_iris : (g : Option (List ℕ)) → IfSome g (λ i. byte_len i ≤ n) → (qs : List Quad) → AllByRecursion (IrisWithin n) qs → AllByRecursion (IrisWithin n) (all_in_graph g qs)
+  pub placed_iris : (g : Option (List ℕ)) → IfSome g (λ i. byte_len i ≤ n) → (qs : List Quad) → AllByRecursion (IrisWithin n) qs →
+      AllByRecursion (IrisWithin n) (all_in_graph g qs)
   placed_iris g l [] h = tt
   placed_iris g l (q ∷ qs) h = (quad_within g l q h.0, placed_iris g l qs h.1)

@@ -33,7 +33,8 @@ same_front documents passes all a b f g =
     sym (take-append_seam a f.begins.0)
     ∙ (ap (take (length a)) (sym f.begins.1) ∙ (ap (λ k. take k all) n ∙ (ap (take (length b)) g.begins.1 ∙ take-append_seam b g.begins.0)))
 
-module _ {I : Type 0} (l : LanguageOf I) (apart : (r s : Reason) (ts : List Token) (t : Token) → l.blames r ts t → l.blames s ts t → r ≡ s) (reading : Reading) where
+module _ {I : Type 0} (l : LanguageOf I) (apart : (r s : Reason) (ts : List Token) (t : Token) → l.blames r ts t → l.blames s ts t → r ≡ s)
+    (reading : Reading) where
   -- it stopped, or refused a token
   abbrev Halted : Reason → Place → List Token → Type 0
   Halted r p ahead = ((o : Outcome) × (r ≡ stop_reason o) × StopsAt l reading o p ahead) ⊎ RefusesAt l reading r p ahead
@@ -57,13 +58,15 @@ module _ {I : Type 0} (l : LanguageOf I) (apart : (r s : Reason) (ts : List Toke
       let m : length a ≡ length b = ap length same in
       omega (arith, n, m, length-append b (y.token ∷ y.after))
 
-  both_stop : (r s : Reason) (p q : Place) (a b : List Token) (o k : Outcome) → r ≡ stop_reason o → s ≡ stop_reason k → StopsAt l reading o p a → StopsAt l reading k q b → (r ≡ s) × (p ≡ q)
+  both_stop : (r s : Reason) (p q : Place) (a b : List Token) (o k : Outcome) → r ≡ stop_reason o → s ≡ stop_reason k →
+      StopsAt l reading o p a → StopsAt l reading k q b → (r ≡ s) × (p ≡ q)
   both_stop r s p q a b o k e f x y = (e ∙ (ap stop_reason (sym x.outcome ∙ y.outcome) ∙ sym f), sym x.place ∙ y.place)
 
   both_refuse : (r s : Reason) (p q : Place) (a b : List Token) → RefusesAt l reading r p a → RefusesAt l reading s q b → (r ≡ s) × (p ≡ q)
   both_refuse r s p q a b x y =
       let same : b ≡ a = same_front l.documents l.passes reading.tokens b a y.front x.front in
-      let t : x.token ≡ y.token = same_first (same_after a (x.token ∷ x.after) (y.token ∷ y.after) (sym x.tokens ∙ (y.tokens ∙ ap (λ us. us ++ y.token ∷ y.after) same))) in (
+      let t : x.token ≡ y.token = same_first
+      (same_after a (x.token ∷ x.after) (y.token ∷ y.after) (sym x.tokens ∙ (y.tokens ∙ ap (λ us. us ++ y.token ∷ y.after) same))) in (
         apart r s a x.token x.because (subst (λ u. l.blames s a u) (sym t) (subst (λ us. l.blames s us y.token) same y.because)),
         sym x.place ∙ (ap (λ (u : Token). u.at) t ∙ y.place),
       )

@@ -286,7 +286,8 @@ module _ (r : Room) where
 
   pub named_fits : (i : Option (List ℕ)) → IfSome i IsIri → Within (stands i) → IfSome i FitIri
   named_fits None f w = tt
-  named_fits (Some i) f w = let x = written_iri r.form i in let y = iri_room r.form (byte_len i) r.iri r.most_then w r.brackets in (f, omega (arith, r.higher), omega arith)
+  named_fits (Some i) f w = let x = written_iri r.form i in let y = iri_room r.form (byte_len i) r.iri r.most_then w r.brackets in
+      (f, omega (arith, r.higher), omega arith)
 
   pub subject_named : (i : Option (List ℕ)) → IfSome i FitIri → IfSome (named i) FitSubject
   subject_named None f = tt

@@ -219,12 +219,15 @@ module _ (r : Room) where
   text_fits c v p k l f g i h = after_fits c p k l f i h
 
   -- Brackets.
-  brackets_fits : (form : DocForm) (c : Setting) (n : ℕ) (u : Up) (k : Kind) (l : Leaf) → FitSetting c → n < 2 ^ 64 → FitUp u → FitReply (property_list_start form c n u k l)
-  brackets_fits form c n u CloseBracket l f h g = goes_fits c (node_closed form u (sized (node (Anon n)))) f (node_mode form u (sized (node (Anon n))) g (anon_fits r n h))
+  brackets_fits : (form : DocForm) (c : Setting) (n : ℕ) (u : Up) (k : Kind) (l : Leaf) → FitSetting c → n < 2 ^ 64 → FitUp u →
+      FitReply (property_list_start form c n u k l)
+  brackets_fits form c n u CloseBracket l f h g =
+      goes_fits c (node_closed form u (sized (node (Anon n)))) f (node_mode form u (sized (node (Anon n))) g (anon_fits r n h))
   brackets_fits form c n u k l f h g = verb_start_fits c (sized (node (Anon n))) (InPropertyList u) k l f (anon_fits r n h) g
 
   collection_start_fits : (c : Setting) (u : Up) (k : Kind) (l : Leaf) → FitSetting c → FitUp u → Good r k l → FitReply (collection_start c u k l)
-  collection_start_fits c u CloseParen l f g h = goes_fits c (collection_closed u (unsized (Some nil))) f (list_mode u (unsized (Some nil)) g (known_fits r RdfNil))
+  collection_start_fits c u CloseParen l f g h =
+      goes_fits c (collection_closed u (unsized (Some nil))) f (list_mode u (unsized (Some nil)) g (known_fits r RdfNil))
   collection_start_fits c u k l f g h = object_fits c (InCollection l.at.offset l.at.offset u) None k l f (h.2, h.2, g) tt h
 
   after_brackets_fits : (c : Setting) (s : Topic) (v : Level) (k : Kind) (l : Leaf) → FitSetting c → IsSubject s.term → FitReply (after_property_list c s v k l)
@@ -402,4 +405,5 @@ module _ (r : Room) where
       AllWithin (document_events scope d) → AllFit (unmarked (event_quads 0 (document_events scope d)))
   tree_fits form scope d h g w =
       let ran = run_tree true form d scope (tokens (document_events scope d)) refl in
-      marks_fit 0 (document_events scope d) (run_fits form (tokens (document_events scope d)) (in_default scope) Start (document_events scope d) ran g w (h, tt) tt)
+      marks_fit 0 (document_events scope d)
+      (run_fits form (tokens (document_events scope d)) (in_default scope) Start (document_events scope d) ran g w (h, tt) tt)

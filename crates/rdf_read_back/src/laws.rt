@@ -1,6 +1,7 @@
 //! The laws of reading back. These functions do nothing: their contracts are the laws.
 
-ghost use Rattle.rdf_read_back.specs.Laws.{ConvertedIsRead, DocumentIsWritable, PrefixedDocumentIsRead, RefusedInMore, RefusedOnce, WrittenDocumentIsRead};
+ghost use Rattle.rdf_read_back.specs.Laws.{ConvertedIsRead, DocumentIsWritable, PrefixedDocumentIsRead, RefusedInMore};
+ghost use Rattle.rdf_read_back.specs.Laws.{RefusedOnce, WrittenDocumentIsRead};
 
 /// The quads of a document can be written with a node that has no label named by its offset: they are well formed.
 pub fn document_is_writable()

@@ -29,7 +29,8 @@ noted_token v w kept new t p d limit bytes g e n h = record {
 }
 
 -- none is given
-pub noted_none : (v w : Unread) (kept : List TokenPlace) (d : Dialect) (limit : ℕ) (bytes : List ℕ) → Waits v w → IsNoted v kept d limit bytes → IsNoted w kept d limit bytes
+pub noted_none : (v w : Unread) (kept : List TokenPlace) (d : Dialect) (limit : ℕ) (bytes : List ℕ) → Waits v w →
+    IsNoted v kept d limit bytes → IsNoted w kept d limit bytes
 noted_none v w kept d limit bytes g h = record {
   dialect = g.same.dialect ∙ h.dialect;
   limit = g.same.limit ∙ h.limit;
@@ -68,7 +69,8 @@ comes_to v w kept t p d limit bytes until g e at h =
     }
 
 -- it stands there too where more bytes come
-pub comes_with_more : (d : Dialect) (limit : ℕ) (front more : List ℕ) (e : Bool) (until : ℕ) (kept : List TokenPlace) → ComesTo (tokens_of d limit front false) until kept →
+pub comes_with_more : (d : Dialect) (limit : ℕ) (front more : List ℕ) (e : Bool) (until : ℕ) (kept : List TokenPlace) →
+    ComesTo (tokens_of d limit front false) until kept →
     ComesTo (tokens_of d limit (front ++ more) e) until kept
 comes_with_more d limit front more e until kept h =
     let x = (lengthens d limit front more e).0 in

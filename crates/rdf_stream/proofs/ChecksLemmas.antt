@@ -91,12 +91,14 @@ module _ {G X : Type 0} (w : Words G X Quad) (first old : Driven G) (bytes : Lis
           let z = h.refused x bytes quads r in at_limit (λ m. IsRefusedFor why (in_words w x m) bytes true (record { offset = n; line = k })) (z.0, z.1)
 
 -- what is refused stays refused, with more bytes or with all of them
-refused_more : (l : Language) → EndsAtBlame l → (why : Reason) (bytes more : List ℕ) (e : Bool) (at : Place) → IsRefusedFor why l bytes false at → IsRefusedFor why l (bytes ++ more) e at
+refused_more : (l : Language) → EndsAtBlame l → (why : Reason) (bytes more : List ℕ) (e : Bool) (at : Place) →
+    IsRefusedFor why l bytes false at → IsRefusedFor why l (bytes ++ more) e at
 refused_more l ends reason.DocumentTooLong bytes more e at h = (too_long_more bytes more at h.0, subst (GoesOn l) (sym (same_front bytes more at h.0)) h.1)
 refused_more l ends why bytes more e at h = (h.0, refused_in_more l ends bytes more e why at h.0 h.1)
 
 -- what is not read on is not read on with more bytes
-checks_no_more : (reported : StreamFault) (l : Language) → EndsAtBlame l → (bytes more : List ℕ) → ChecksNoMore reported l bytes false → ChecksNoMore reported l (bytes ++ more) false
+checks_no_more : (reported : StreamFault) (l : Language) → EndsAtBlame l → (bytes more : List ℕ) → ChecksNoMore reported l bytes false →
+    ChecksNoMore reported l (bytes ++ more) false
 checks_no_more (stream.Refused f) l ends bytes more h = refused_more l ends f.reason bytes more false (place_of f) h
 checks_no_more stream.Read l ends bytes more h = h
 checks_no_more stream.Write l ends bytes more h = h
@@ -119,27 +121,34 @@ halts_of_document stream.Memory l bytes e h = tt
 -- why the bytes that were given are not read on is why a check stops
 halts_stops : (reported : StreamFault) (l : Language) → EndsAtBlame l → (known : Option (List ℕ)) (left : Reading) (given : HasGiven known left) →
     ChecksNoMore reported l given.bytes left.has_ended → CheckStops reported l known left
-halts_stops (stream.Refused f) l ends known left given h =
-    (all_given known left (λ bytes e. IsRefusedFor f.reason l bytes e (place_of f)) (λ bytes more x. refused_more l ends f.reason bytes more true (place_of f) x) given h, given, h)
+halts_stops (stream.Refused f) l ends known left given h = (
+  all_given known left (λ bytes e. IsRefusedFor f.reason l bytes e (place_of f))
+      (λ bytes more x. refused_more l ends f.reason bytes more true (place_of f) x) given h,
+  given,
+  h,
+)
 halts_stops stream.Read l ends known left given h = absurd h
 halts_stops stream.Write l ends known left given h = absurd h
 halts_stops stream.Memory l ends known left given h = given
 
 -- the bytes that are not read on, and more
-pub halts_more : {G X : Type 0} (w : Words G X Quad) (reported : StreamFault) (first : Driven G) (bytes more : List ℕ) → CheckHalts w reported first bytes false → CheckHalts w reported first (bytes ++ more) false
+pub halts_more : {G X : Type 0} (w : Words G X Quad) (reported : StreamFault) (first : Driven G) (bytes more : List ℕ) →
+    CheckHalts w reported first bytes false → CheckHalts w reported first (bytes ++ more) false
 halts_more w reported first bytes more h = record {
   begun = h.begun;
   halts = λ x b. checks_no_more reported (in_words w x first.scanner.limit) (b.lawful.ends x) bytes more (h.halts x b);
 }
 
 -- so are they, and no more than a document has
-pub few_read : {G X : Type 0} (w : Words G X Quad) (first new : Driven G) (bytes : List ℕ) → IsChecking w first bytes new → new.so_far.bytes ≤ most_bytes → HasChecked w first bytes new
+pub few_read : {G X : Type 0} (w : Words G X Quad) (first new : Driven G) (bytes : List ℕ) → IsChecking w first bytes new →
+    new.so_far.bytes ≤ most_bytes → HasChecked w first bytes new
 few_read w first new bytes j few =
     let (x, b) = j.begun in
     let counts : new.so_far.bytes ≡ length bytes = ap (λ (s : Summary). s.bytes) (j.read x b).1.so_far in (j, subst (λ n. n ≤ most_bytes) counts few)
 
 -- the bytes are counted
-pub counted : {G X : Type 0} (w : Words G X Quad) (first old new : Driven G) (bytes piece : List ℕ) → IsChecking w first bytes old → IsChecking w first (bytes ++ piece) new → new.so_far.bytes ≡ old.so_far.bytes + length piece
+pub counted : {G X : Type 0} (w : Words G X Quad) (first old new : Driven G) (bytes piece : List ℕ) → IsChecking w first bytes old →
+    IsChecking w first (bytes ++ piece) new → new.so_far.bytes ≡ old.so_far.bytes + length piece
 counted w first old new bytes piece i j =
     let (x, b) = i.begun in
     let before : old.so_far.bytes ≡ length bytes = ap (λ (s : Summary). s.bytes) (i.read x b).1.so_far in
@@ -155,7 +164,8 @@ module _ {G X : Type 0} (w : Words G X Quad) where
   Taken first bytes now = HasChecked w first.0 bytes now.0
 
   abbrev pub Halted : StreamFault → R → List ℕ → Bool → R → Type 0
-  Halted reported first bytes e now = CheckHalts w reported first.0 bytes e × Stands w (λ x. BeginsToRead w x first.0) first.0.scanner.limit reported bytes e now.0
+  Halted reported first bytes e now =
+      CheckHalts w reported first.0 bytes e × Stands w (λ x. BeginsToRead w x first.0) first.0.scanner.limit reported bytes e now.0
 
   abbrev pub Ended : Summary → R → List ℕ → R → Type 0
   Ended s first bytes now = CheckEnds w s first.0 bytes
@@ -164,11 +174,13 @@ module _ {G X : Type 0} (w : Words G X Quad) where
   pub begins : (x : X) (first : R) → BeginsToRead w x first.0 → Taken first [] first
   begins x first b = (record { begun = (x, b); limit = refl; read = λ y b. ([], b.read) }, omega arith)
 
-  module _ (x : X) (limit : ℕ) (first now : R) (same_limit : first.0.scanner.limit ≡ limit) (b : BeginsToRead w x first.0) (known : Option (List ℕ)) (left : Reading) where
+  module _ (x : X) (limit : ℕ) (first now : R) (same_limit : first.0.scanner.limit ≡ limit) (b : BeginsToRead w x first.0)
+      (known : Option (List ℕ)) (left : Reading) where
     -- a run that read to the end has accepted the document, as `check` promises
     pub checked : (s : Summary) → ReadsAll Ended known left s first now → IfSome known (λ bytes. IsAccepted (in_words w x limit) bytes s)
     checked s h =
-        Consumes-whole known left.remaining h.bytes (λ bytes. IsAccepted (in_words w x limit) bytes s) h.consumed h.at_end (subst (λ n. IsAccepted (in_words w x n) h.bytes s) same_limit (h.is_end x b))
+        Consumes-whole known left.remaining h.bytes (λ bytes. IsAccepted (in_words w x limit) bytes s) h.consumed h.at_end
+        (subst (λ n. IsAccepted (in_words w x n) h.bytes s) same_limit (h.is_end x b))
 
     -- where the source failed, what was read before it may begin a document
     broke : SourceFails Taken known left first now → CheckStops stream.Read (in_words w x limit) known left

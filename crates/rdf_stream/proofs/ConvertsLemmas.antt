@@ -44,11 +44,15 @@ use Rattle.rdf_stream.proofs.GrowthLemmas.{grows_none}
 use Rattle.rdf_stream.proofs.PiecesLemmas.{all_given, none_given, same_front, too_long_more}
 
 -- what was written of what is due is due with more bytes
-some_more : (job : Conversion) → EndsAtBlame job.language → (bytes more : List ℕ) (e : Bool) (old new : Option (List ℕ)) → WritesSome Appends job (reading_of job.language bytes false).tokens old new → WritesSome Appends job (reading_of job.language (bytes ++ more) e).tokens old new
-some_more job ends bytes more e old new h = record { quads = h.quads; due = due_more job.language ends bytes more e h.quads h.due; written = h.written; ascii = h.ascii }
+some_more : (job : Conversion) → EndsAtBlame job.language → (bytes more : List ℕ) (e : Bool) (old new : Option (List ℕ)) →
+    WritesSome Appends job (reading_of job.language bytes false).tokens old new →
+    WritesSome Appends job (reading_of job.language (bytes ++ more) e).tokens old new
+some_more job ends bytes more e old new h =
+    record { quads = h.quads; due = due_more job.language ends bytes more e h.quads h.due; written = h.written; ascii = h.ascii }
 
 -- what is refused stays refused, with more bytes or with all of them
-refuses_more : (job : Conversion) → EndsAtBlame job.language → (why : Reason) (bytes more : List ℕ) (e : Bool) (at : Place) (old new : Option (List ℕ)) → RefusesDocument why job bytes false at old new → RefusesDocument why job (bytes ++ more) e at old new
+refuses_more : (job : Conversion) → EndsAtBlame job.language → (why : Reason) (bytes more : List ℕ) (e : Bool) (at : Place)
+    (old new : Option (List ℕ)) → RefusesDocument why job bytes false at old new → RefusesDocument why job (bytes ++ more) e at old new
 refuses_more job ends reason.DocumentTooLong bytes more e at old new h =
     let same = sym (same_front bytes more at h.0) in (
       too_long_more bytes more at h.0,
@@ -67,34 +71,44 @@ halts_for_more stream.Write job ends bytes more old new failed h =
 halts_for_more stream.Memory job ends bytes more old new failed h = (h.0, some_more job ends bytes more false old new h.1)
 
 -- bytes that are not read on in a run, and more
-pub halts_more : {G X D A : Type 0} (contents : D → Option (List ℕ)) (failed : D → Bool) (w : Words G X Quad) (reported : StreamFault) (reader : Driven G) (first : LineOut D A) (bytes more : List ℕ) (lines : LineOut D A) →
+pub halts_more : {G X D A : Type 0} (contents : D → Option (List ℕ)) (failed : D → Bool) (w : Words G X Quad) (reported : StreamFault)
+    (reader : Driven G) (first : LineOut D A) (bytes more : List ℕ) (lines : LineOut D A) →
     RunHalts contents failed w reported reader first bytes false lines → RunHalts contents failed w reported reader first (bytes ++ more) false lines
 halts_more contents failed w reported reader first bytes more lines h = record {
   begun = h.begun;
   same = h.same;
   halts = λ x b.
-      halts_for_more reported (conversion w x reader.scanner.limit (output_of first.form)) (b.starts.convertible.lawful.ends x) bytes more (contents first.drain.now) (contents lines.drain.now) (failed lines.drain.now) (h.halts x b);
+      halts_for_more reported (conversion w x reader.scanner.limit (output_of first.form)) (b.starts.convertible.lawful.ends x) bytes more
+      (contents first.drain.now) (contents lines.drain.now) (failed lines.drain.now) (h.halts x b);
 }
 
 -- a refusal is of the document
-refuses_document : (job : Conversion) (why : Reason) (bytes : List ℕ) (e : Bool) (at : Place) (old new : Option (List ℕ)) → RefusesDocument why job bytes e at old new → IsOfDocument why
+refuses_document : (job : Conversion) (why : Reason) (bytes : List ℕ) (e : Bool) (at : Place) (old new : Option (List ℕ)) →
+    RefusesDocument why job bytes e at old new → IsOfDocument why
 refuses_document job reason.Memory bytes e at old new h = h.1
 refuses_document job reason.Sink bytes e at old new h = h.1
 refuses_document job reason.Ended bytes e at old new h = h.1
 refuses_document job why bytes e at old new h = tt
 
 -- a refusal that a conversion reports is one of the document
-halts_document : (reported : StreamFault) (job : Conversion) (bytes : List ℕ) (e : Bool) (old new : Option (List ℕ)) (failed : Bool) → HaltsFor reported job bytes e old new failed → IsRefusal reported
+halts_document : (reported : StreamFault) (job : Conversion) (bytes : List ℕ) (e : Bool) (old new : Option (List ℕ)) (failed : Bool) →
+    HaltsFor reported job bytes e old new failed → IsRefusal reported
 halts_document (stream.Refused f) job bytes e old new failed h = refuses_document job f.reason bytes e (place_of f) old new h.1
 halts_document stream.Read job bytes e old new failed h = tt
 halts_document stream.Write job bytes e old new failed h = tt
 halts_document stream.Memory job bytes e old new failed h = tt
 
 -- why the bytes that were given are not read on is why a conversion stops
-halts_stops : (reported : StreamFault) (job : Conversion) → EndsAtBlame job.language → (known : Option (List ℕ)) (left : Reading) (old new : Option (List ℕ)) (write_failed : Bool) (given : HasGiven known left) →
+halts_stops : (reported : StreamFault) (job : Conversion) → EndsAtBlame job.language →
+    (known : Option (List ℕ)) (left : Reading) (old new : Option (List ℕ)) (write_failed : Bool) (given : HasGiven known left) →
     HaltsFor reported job given.bytes left.has_ended old new write_failed → StopsFor reported job known left old new write_failed
-halts_stops (stream.Refused f) job ends known left old new write_failed given h =
-    (h.0, all_given known left (λ bytes e. RefusesDocument f.reason job bytes e (place_of f) old new) (λ bytes more x. refuses_more job ends f.reason bytes more true (place_of f) old new x) given h.1, given, h.1)
+halts_stops (stream.Refused f) job ends known left old new write_failed given h = (
+  h.0,
+  all_given known left (λ bytes e. RefusesDocument f.reason job bytes e (place_of f) old new)
+      (λ bytes more x. refuses_more job ends f.reason bytes more true (place_of f) old new x) given h.1,
+  given,
+  h.1,
+)
 halts_stops stream.Read job ends known left old new write_failed given h = absurd h
 halts_stops stream.Write job ends known left old new write_failed given h = (h.0, given, h.1)
 halts_stops stream.Memory job ends known left old new write_failed given h = (h.0, given, h.1)
@@ -112,7 +126,8 @@ pub record AreFresh {D A : Type 0} (failed : D → Bool) (asked : Output) (lines
 
 -- so are those over an empty buffer
 pub over_empty : {D A : Type 0} (failed : D → Bool) (written : OutputView) (lines : LineOut D A) (waiting : List ℕ) (old : D) →
-    lines.form ≡ written → lines.buffer.now ≡ waiting → waiting ≡ [] → lines.drain.now ≡ old → failed old ≡ false → AreFresh failed (output_of written) lines old
+    lines.form ≡ written → lines.buffer.now ≡ waiting → waiting ≡ [] → lines.drain.now ≡ old → failed old ≡ false →
+    AreFresh failed (output_of written) lines old
 over_empty failed written lines waiting old f b e d l = record { form = ap output_of f; none_waits = b ∙ e; drain = d; live = l }
 
 module _ {G X D : Type 0} (A : Type 0) (contents : D → Option (List ℕ)) (failed flushed : D → Bool) (w : Words G X Quad) (style : Style) where
@@ -153,11 +168,17 @@ module _ {G X D : Type 0} (A : Type 0) (contents : D → Option (List ℕ)) (fai
   }
 
   -- a run over fresh lines begins
-  pub begun_fresh : (x : X) (form : Output) (first : R) (old : D) → AreFresh failed form first.1 old → Starts w x first.0 form.form.style → Begins failed w x first.0 first.1
-  begun_fresh x form first old f s = record { starts = subst (λ a. Starts w x first.0 a.form.style) (sym f.form) s; none_waits = f.none_waits; live = ap failed f.drain ∙ f.live }
+  pub begun_fresh : (x : X) (form : Output) (first : R) (old : D) → AreFresh failed form first.1 old → Starts w x first.0 form.form.style →
+      Begins failed w x first.0 first.1
+  begun_fresh x form first old f s = record {
+    starts = subst (λ a. Starts w x first.0 a.form.style) (sym f.form) s;
+    none_waits = f.none_waits;
+    live = ap failed f.drain ∙ f.live;
+  }
 
   -- a run over such lines, from the drain as it was to the drain as it is
-  module _ (x : X) (form : Output) (first now : R) (old new : D) (fresh : AreFresh failed form first.1 old) (is : now.1.drain.now ≡ new) (starts : Starts w x first.0 form.form.style)
+  module _ (x : X) (form : Output) (first now : R) (old new : D) (fresh : AreFresh failed form first.1 old) (is : now.1.drain.now ≡ new)
+      (starts : Starts w x first.0 form.form.style)
       (known : Option (List ℕ)) (left : Reading) where
     abbrev b : Begins failed w x first.0 first.1
     b = begun_fresh x form first old fresh starts
@@ -175,12 +196,15 @@ module _ {G X D : Type 0} (A : Type 0) (contents : D → Option (List ℕ)) (fai
         (asked (λ f o n. Accepts (conversion w x first.0.scanner.limit f) h.bytes (contents o) (contents n) s) (h.is_end.accepts x b))
 
     -- the lines of all quads that are due in the bytes that were taken were written
-    writes_taken : (bytes : List ℕ) (at : R) → Taken first bytes at → WritesDue job (reading_of job.language bytes false).tokens (contents first.1.drain.now) (contents at.1.drain.now)
+    writes_taken : (bytes : List ℕ) (at : R) → Taken first bytes at →
+        WritesDue job (reading_of job.language bytes false).tokens (contents first.1.drain.now) (contents at.1.drain.now)
     writes_taken bytes at t =
         let o = t.handed x b in
         let n = at.0.scanner.limit in
-        subst (λ f. WritesDue (conversion w x first.0.scanner.limit f) (reading_of job.language bytes false).tokens (contents first.1.drain.now) (contents at.1.drain.now)) fresh.form
-        (subst (λ k. WritesDue (conversion w x k (output_of first.1.form)) (reading_of (in_words w x k) bytes false).tokens (contents first.1.drain.now) (contents at.1.drain.now)) t.limit
+        subst (λ f. WritesDue (conversion w x first.0.scanner.limit f) (reading_of job.language bytes false).tokens
+        (contents first.1.drain.now) (contents at.1.drain.now)) fresh.form
+        (subst (λ k. WritesDue (conversion w x k (output_of first.1.form)) (reading_of (in_words w x k) bytes false).tokens
+        (contents first.1.drain.now) (contents at.1.drain.now)) t.limit
         (record {
           quads = o.quads;
           due = b.starts.convertible.lawful.due at.0.grammar x (reading_of (in_words w x n) bytes false).tokens o.quads o.read.reached;
@@ -204,7 +228,8 @@ module _ {G X D : Type 0} (A : Type 0) (contents : D → Option (List ℕ)) (fai
         })
 
     -- the source failed
-    broke : SourceFails Taken known left first now → StopsFor stream.Read job known left (contents first.1.drain.now) (contents now.1.drain.now) (failed now.1.drain.now)
+    broke : SourceFails Taken known left first now → StopsFor stream.Read job known left (contents first.1.drain.now)
+        (contents now.1.drain.now) (failed now.1.drain.now)
     broke h =
         let o = h.is_taken.handed x b in
         let law = b.starts.convertible.lawful in (
@@ -218,20 +243,25 @@ module _ {G X D : Type 0} (A : Type 0) (contents : D → Option (List ℕ)) (fai
           },
         )
 
-    pub stopped : (reported : StreamFault) → ReadStops Taken Halted reported known left first now → StopsFor reported job known left (contents old) (contents new) (failed new)
+    pub stopped : (reported : StreamFault) → ReadStops Taken Halted reported known left first now →
+        StopsFor reported job known left (contents old) (contents new) (failed new)
     stopped reported h =
         by_drains (λ o n. StopsFor reported job known left (contents o) (contents n) (failed n)) _ _ old new fresh.drain is
-        (⊎_elim (λ p. subst (λ t. StopsFor t job known left (contents first.1.drain.now) (contents now.1.drain.now) (failed now.1.drain.now)) (sym p.0) (broke p.1))
+        (⊎_elim (λ p. subst (λ t. StopsFor t job known left (contents first.1.drain.now) (contents now.1.drain.now)
+        (failed now.1.drain.now)) (sym p.0) (broke p.1))
         (λ p.
-        halts_stops reported job (b.starts.convertible.lawful.ends x) known left (contents first.1.drain.now) (contents now.1.drain.now) (failed now.1.drain.now) p.0
-        (subst (λ f. HaltsFor reported (conversion w x first.0.scanner.limit f) p.0.bytes left.has_ended (contents first.1.drain.now) (contents now.1.drain.now) (failed now.1.drain.now)) fresh.form (p.1.0.halts x b)))
+        halts_stops reported job (b.starts.convertible.lawful.ends x) known left (contents first.1.drain.now) (contents now.1.drain.now)
+        (failed now.1.drain.now) p.0
+        (subst (λ f. HaltsFor reported (conversion w x first.0.scanner.limit f) p.0.bytes left.has_ended (contents first.1.drain.now)
+        (contents now.1.drain.now) (failed now.1.drain.now)) fresh.form (p.1.0.halts x b)))
         h)
 
     pub refused_document : (reported : StreamFault) → ReadStops Taken Halted reported known left first now → IsRefusal reported
     refused_document reported h =
         ⊎_elim (λ p. subst IsRefusal (sym p.0) tt)
         (λ p.
-        halts_document reported (conversion w x first.0.scanner.limit (output_of first.1.form)) p.0.bytes left.has_ended (contents first.1.drain.now) (contents now.1.drain.now) (failed now.1.drain.now)
+        halts_document reported (conversion w x first.0.scanner.limit (output_of first.1.form)) p.0.bytes left.has_ended
+        (contents first.1.drain.now) (contents now.1.drain.now) (failed now.1.drain.now)
         (p.1.0.halts x b)) h
 
     -- what was written before a refusal was flushed
@@ -243,15 +273,18 @@ module _ {G X D : Type 0} (A : Type 0) (contents : D → Option (List ℕ)) (fai
 -- ---- by the job
 
 -- what holds of a line format with these limits holds of the job that asks for them
-pub lines_job : (P : Conversion → Type 0) (job : JobRead) (form : LineForm) → kind_of job.form ≡ Line form → (iri : ℕ) → iri ≡ job.limits.iri → (n : ℕ) → n ≡ job.limits.token → (f : Output) → f ≡ output Kept job →
+pub lines_job : (P : Conversion → Type 0) (job : JobRead) (form : LineForm) → kind_of job.form ≡ Line form → (iri : ℕ) →
+    iri ≡ job.limits.iri → (n : ℕ) → n ≡ job.limits.token → (f : Output) → f ≡ output Kept job →
     P (conversion line_words (record { form = form; iri = iri }) n f) → P (conversion_of job)
 lines_job P job form k iri i n l f e h =
     subst (λ y. P (conversion_by y job)) (sym k)
     (subst (λ y. P (conversion line_words (record { form = form; iri = job.limits.iri }) job.limits.token y)) e
-    (subst (λ m. P (conversion line_words (record { form = form; iri = job.limits.iri }) m f)) l (subst (λ m. P (conversion line_words (record { form = form; iri = m }) n f)) i h)))
+    (subst (λ m. P (conversion line_words (record { form = form; iri = job.limits.iri }) m f)) l
+    (subst (λ m. P (conversion line_words (record { form = form; iri = m }) n f)) i h)))
 
 -- the same of Turtle and TriG
-pub trees_job : (P : Conversion → Type 0) (job : JobRead) (form : DocForm) → kind_of job.form ≡ Tree form → (x : Chosen) → x ≡ tree_job form job → (n : ℕ) → n ≡ x.start.limits.token → (f : Output) → f ≡ output Tagged job →
+pub trees_job : (P : Conversion → Type 0) (job : JobRead) (form : DocForm) → kind_of job.form ≡ Tree form → (x : Chosen) →
+    x ≡ tree_job form job → (n : ℕ) → n ≡ x.start.limits.token → (f : Output) → f ≡ output Tagged job →
     P (conversion tree_words x n f) → P (conversion_of job)
 trees_job P job form k x i n l f e h =
     subst (λ y. P (conversion_by y job)) (sym k)

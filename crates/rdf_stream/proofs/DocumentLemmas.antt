@@ -1,4 +1,5 @@
--- A document of a line format names each of its blank nodes, so the quads that are due of it can be written with their labels kept. With labels renamed each quad can be written.
+-- A document of a line format names each of its blank nodes, so the quads that are due of it can be written with their labels kept. With
+-- labels renamed each quad can be written.
 use Rattle.std.proofs.Common.{ℕ, Bool, true, false, List, [], ◌∷◌, length, subst, Option, Some, None}
 use Rattle.std.specs.Prelude.{cond}
 use Rattle.std.specs.List.{AllByRecursion}
@@ -57,7 +58,8 @@ marked_kept (next (one s) e d) n k = more_kept _ (quad_of s) _ (statement_kept s
 pub due_kept : (f : LineForm) (ts : List Token) (qs : List Quad) → Due (documents f) ts qs → AllByRecursion (CanWrite Kept) qs
 due_kept f ts qs d =
     let (tree, same, good, marks) = d.2 in
-    subst (AllByRecursion (CanWrite Kept)) d.3 (subst (λ ms. AllByRecursion (CanWrite Kept) (items_below (length ts) ms)) marks (marked_kept tree 0 (length ts)))
+    subst (AllByRecursion (CanWrite Kept)) d.3
+    (subst (λ ms. AllByRecursion (CanWrite Kept) (items_below (length ts) ms)) marks (marked_kept tree 0 (length ts)))
 
 -- with a letter before it each node can be written
 subject_tagged : (s : Subject) → CanWriteSubject Tagged s
@@ -81,7 +83,8 @@ all_tagged (q ∷ qs) = (record { subject = subject_tagged q.subject; object = t
 
 -- The line formats suit lines with labels kept.
 pub lines_convertible : (x : Rules) (style : Style) → style ≡ Kept → IsConvertible line_words x style
-lines_convertible x style e = subst (IsConvertible line_words x) (sym e) (record { lawful = lines_lawful; can_write = λ ts quads d. due_kept x.form ts quads d })
+lines_convertible x style e =
+    subst (IsConvertible line_words x) (sym e) (record { lawful = lines_lawful; can_write = λ ts quads d. due_kept x.form ts quads d })
 
 -- Turtle and TriG suit lines with labels renamed.
 pub trees_convertible : (x : Chosen) (style : Style) → style ≡ Tagged → IsConvertible tree_words x style

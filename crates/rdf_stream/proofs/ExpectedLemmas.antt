@@ -39,7 +39,8 @@ use Rattle.rdf_stream.specs.Pieces.{ReadStops}
 use Rattle.rdf_stream.proofs.PiecesLemmas.{all_given}
 
 module _ {G X : Type 0} (w : Words G X Quad) (x : X) (old : Driven G) (bytes : List ℕ) (quads : List Quad) (read : HasRead w old x bytes quads)
-    (limit : ℕ) (same_limit : old.scanner.limit ≡ limit) {S : Type 0} (takes leaves : S → Quad → S → Type 0) (failed : S → Bool) (before after : S) (new : Driven G) (n k : ℕ) where
+    (limit : ℕ) (same_limit : old.scanner.limit ≡ limit) {S : Type 0} (takes leaves : S → Quad → S → Type 0) (failed : S → Bool)
+    (before after : S) (new : Driven G) (n k : ℕ) where
   abbrev fault : Reason → Fault
   fault why = record { reason = why; offset = n; line = k }
 
@@ -82,7 +83,8 @@ module _ {G X : Type 0} (w : Words G X Quad) (x : X) (old : Driven G) (bytes : L
 
 module _ {G X : Type 0} (w : Words G X Quad) (x : X) (limit : ℕ) (ends : EndsAtBlame (in_words w x limit)) (now : Driven G) where
   -- more bytes after a refusal change nothing
-  pub stands_more : (reported : StreamFault) (bytes more : List ℕ) → StandsFor w x limit reported bytes false now → StandsFor w x limit reported (bytes ++ more) false now
+  pub stands_more : (reported : StreamFault) (bytes more : List ℕ) → StandsFor w x limit reported bytes false now →
+      StandsFor w x limit reported (bytes ++ more) false now
   stands_more (stream.Refused f) bytes more h = λ e.
       let z = h e in
       record {
@@ -98,7 +100,8 @@ module _ {G X : Type 0} (w : Words G X Quad) (x : X) (limit : ℕ) (ends : EndsA
 
   -- what the reader says then is what stands there and what could have stood there, by the bytes that were given and by all of them
   pub expects_for : (trees : X → Trees) (reported : StreamFault) (details : Details) (known : Option (List ℕ)) (left : Reading) (given : HasGiven known left) →
-      AsksFor w trees now reported details → StandsFor w x limit reported given.bytes left.has_ended now → ExpectsFor reported (in_words w x limit) (trees x) known left details
+      AsksFor w trees now reported details → StandsFor w x limit reported given.bytes left.has_ended now →
+      ExpectsFor reported (in_words w x limit) (trees x) known left details
   expects_for trees (stream.Refused f) details known left given a h = by f.reason a h
     where
       by : (why : Reason) → AsksAt w trees now why details → (why ≡ reason.Unexpected → StandsBefore w x limit given.bytes left.has_ended (place_of f) now) →
@@ -112,7 +115,14 @@ module _ {G X : Type 0} (w : Words G X Quad) (x : X) (limit : ℕ) (ends : EndsA
             finds = subst (StandsAt (reading_of (in_words w x limit) given.bytes left.has_ended) z.ahead (place_of f)) (sym b.1) z.finds;
           } in (
             all_given known left (λ bytes is_end. CouldStand (in_words w x limit) (trees x) bytes is_end (place_of f) details)
-                (λ bytes more y. record { ahead = y.ahead; refused = refused_in_more (in_words w x limit) ends bytes more true reason.Unexpected (place_of f) y.ahead y.refused; exact = y.exact; finds = stands_at_more (in_words w x limit) bytes more true y.ahead (place_of f) details.found y.finds }) given here,
+                (λ bytes more y. record {
+                  ahead = y.ahead;
+                  refused = refused_in_more (in_words w x limit) ends bytes more true
+                      reason.Unexpected (place_of f) y.ahead y.refused;
+                  exact = y.exact;
+                  finds =
+                      stands_at_more (in_words w x limit) bytes more true y.ahead (place_of f) details.found y.finds;
+                }) given here,
             given,
             here,
           )
@@ -122,23 +132,29 @@ module _ {G X : Type 0} (w : Words G X Quad) (x : X) (limit : ℕ) (ends : EndsA
   expects_for trees stream.Memory details known left given a h = a
 
 -- so is what is reported of an error once all that waited was handed over
-pub stands_told : {G X D A : Type 0} (contents : D → Option (List ℕ)) (failed : D → Bool) (w : Words G X Quad) (x : X) (limit : ℕ) (f : Fault) (reported : StreamFault) (mid after : LineOut D A)
-    (bytes : List ℕ) (e : Bool) (now : Driven G) → Reports contents failed f reported mid after → StandsFor w x limit (fault_by f.reason f) bytes e now → StandsFor w x limit reported bytes e now
+pub stands_told : {G X D A : Type 0} (contents : D → Option (List ℕ)) (failed : D → Bool) (w : Words G X Quad) (x : X) (limit : ℕ)
+    (f : Fault) (reported : StreamFault) (mid after : LineOut D A)
+    (bytes : List ℕ) (e : Bool) (now : Driven G) → Reports contents failed f reported mid after →
+    StandsFor w x limit (fault_by f.reason f) bytes e now → StandsFor w x limit reported bytes e now
 stands_told contents failed w x limit f reported mid after bytes e now t h =
     ⊎_elim (λ p. subst (λ y. StandsFor w x limit y bytes e now) (sym p.0) tt) (λ p. subst (λ y. StandsFor w x limit y bytes e now) (sym p.0) h) t
 
 -- text that is not put refuses no token
-pub stands_unput : {G X D A : Type 0} (contents : D → Option (List ℕ)) (failed : D → Bool) (w : Words G X Quad) (x : X) (limit : ℕ) (reported : StreamFault) (lines : LineOut D A) (text : List ℕ)
-    (after : LineOut D A) (bytes : List ℕ) (e : Bool) (now : Driven G) → PutHalts contents failed reported lines text after → StandsFor w x limit reported bytes e now
+pub stands_unput : {G X D A : Type 0} (contents : D → Option (List ℕ)) (failed : D → Bool) (w : Words G X Quad) (x : X) (limit : ℕ)
+    (reported : StreamFault) (lines : LineOut D A) (text : List ℕ)
+    (after : LineOut D A) (bytes : List ℕ) (e : Bool) (now : Driven G) → PutHalts contents failed reported lines text after →
+    StandsFor w x limit reported bytes e now
 stands_unput contents failed w x limit stream.Write lines text after bytes e now h = tt
 stands_unput contents failed w x limit stream.Memory lines text after bytes e now h = tt
 stands_unput contents failed w x limit reported lines text after bytes e now h = absurd h
 
 -- what a run hands out, from what the reader says that it has left
-pub run_expects : {G X R : Type 0} (w : Words G X Quad) (trees : X → Trees) (begun : X → Type 0) (limit : ℕ) → ((x : X) → begun x → EndsAtBlame (in_words w x limit)) →
+pub run_expects : {G X R : Type 0} (w : Words G X Quad) (trees : X → Trees) (begun : X → Type 0) (limit : ℕ) →
+    ((x : X) → begun x → EndsAtBlame (in_words w x limit)) →
     (taken : R → List ℕ → R → Type 0) (halts : StreamFault → R → List ℕ → Bool → R → Type 0) (first now : R) (reader : Driven G) →
     ((f : StreamFault) (bytes : List ℕ) (e : Bool) → halts f first bytes e now → Stands w begun limit f bytes e reader) →
-    (r : Result Summary StreamFault) (details : Details) (known : Option (List ℕ)) (left : Reading) → IfErr r (λ f. ReadStops taken halts f known left first now) →
+    (r : Result Summary StreamFault) (details : Details) (known : Option (List ℕ)) (left : Reading) →
+    IfErr r (λ f. ReadStops taken halts f known left first now) →
     Asks w trees reader r details → RunExpects w trees begun limit r known left details
 run_expects w trees begun limit ends taken halts first now reader stands (Ok s) details known left h a = a
 run_expects w trees begun limit ends taken halts first now reader stands (Err f) details known left h a = λ x b.
@@ -148,23 +164,29 @@ run_expects w trees begun limit ends taken halts first now reader stands (Err f)
     (λ p. expects_for w x limit (ends x b) reader trees f details known left p.0 a (stands f p.0.bytes left.has_ended p.1 x b)) h
 
 -- where there was no memory to begin with it is nothing
-pub none_expected : {G X : Type 0} (w : Words G X Quad) (trees : X → Trees) (begun : X → Type 0) (limit : ℕ) (r : Result Summary StreamFault) (details : Details) (known : Option (List ℕ)) (left : Reading) →
+pub none_expected : {G X : Type 0} (w : Words G X Quad) (trees : X → Trees) (begun : X → Type 0) (limit : ℕ)
+    (r : Result Summary StreamFault) (details : Details) (known : Option (List ℕ)) (left : Reading) →
     IsErrAnd r (λ f. f ≡ stream.Memory) → NoDetails details → RunExpects w trees begun limit r known left details
 none_expected w trees begun limit (Ok s) details known left h none = none
-none_expected w trees begun limit (Err f) details known left h none = λ x b. subst (λ t. ExpectsFor t (in_words w x limit) (trees x) known left details) (sym h) none
+none_expected w trees begun limit (Err f) details known left h none =
+    λ x b. subst (λ t. ExpectsFor t (in_words w x limit) (trees x) known left details) (sym h) none
 
 -- what a run over a line format hands out is what the job of it expects
-pub lines_expect : (job : JobRead) (form : LineForm) → kind_of job.form ≡ Line form → (iri : ℕ) → iri ≡ job.limits.iri → (limit : ℕ) → limit ≡ job.limits.token →
-    (begun : Rules → Type 0) → begun (record { form = form; iri = iri }) → (r : Result Summary StreamFault) (details : Details) (known : Option (List ℕ)) (left : Reading) →
+pub lines_expect : (job : JobRead) (form : LineForm) → kind_of job.form ≡ Line form → (iri : ℕ) → iri ≡ job.limits.iri → (limit : ℕ) →
+    limit ≡ job.limits.token →
+    (begun : Rules → Type 0) → begun (record { form = form; iri = iri }) →
+    (r : Result Summary StreamFault) (details : Details) (known : Option (List ℕ)) (left : Reading) →
     RunExpects line_words (λ x. lines.trees x.form) begun limit r known left details → Expects r job known left details
 lines_expect job form k iri i limit l begun b (Ok s) details known left h = h
 lines_expect job form k iri i limit l begun b (Err f) details known left h =
     subst (λ y. ExpectsFor f (conversion_by y job).language (trees_by y job) known left details) (sym k)
     (subst (λ m. ExpectsFor f (in_words line_words (record { form = form; iri = job.limits.iri }) m) (lines.trees form) known left details) l
-    (subst (λ m. ExpectsFor f (in_words line_words (record { form = form; iri = m }) limit) (lines.trees form) known left details) i (h (record { form = form; iri = iri }) b)))
+    (subst (λ m. ExpectsFor f (in_words line_words (record { form = form; iri = m }) limit) (lines.trees form) known left details) i
+    (h (record { form = form; iri = iri }) b)))
 
 -- the same of Turtle and TriG
-pub trees_expect : (job : JobRead) (form : DocForm) → kind_of job.form ≡ Tree form → (x : Chosen) → x ≡ tree_job form job → (limit : ℕ) → limit ≡ x.start.limits.token →
+pub trees_expect : (job : JobRead) (form : DocForm) → kind_of job.form ≡ Tree form → (x : Chosen) → x ≡ tree_job form job → (limit : ℕ) →
+    limit ≡ x.start.limits.token →
     (begun : Chosen → Type 0) → begun x → (r : Result Summary StreamFault) (details : Details) (known : Option (List ℕ)) (left : Reading) →
     RunExpects tree_words (λ y. documents.trees y.form y.start) begun limit r known left details → Expects r job known left details
 trees_expect job form k x i limit l begun b (Ok s) details known left h = h
@@ -174,11 +196,13 @@ trees_expect job form k x i limit l begun b (Err f) details known left h =
     (subst (λ m. ExpectsFor f (in_words tree_words x m) (documents.trees x.form x.start) known left details) l (h x b)))
 
 -- what it expects of a fault, and where there is none
-pub expects_err : (r : Result Summary StreamFault) (job : JobRead) (known : Option (List ℕ)) (left : Reading) (details : Details) → Expects r job known left details →
+pub expects_err : (r : Result Summary StreamFault) (job : JobRead) (known : Option (List ℕ)) (left : Reading) (details : Details) →
+    Expects r job known left details →
     IfErr r (λ fault. ExpectsFor fault (language_of job) (trees_of job) known left details)
 expects_err (Ok s) job known left details h = tt
 expects_err (Err f) job known left details h = h
 
-pub expects_none : (r : Result Summary StreamFault) (job : JobRead) (known : Option (List ℕ)) (left : Reading) (details : Details) → Expects r job known left details → OnOk r (NoDetails details)
+pub expects_none : (r : Result Summary StreamFault) (job : JobRead) (known : Option (List ℕ)) (left : Reading) (details : Details) →
+    Expects r job known left details → OnOk r (NoDetails details)
 expects_none (Ok s) job known left details h = h
 expects_none (Err f) job known left details h = tt

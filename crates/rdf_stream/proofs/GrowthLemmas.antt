@@ -39,11 +39,13 @@ module _ {D A : Type 0} (contents : D → Option (List ℕ)) where
   grows_by a b bytes s t = record { same = s; grows = record { more = bytes; added = t } }
 
   -- a beginning of some bytes was taken
-  pub grows_front : (a b : LineOut D A) (bytes : List ℕ) → SameOut a b → AppendsFront (contents a.drain.now) (contents b.drain.now) bytes → OnlyGrows contents a b
+  pub grows_front : (a b : LineOut D A) (bytes : List ℕ) → SameOut a b → AppendsFront (contents a.drain.now) (contents b.drain.now) bytes →
+      OnlyGrows contents a b
   grows_front a b bytes s f = grows_by a b f.0 s f.3
 
   -- a front of some bytes was taken, and the others wait
-  pub grows_moved : (a b : LineOut D A) (bytes rest : List ℕ) → SameOut a b → Moves (contents a.drain.now) (contents b.drain.now) bytes rest → OnlyGrows contents a b
+  pub grows_moved : (a b : LineOut D A) (bytes rest : List ℕ) → SameOut a b →
+      Moves (contents a.drain.now) (contents b.drain.now) bytes rest → OnlyGrows contents a b
   grows_moved a b bytes rest s m = grows_by a b m.front s m.taken
 
 module _ {D A : Type 0} (contents : D → Option (List ℕ)) (failed : D → Bool) where
@@ -56,10 +58,12 @@ module _ {D A : Type 0} (contents : D → Option (List ℕ)) (failed : D → Boo
   pub tries_grow : (qs : List Quad) (a b : LineOut D A) → Attempts (Takes contents failed) (Leaves contents failed) a qs b → OnlyGrows contents a b
   tries_grow [] a b h = subst (OnlyGrows contents a) (sym h) (grows_none contents a)
   tries_grow (q ∷ qs) a b h =
-      ⊎_elim (λ p. grows_moved contents a b _ _ p.1.same p.1.moves) (λ p. grows_both contents a p.0 b (grows_moved contents a p.0 _ _ p.1.same p.1.writes) (tries_grow qs p.0 b p.2)) h
+      ⊎_elim (λ p. grows_moved contents a b _ _ p.1.same p.1.moves)
+      (λ p. grows_both contents a p.0 b (grows_moved contents a p.0 _ _ p.1.same p.1.writes) (tries_grow qs p.0 b p.2)) h
 
   -- some bytes were not put
-  pub refusal_grows : (reported : StreamFault) (a b : LineOut D A) (bytes : List ℕ) → SameOut a b → PutHalts contents failed reported a bytes b → OnlyGrows contents a b
+  pub refusal_grows : (reported : StreamFault) (a b : LineOut D A) (bytes : List ℕ) → SameOut a b →
+      PutHalts contents failed reported a bytes b → OnlyGrows contents a b
   refusal_grows stream.Write a b bytes s h = grows_moved contents a b _ h.1 s h.2
   refusal_grows stream.Memory a b bytes s h = grows_by contents a b a.buffer.now s h.1
   refusal_grows reported a b bytes s h = absurd h
@@ -69,12 +73,18 @@ module _ {D A : Type 0} (contents : D → Option (List ℕ)) (failed : D → Boo
   stop_grows f reported a b s h = ⊎_elim (λ p. by (failed a.drain.now) refl p.1) (λ p. grows_by contents a b a.buffer.now s p.1.taken) h
     where
       by : (e : Bool) → failed a.drain.now ≡ e → ReportsWrite contents failed a b → OnlyGrows contents a b
-      by true e t = record { same = s; grows = subst (Grows (contents a.drain.now)) (sym (t.before_it e)) (record { more = []; added = Appends-nil (contents a.drain.now) }) }
+      by true e t =
+          record {
+            same = s;
+            grows = subst (Grows (contents a.drain.now)) (sym (t.before_it e))
+                (record { more = []; added = Appends-nil (contents a.drain.now) });
+          }
       by false e t = let (rest, m) = t.while_taking e in grows_moved contents a b _ rest s m
 
   module _ {G X : Type 0} (w : Words G X Quad) (at : Place) (old new : Driven G) (a b : LineOut D A) where
     -- a piece was not read to its end
-    pub feed_grows : (why : Reason) (piece : List ℕ) → FeedFails w (Takes contents failed) (Leaves contents failed) (λ s. failed s.drain.now) why at old a piece new b → OnlyGrows contents a b
+    pub feed_grows : (why : Reason) (piece : List ℕ) → FeedFails w (Takes contents failed) (Leaves contents failed)
+        (λ s. failed s.drain.now) why at old a piece new b → OnlyGrows contents a b
     feed_grows reason.Ended piece h = subst (OnlyGrows contents a) (sym h.2) (grows_none contents a)
     feed_grows reason.Memory piece h = tries_grow h.0.more a b h.0.puts
     feed_grows reason.Sink piece h = tries_grow h.0.more a b h.0.puts
@@ -82,7 +92,8 @@ module _ {D A : Type 0} (contents : D → Option (List ℕ)) (failed : D → Boo
     feed_grows why piece h = puts_grow h.more a b h.puts
 
     -- a document was not finished
-    pub finish_grows : (why : Reason) → FinishFails w (Takes contents failed) (Leaves contents failed) (λ s. failed s.drain.now) why at old a new b → OnlyGrows contents a b
+    pub finish_grows : (why : Reason) → FinishFails w (Takes contents failed) (Leaves contents failed)
+        (λ s. failed s.drain.now) why at old a new b → OnlyGrows contents a b
     finish_grows reason.Ended h = subst (OnlyGrows contents a) (sym h.2) (grows_none contents a)
     finish_grows reason.Memory h = tries_grow h.0.more a b h.0.puts
     finish_grows reason.Sink h = tries_grow h.0.more a b h.0.puts

@@ -29,13 +29,15 @@ all_no_end [] f = tt
 all_no_end (b ∷ w) f = (f 0 (omega arith), all_no_end w (λ k h. f (suc k) (omega arith)))
 
 -- after a place there is none
-pub rest_no_end : (w : List ℕ) (at : ℕ) → ((k : ℕ) → at < k → k < length w → is_line_end (slice_index w k) ≡ false) → AllByRecursion (λ b. is_line_end b ≡ false) (drop (suc at) w)
+pub rest_no_end : (w : List ℕ) (at : ℕ) → ((k : ℕ) → at < k → k < length w → is_line_end (slice_index w k) ≡ false) →
+    AllByRecursion (λ b. is_line_end b ≡ false) (drop (suc at) w)
 rest_no_end [] at f = tt
 rest_no_end (b ∷ w) zero f = all_no_end w (λ k h. f (suc k) (omega arith) (omega arith))
 rest_no_end (b ∷ w) (suc n) f = rest_no_end w n (λ k h l. f (suc k) (omega arith) (omega arith))
 
 -- up to a line end, with it
-pub front_ended : (w : List ℕ) (at : ℕ) → at < length w → is_line_end (slice_index w at) ≡ true → (u : List ℕ) × (c : ℕ) × (take (suc at) w ≡ u ++ c ∷ []) × (is_line_end c ≡ true)
+pub front_ended : (w : List ℕ) (at : ℕ) → at < length w → is_line_end (slice_index w at) ≡ true →
+    (u : List ℕ) × (c : ℕ) × (take (suc at) w ≡ u ++ c ∷ []) × (is_line_end c ≡ true)
 front_ended [] at l e = absurd (omega arith)
 front_ended (b ∷ w) zero l e = ([], b, refl, e)
 front_ended (b ∷ w) (suc n) l e = let h = front_ended w n (omega arith) e in (b ∷ h.0, h.1, ap (λ v. b ∷ v) h.2, h.3)
@@ -70,12 +72,14 @@ split_append (b ∷ u) c w e = ap (λ ls. cond (is_line_end b) ((b ∷ []) ∷ l
     front : List (List ℕ)
     front = split_lines (u ++ c ∷ [])
 
-    at : (t : Bool) → cond t ((b ∷ []) ∷ front ++ split_lines w) (put_byte b (front ++ split_lines w)) ≡ cond t ((b ∷ []) ∷ front) (put_byte b front) ++ split_lines w
+    at : (t : Bool) → cond t ((b ∷ []) ∷ front ++ split_lines w) (put_byte b (front ++ split_lines w)) ≡ cond t ((b ∷ []) ∷ front)
+        (put_byte b front) ++ split_lines w
     at true = refl
     at false = let s = some_ended u c in put_append b front (split_lines w) s.0 s.1 s.2
 
 -- up to a line end after some bytes, with it
-front_after : (w : List ℕ) (n at : ℕ) → at < length (drop n w) → is_line_end (slice_index (drop n w) at) ≡ true → (u : List ℕ) × (c : ℕ) × (take (n + suc at) w ≡ u ++ c ∷ []) × (is_line_end c ≡ true)
+front_after : (w : List ℕ) (n at : ℕ) → at < length (drop n w) → is_line_end (slice_index (drop n w) at) ≡ true →
+    (u : List ℕ) × (c : ℕ) × (take (n + suc at) w ≡ u ++ c ∷ []) × (is_line_end c ≡ true)
 front_after w n at l e =
     let h = front_ended (drop n w) at l e in
     let v = take (n + suc at) w in (
@@ -91,10 +95,12 @@ pub split_after : (w : List ℕ) (n at : ℕ) → at < length (drop n w) → is_
 split_after w n at l e =
     let h = front_after w n at l e in
     let rest = drop (n + suc at) w in
-    ap split_lines (sym (take-append-drop (n + suc at) w) ∙ ap (λ v. v ++ rest) h.2) ∙ (split_append h.0 h.1 rest h.3 ∙ ap (λ v. split_lines v ++ split_lines rest) (sym h.2))
+    ap split_lines (sym (take-append-drop (n + suc at) w) ∙ ap (λ v. v ++ rest) h.2)
+    ∙ (split_append h.0 h.1 rest h.3 ∙ ap (λ v. split_lines v ++ split_lines rest) (sym h.2))
 
 -- all lines, and none after them
 pub split_all : (w : List ℕ) → split_lines w ≡ split_lines (take (length w) w) ++ split_lines (drop (length w) w)
 split_all w =
     sym (append-nil (split_lines w))
-    ∙ (ap (λ v. split_lines v ++ []) (sym (take_all (length w) w (omega arith))) ∙ ap (λ v. split_lines (take (length w) w) ++ split_lines v) (sym (drop_all (length w) w (omega arith))))
+    ∙ (ap (λ v. split_lines v ++ []) (sym (take_all (length w) w (omega arith)))
+    ∙ ap (λ v. split_lines (take (length w) w) ++ split_lines v) (sym (drop_all (length w) w (omega arith))))

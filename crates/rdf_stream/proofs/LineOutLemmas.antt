@@ -75,7 +75,8 @@ lines_chars f qs = text_in (form_of f.lines) (map (placed f) qs)
 -- the lines of two lists are those of the first and then the second
 pub bytes_of-append : (f : OutputView) (qs rs : List Quad) → bytes_of f (qs ++ rs) ≡ bytes_of f qs ++ bytes_of f rs
 bytes_of-append f qs rs =
-    ap encode_utf8_all (ap (text_in (form_of f.lines)) (map-append (placed f) qs rs) ∙ flat_map-append (line_in (form_of f.lines)) (map (placed f) qs) (map (placed f) rs))
+    ap encode_utf8_all (ap (text_in (form_of f.lines)) (map-append (placed f) qs rs)
+    ∙ flat_map-append (line_in (form_of f.lines)) (map (placed f) qs) (map (placed f) rs))
     ∙ encodes-append (lines_chars f qs) (lines_chars f rs)
 
 -- the form and the place of the bytes stay the same over two steps
@@ -83,14 +84,16 @@ pub same_out : {D A : Type 0} (a b c : LineOut D A) → SameOut a b → SameOut 
 same_out a b c p q = record { form = q.form ∙ p.form; buffer = q.buffer ∙ p.buffer; drain = q.drain ∙ p.drain }
 
 -- bytes that were appended to what waits, and what was then handed over
-pub rewritten_writes : {D A : Type 0} (contents : D → Option (List ℕ)) (old mid new : LineOut D A) (w : List ℕ) → mid.drain.now ≡ old.drain.now → mid.buffer.now ≡ old.buffer.now ++ w →
+pub rewritten_writes : {D A : Type 0} (contents : D → Option (List ℕ)) (old mid new : LineOut D A) (w : List ℕ) →
+    mid.drain.now ≡ old.drain.now → mid.buffer.now ≡ old.buffer.now ++ w →
     Writes contents mid [] new → Writes contents old w new
 rewritten_writes contents old mid new w d e h =
     subst (λ x. Moves (contents x) (contents new.drain.now) (old.buffer.now ++ w) new.buffer.now) d
     (subst (λ b. Moves (contents mid.drain.now) (contents new.drain.now) b new.buffer.now) (append-nil mid.buffer.now ∙ e) h)
 
 -- and all of it still waits
-pub rewritten_waits : {D A : Type 0} (contents : D → Option (List ℕ)) (old mid : LineOut D A) (w : List ℕ) → mid.drain.now ≡ old.drain.now → mid.buffer.now ≡ old.buffer.now ++ w → Writes contents old w mid
+pub rewritten_waits : {D A : Type 0} (contents : D → Option (List ℕ)) (old mid : LineOut D A) (w : List ℕ) → mid.drain.now ≡ old.drain.now →
+    mid.buffer.now ≡ old.buffer.now ++ w → Writes contents old w mid
 rewritten_waits contents old mid w d e = rewritten_writes contents old mid mid w d e (waits_same (contents mid.drain.now) mid.buffer.now mid.buffer.now refl)
 
 module _ {D A : Type 0} (contents : D → Option (List ℕ)) (failed : D → Bool) where
@@ -174,11 +177,13 @@ module _ {D A : Type 0} (contents : D → Option (List ℕ)) (failed : D → Boo
             rest = r.rest;
             moves = subst (λ l. Moves (contents a.drain.now) (contents b.drain.now) l r.rest)
                 (append_assoc a.buffer.now (line_bytes a.form q) (bytes_of a.form qs) ∙ ap (λ l. a.buffer.now ++ l) (sym join))
-                (moves_on (contents a.drain.now) (contents next.drain.now) (contents b.drain.now) (a.buffer.now ++ line_bytes a.form q) (bytes_of a.form qs) next.buffer.now r.rest first
+                (moves_on (contents a.drain.now) (contents next.drain.now) (contents b.drain.now) (a.buffer.now ++ line_bytes a.form q)
+                (bytes_of a.form qs) next.buffer.now r.rest first
                 (subst (λ f. Moves (contents next.drain.now) (contents b.drain.now) (next.buffer.now ++ bytes_of f qs) r.rest) t.same.form r.moves));
             writable = λ w. (
               (untruncated_quad q t.formed, w.0),
-              subst (λ (f : OutputView). Writable f.lines.style qs) t.same.form (r.writable (subst (λ (f : OutputView). AllByRecursion (CanWrite f.lines.style) qs) (sym t.same.form) w.1)),
+              subst (λ (f : OutputView). Writable f.lines.style qs) t.same.form
+                  (r.writable (subst (λ (f : OutputView). AllByRecursion (CanWrite f.lines.style) qs) (sym t.same.form) w.1)),
             );
             whole = λ l.
                 let (done, later, split, writes) = r.whole l in (
@@ -186,7 +191,8 @@ module _ {D A : Type 0} (contents : D → Option (List ℕ)) (failed : D → Boo
                   later,
                   ap (λ rs. q ∷ rs) split,
                   subst (λ l. Writes contents a l b) (sym (encodes-append (line_chars a.form q) (lines_chars a.form done)))
-                      (writes_on a next b (line_bytes a.form q) (bytes_of a.form done) first (subst (λ s. Writes contents next (bytes_of s done) b) t.same.form writes)),
+                      (writes_on a next b (line_bytes a.form q) (bytes_of a.form done) first
+                      (subst (λ s. Writes contents next (bytes_of s done) b) t.same.form writes)),
                 );
           }
 
@@ -201,35 +207,45 @@ module _ {D A : Type 0} (contents : D → Option (List ℕ)) (failed : D → Boo
   puts_live (q ∷ qs) a b h l = puts_live qs h.0 b h.2 h.1.live
 
 -- what is left of a line that was not put is what is left of its quad
-pub left_by : {D A : Type 0} (contents : D → Option (List ℕ)) (failed : D → Bool) (before after : LineOut D A) (q : Quad) → ∥ IsQuad q ∥₁ → (g : Option (List ℕ)) → g ≡ graph_of before.form.graph →
+pub left_by : {D A : Type 0} (contents : D → Option (List ℕ)) (failed : D → Bool) (before after : LineOut D A) (q : Quad) → ∥ IsQuad q ∥₁ →
+    (g : Option (List ℕ)) → g ≡ graph_of before.form.graph →
     LeavesBytes contents failed before (line_by (record { form = form_of before.form.lines; graph = g }) q) after → Leaves contents failed before q after
 left_by contents failed before after q formed g e h = record {
   same = h.same;
   formed = formed;
   rest = h.rest;
-  moves = subst (λ x. Moves (contents before.drain.now) (contents after.drain.now) (before.buffer.now ++ line_by (record { form = form_of before.form.lines; graph = x }) q) h.rest) e h.moves;
+  moves = subst (λ x. Moves (contents before.drain.now) (contents after.drain.now)
+      (before.buffer.now ++ line_by (record { form = form_of before.form.lines; graph = x }) q) h.rest) e h.moves;
   live = h.live;
 }
 
 -- ---- bytes that go to the drain after what waited
 
 -- all of them were taken
-pub all_taken : (a b c : Option (List ℕ)) (waiting bytes rest : List ℕ) → Appends a b waiting → Appends b c bytes → rest ≡ [] → Moves a c (waiting ++ bytes) rest
-all_taken a b c waiting bytes rest p q e = record { front = waiting ++ bytes; whole = sym (ap (λ l. (waiting ++ bytes) ++ l) e ∙ append-nil (waiting ++ bytes)); taken = Appends-trans a b c waiting bytes p q }
+pub all_taken : (a b c : Option (List ℕ)) (waiting bytes rest : List ℕ) → Appends a b waiting → Appends b c bytes → rest ≡ [] →
+    Moves a c (waiting ++ bytes) rest
+all_taken a b c waiting bytes rest p q e =
+    record {
+      front = waiting ++ bytes;
+      whole = sym (ap (λ l. (waiting ++ bytes) ++ l) e ∙ append-nil (waiting ++ bytes));
+      taken = Appends-trans a b c waiting bytes p q;
+    }
 
 -- a beginning of what waited was taken
 pub front_before : (a b : Option (List ℕ)) (waiting bytes : List ℕ) → AppendsFront a b waiting → (rest : List ℕ) × Moves a b (waiting ++ bytes) rest
 front_before a b waiting bytes p = let (rest, m) = front_moves a b waiting p in (rest ++ bytes, moves_more a b waiting bytes rest m)
 
 -- all that waited was taken, and a beginning of them
-pub front_taken : (a b c : Option (List ℕ)) (waiting bytes : List ℕ) → Appends a b waiting → AppendsFront b c bytes → (rest : List ℕ) × Moves a c (waiting ++ bytes) rest
+pub front_taken : (a b c : Option (List ℕ)) (waiting bytes : List ℕ) → Appends a b waiting → AppendsFront b c bytes →
+    (rest : List ℕ) × Moves a c (waiting ++ bytes) rest
 front_taken a b c waiting bytes p q =
     let (rest, m) = front_moves b c bytes q in
     (rest, moves_on a b c waiting bytes [] rest (record { front = waiting; whole = sym (append-nil waiting); taken = p }) m)
 
 -- ---- bytes that were not put
 
-module _ {D A : Type 0} (contents : D → Option (List ℕ)) (failed : D → Bool) (before mid after : LineOut D A) (bytes : List ℕ) (m : Writes contents before [] mid) where
+module _ {D A : Type 0} (contents : D → Option (List ℕ)) (failed : D → Bool) (before mid after : LineOut D A) (bytes : List ℕ)
+    (m : Writes contents before [] mid) where
   -- nothing of it waits, and what waits was handed over, or not
   pub put_left : (reported : StreamFault) → PutHalts contents failed reported mid [] after → PutHalts contents failed reported before bytes after
   put_left stream.Write p = (
@@ -247,7 +263,8 @@ module _ {D A : Type 0} (contents : D → Option (List ℕ)) (failed : D → Boo
   put_left reported p = absurd p
 
 -- what is reported of bytes that were not put is no refusal
-pub put_sent : {D A : Type 0} (contents : D → Option (List ℕ)) (failed : D → Bool) (before after : LineOut D A) (bytes : List ℕ) (reported : StreamFault) (flushed : Bool) →
+pub put_sent : {D A : Type 0} (contents : D → Option (List ℕ)) (failed : D → Bool) (before after : LineOut D A) (bytes : List ℕ)
+    (reported : StreamFault) (flushed : Bool) →
     PutHalts contents failed reported before bytes after → IsSentOn reported flushed
 put_sent contents failed before after bytes (stream.Refused f) flushed p = absurd p
 put_sent contents failed before after bytes reported flushed p = tt

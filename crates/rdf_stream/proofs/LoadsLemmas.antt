@@ -43,7 +43,8 @@ refused f sizes bytes r = by f.reason refl r
     by TooManyBindings e r = subst (λ x. FailsAt x sizes bytes f.line) (sym e) r
 
 -- the bytes that a source gave are no bindings
-pub binds_not : (fault : LoadFault) (sizes : Sizes) (known : Option (List ℕ)) (left : Reading) (bytes : List ℕ) → HasGivenAll known left bytes → BindsNot fault sizes bytes
+pub binds_not : (fault : LoadFault) (sizes : Sizes) (known : Option (List ℕ)) (left : Reading) (bytes : List ℕ) →
+    HasGivenAll known left bytes → BindsNot fault sizes bytes
     → LoadStops fault sizes known left
 binds_not (Bad f) sizes known left bytes h r = (bytes, h, r)
 binds_not Read sizes known left bytes h r = absurd r
@@ -61,13 +62,15 @@ module _ (known : Option (List ℕ)) (left left' : Reading) (bytes : List ℕ) (
   source_failed k e o = ((e, o), bytes, Consumes-kept known left.remaining left'.remaining bytes i.consumed k)
 
   -- a piece more
-  pub gives_more : (piece : List ℕ) → Consumes left.remaining left'.remaining piece → left'.has_ended ≡ false → left'.has_failed ≡ false → (room' : ℕ) → 0 < room'
+  pub gives_more : (piece : List ℕ) → Consumes left.remaining left'.remaining piece → left'.has_ended ≡ false → left'.has_failed ≡ false →
+      (room' : ℕ) → 0 < room'
       → IsGiving known left' (bytes ++ piece) room'
   gives_more piece c more live room' some =
       record { consumed = Consumes-trans known left.remaining left'.remaining bytes piece i.consumed c; more = more; live = live; has_room = some }
 
   -- the end
-  pub gives_all : Consumes left.remaining left'.remaining [] → IsAtEnd left'.remaining → left'.has_ended ≡ true → left'.has_failed ≡ false → HasGivenAll known left' bytes
+  pub gives_all : Consumes left.remaining left'.remaining [] → IsAtEnd left'.remaining → left'.has_ended ≡ true → left'.has_failed ≡ false →
+      HasGivenAll known left' bytes
   gives_all c at_end reported live = record {
     consumed = subst (Consumes known left'.remaining) (append-nil bytes) (Consumes-trans known left.remaining left'.remaining bytes [] i.consumed c);
     at_end = at_end;
@@ -76,6 +79,7 @@ module _ (known : Option (List ℕ)) (left left' : Reading) (bytes : List ℕ) (
   }
 
 -- a `?` that reported a fault
-pub reported_fault : {T : Type 0} (r : Result T LoadFault) (reported : LoadFault) (P : LoadFault → Type 0) → IsErrAnd r (λ t. t ≡ reported) → P reported → IfErr r P
+pub reported_fault : {T : Type 0} (r : Result T LoadFault) (reported : LoadFault) (P : LoadFault → Type 0) →
+    IsErrAnd r (λ t. t ≡ reported) → P reported → IfErr r P
 reported_fault (Ok x) reported P e h = tt
 reported_fault (Err t) reported P e h = subst P (sym e) h

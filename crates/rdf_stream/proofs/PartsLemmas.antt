@@ -62,7 +62,8 @@ module _ (w : List ℕ) (n : ℕ) (r : IsRun is_ascii_byte w 0 n) where
   ascii_cut u = IsCharBoundary-from_take w n u r.within (take n w, (low_scalars (take n w) low_run, low_encodes (take n w) low_run))
 
 -- a front of what stands from a place on in a front of the bytes stands there in the bytes
-pub front_at : (rest text front : List ℕ) (v at n : ℕ) → text ≡ take v rest → front ≡ take (length front) (drop at text) → n ≤ length front → take n front ≡ take n (drop at rest)
+pub front_at : (rest text front : List ℕ) (v at n : ℕ) → text ≡ take v rest → front ≡ take (length front) (drop at text) →
+    n ≤ length front → take n front ≡ take n (drop at rest)
 front_at rest text front v at n t f h = ⊎_elim outside inside (cases_lt (length text) at)
   where
     outside : length text < at → take n front ≡ take n (drop at rest)
@@ -74,13 +75,15 @@ front_at rest text front v at n t f h = ⊎_elim outside inside (cases_lt (lengt
     inside i =
         let whole : rest ≡ text ++ drop v rest = sym (take-append-drop v rest) ∙ ap (λ l. l ++ drop v rest) (sym t) in
         let then_text : drop at rest ≡ drop at text ++ drop v rest = ap (drop at) whole ∙ drop-append-le at text (drop v rest) i in
-        let split : drop at text ≡ front ++ drop (length front) (drop at text) = sym (take-append-drop (length front) (drop at text)) ∙ ap (λ l. l ++ drop (length front) (drop at text)) (sym f) in
+        let split : drop at text ≡ front ++ drop (length front) (drop at text) =
+        sym (take-append-drop (length front) (drop at text)) ∙ ap (λ l. l ++ drop (length front) (drop at text)) (sym f) in
         let all : drop at rest ≡ front ++ (drop (length front) (drop at text) ++ drop v rest) =
         then_text ∙ (ap (λ l. l ++ drop v rest) split ∙ append_assoc front (drop (length front) (drop at text)) (drop v rest)) in
         sym (ap (take n) all ∙ take-append-le n front (drop (length front) (drop at text) ++ drop v rest) h)
 
 -- what stands from a place on in such a text may be passed there
-pub pass_later : (text front later : List ℕ) (at n to : ℕ) (b : Bool) → to ≡ at + n → MayPass text at b front → later ≡ take (length later) (drop n front) → MayPass text to b later
+pub pass_later : (text front later : List ℕ) (at n to : ℕ) (b : Bool) → to ≡ at + n → MayPass text at b front →
+    later ≡ take (length later) (drop n front) → MayPass text to b later
 pass_later text front later at n to b t m e = record {
   stands = sym (take-length later) ∙ (front_at (drop at text) front later (length front) n (length later) m.stands e (omega arith)
       ∙ ap (take (length later)) (drop-drop n at text ∙ ap (λ k. drop k text) (sym t)));
@@ -88,7 +91,8 @@ pass_later text front later at n to b t m e = record {
 }
 
 -- such a front ends within the bytes
-pub front_within : (rest text front : List ℕ) (v at n : ℕ) → text ≡ take v rest → front ≡ take (length front) (drop at text) → n ≤ length front → at ≤ length rest → at + n ≤ length rest
+pub front_within : (rest text front : List ℕ) (v at n : ℕ) → text ≡ take v rest → front ≡ take (length front) (drop at text) →
+    n ≤ length front → at ≤ length rest → at + n ≤ length rest
 front_within rest text front v at n t f h w =
     omega (arith, ap length (front_at rest text front v at n t f h), length-take-le n front h, length-take n (drop at rest), length-drop at rest, w)
 
@@ -109,8 +113,10 @@ module _ {R : Type 0} (taken : R → List ℕ → R → Type 0) where
     pub few : count ≤ most_bytes
 
   -- as far as a place, and a part from there on
-  pub takes_to : (a b c : R) (rest part : List ℕ) (at n : ℕ) → TakesMore taken a (take at rest) b → TakesMore taken b part c → part ≡ take n (drop at rest) → TakesMore taken a (take (at + n) rest) c
-  takes_to a b c rest part at n p q e = subst (λ l. TakesMore taken a l c) (ap (λ l. take at rest ++ l) e ∙ sym (take-add at n rest)) (takes_both a b c (take at rest) part p q)
+  pub takes_to : (a b c : R) (rest part : List ℕ) (at n : ℕ) → TakesMore taken a (take at rest) b → TakesMore taken b part c →
+      part ≡ take n (drop at rest) → TakesMore taken a (take (at + n) rest) c
+  takes_to a b c rest part at n p q e = subst (λ l. TakesMore taken a l c) (ap (λ l. take at rest ++ l) e ∙ sym (take-add at n rest))
+      (takes_both a b c (take at rest) part p q)
 
   -- the text before the place was taken, and what stays has stayed
   pub record HasPassed (stays : R → R → Type 0) (a b : R) (text : List ℕ) (at : ℕ) : Type 0 where
@@ -119,7 +125,8 @@ module _ {R : Type 0} (taken : R → List ℕ → R → Type 0) where
     pub stays_on : StaysOn stays a b
 
   -- and a front of what stands from there on
-  pub passes_on : (stays : R → R → Type 0) (a b c : R) (text rest : List ℕ) (at n : ℕ) → HasPassed stays a b text at → rest ≡ take (length rest) (drop at text) →
+  pub passes_on : (stays : R → R → Type 0) (a b c : R) (text rest : List ℕ) (at n : ℕ) → HasPassed stays a b text at →
+      rest ≡ take (length rest) (drop at text) →
       n ≤ length rest → TakesMore taken b (take n rest) c → StaysOn stays b c → HasPassed stays a c text (at + n)
   passes_on stays a b c text rest at n h e l q s =
       let all = sym (take-length text) in
@@ -131,18 +138,24 @@ module _ {R : Type 0} (taken : R → List ℕ → R → Type 0) where
 
   module _ (halts : StreamFault → R → List ℕ → Bool → R → Type 0) (f : StreamFault) where
     -- a part more was taken, and then the bytes are not read on
-    pub halts_later : (a b c : R) (part more : List ℕ) → TakesMore taken a part b → HaltsOn taken halts f b (λ bytes. bytes ++ more) false c → HaltsOn taken halts f a (λ bytes. bytes ++ (part ++ more)) false c
-    halts_later a b c part more p h first bytes t = subst (λ l. halts f first l false c) (append_assoc bytes part more) (h first (bytes ++ part) (p first bytes t))
+    pub halts_later : (a b c : R) (part more : List ℕ) → TakesMore taken a part b →
+        HaltsOn taken halts f b (λ bytes. bytes ++ more) false c → HaltsOn taken halts f a (λ bytes. bytes ++ (part ++ more)) false c
+    halts_later a b c part more p h first bytes t =
+        subst (λ l. halts f first l false c) (append_assoc bytes part more) (h first (bytes ++ part) (p first bytes t))
 
     -- the same of a part of all the bytes
-    pub halts_in : (a c : R) (part all : List ℕ) (n : ℕ) → part ≡ take n all → HaltsWithin taken halts f a part c → HaltsOn taken halts f a (λ bytes. bytes ++ all) false c
-    halts_in a c part all n e h = subst (λ l. HaltsOn taken halts f a (λ bytes. bytes ++ l) false c) (ap (λ l. l ++ drop n all) e ∙ take-append-drop n all) (h (drop n all))
+    pub halts_in : (a c : R) (part all : List ℕ) (n : ℕ) → part ≡ take n all → HaltsWithin taken halts f a part c →
+        HaltsOn taken halts f a (λ bytes. bytes ++ all) false c
+    halts_in a c part all n e h = subst (λ l. HaltsOn taken halts f a (λ bytes. bytes ++ l) false c)
+        (ap (λ l. l ++ drop n all) e ∙ take-append-drop n all) (h (drop n all))
 
     -- as far as a place, and then a part from there on with which the bytes are not read on
-    pub halts_from : (a b c : R) (rest part : List ℕ) (at n : ℕ) → TakesMore taken a (take at rest) b → part ≡ take n (drop at rest) → HaltsWithin taken halts f b part c →
+    pub halts_from : (a b c : R) (rest part : List ℕ) (at n : ℕ) → TakesMore taken a (take at rest) b → part ≡ take n (drop at rest) →
+        HaltsWithin taken halts f b part c →
         HaltsOn taken halts f a (λ bytes. bytes ++ rest) false c
     halts_from a b c rest part at n p e h =
-        subst (λ l. HaltsOn taken halts f a (λ bytes. bytes ++ l) false c) (take-append-drop at rest) (halts_later a b c (take at rest) (drop at rest) p (halts_in b c part (drop at rest) n e h))
+        subst (λ l. HaltsOn taken halts f a (λ bytes. bytes ++ l) false c) (take-append-drop at rest)
+        (halts_later a b c (take at rest) (drop at rest) p (halts_in b c part (drop at rest) n e h))
 
     -- the same, whatever comes after the bytes
     pub halts_at : (a b c : R) (text rest : List ℕ) (at : ℕ) → TakesMore taken a (take at text) b → rest ≡ take (length rest) (drop at text) →
@@ -153,4 +166,5 @@ module _ {R : Type 0} (taken : R → List ℕ → R → Type 0) where
         let whole : take at text ++ (rest ++ (left ++ more)) ≡ text ++ more =
         ap (λ l. take at text ++ l) (sym (append_assoc rest left more) ∙ ap (λ l. l ++ more) split)
         ∙ (sym (append_assoc (take at text) (drop at text) more) ∙ ap (λ l. l ++ more) (take-append-drop at text)) in
-        subst (λ l. HaltsOn taken halts f a (λ bytes. bytes ++ l) false c) whole (halts_later a b c (take at text) (rest ++ (left ++ more)) p (h (left ++ more)))
+        subst (λ l. HaltsOn taken halts f a (λ bytes. bytes ++ l) false c) whole
+        (halts_later a b c (take at text) (rest ++ (left ++ more)) p (h (left ++ more)))

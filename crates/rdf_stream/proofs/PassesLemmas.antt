@@ -41,10 +41,12 @@ taken_writable form token iri [] h = tt
 taken_writable form token iri (q ∷ qs) h = ((h.0.quad, h.0.labels), taken_writable form token iri qs h.1)
 
 -- lines are text
-pub lines_passed : (ending : LineEnding) (old : Driven LineAt) (bytes : List ℕ) (new : Driven LineAt) → PassesLines ending old bytes new → PassesText line_words Kept (written_as ending bytes) old bytes new
+pub lines_passed : (ending : LineEnding) (old : Driven LineAt) (bytes : List ℕ) (new : Driven LineAt) → PassesLines ending old bytes new →
+    PassesText line_words Kept (written_as ending bytes) old bytes new
 lines_passed ending old bytes new h = record {
   given = h.given;
-  is = lines_written ending old.grammar.rules.form old.scanner.limit old.grammar.rules.iri bytes h.given h.canonical ∙ ap encode_utf8_all (sym (text_unprefixed Kept Plain h.given));
+  is = lines_written ending old.grammar.rules.form old.scanner.limit old.grammar.rules.iri bytes h.given h.canonical
+      ∙ ap encode_utf8_all (sym (text_unprefixed Kept Plain h.given));
   writable = taken_writable old.grammar.rules.form old.scanner.limit old.grammar.rules.iri h.given h.canonical.each;
   limit = h.limit;
   read = h.read;
@@ -55,7 +57,8 @@ pub rewrites_none : {G X : Type 0} (w : Words G X Quad) (style : Style) (r : Dri
 rewrites_none w style r lines = record { written = []; appended = sym (append-nil lines); passes = passes_none w style Lf r }
 
 -- lines with any escapes are text
-pub lines_rewritten : (old : Driven LineAt) (bytes : List ℕ) (new : Driven LineAt) (before after : List ℕ) → PassesInto old bytes new before after → RewritesText line_words Kept old bytes new before after
+pub lines_rewritten : (old : Driven LineAt) (bytes : List ℕ) (new : Driven LineAt) (before after : List ℕ) →
+    PassesInto old bytes new before after → RewritesText line_words Kept old bytes new before after
 lines_rewritten old bytes new before after h = record {
   written = h.lines;
   appended = h.appended;

@@ -19,7 +19,8 @@ pub same_front : (bytes more : List ℕ) (at : Place) → IsTooLong bytes at →
 same_front bytes more at h = take-append-le most_bytes bytes more (omega (arith, h.0))
 
 -- All bytes of a source were given, and are not read on.
-pub whole_stops : {R : Type 0} (taken : R → List ℕ → R → Type 0) (halts : StreamFault → R → List ℕ → Bool → R → Type 0) (f : StreamFault) (bytes : List ℕ) (ended : Bool) (first now : R) →
+pub whole_stops : {R : Type 0} (taken : R → List ℕ → R → Type 0) (halts : StreamFault → R → List ℕ → Bool → R → Type 0) (f : StreamFault)
+    (bytes : List ℕ) (ended : Bool) (first now : R) →
     halts f first bytes ended now → ReadStops taken halts f (Some bytes) (at_end ended) first now
 whole_stops taken halts f bytes ended first now h = inr (record { bytes = bytes; consumed = sym (append-nil bytes); ended = λ e. refl; live = refl }, h)
 
@@ -28,7 +29,8 @@ pub too_long_more : (bytes more : List ℕ) (at : Place) → IsTooLong bytes at 
 too_long_more bytes more at h = (omega (arith, h.0, length-append bytes more), h.1 ∙ ap end_of (sym (same_front bytes more at h)))
 
 -- the bytes that were known are those that were read and those that are left
-known_more : (known left : Option (List ℕ)) (bytes : List ℕ) (P : List ℕ → Type 0) → Consumes known left bytes → ((rest : List ℕ) → P (bytes ++ rest)) → IfSome known P
+known_more : (known left : Option (List ℕ)) (bytes : List ℕ) (P : List ℕ → Type 0) → Consumes known left bytes →
+    ((rest : List ℕ) → P (bytes ++ rest)) → IfSome known P
 known_more None left bytes P c h = tt
 known_more (Some b) None bytes P c h = absurd c
 known_more (Some b) (Some rest) bytes P c h = subst P (sym c) (h rest)
@@ -43,11 +45,13 @@ all_given known left P more given p = by left.has_ended refl p
     by false e q = known_more known left.remaining given.bytes (λ bytes. P bytes true) given.consumed (λ rest. more given.bytes rest q)
 
 -- the source gave no byte into a buffer that has room
-pub no_more : (left left' : Option (List ℕ)) (n : ℕ) (buf : List ℕ) → Consumes left left' (take n buf) × (n ≡ 0 → 0 < length buf → IsAtEnd left') → n ≡ 0 → 0 < length buf → Consumes left left' []
+pub no_more : (left left' : Option (List ℕ)) (n : ℕ) (buf : List ℕ) → Consumes left left' (take n buf)
+    × (n ≡ 0 → 0 < length buf → IsAtEnd left') → n ≡ 0 → 0 < length buf → Consumes left left' []
 no_more left left' n buf h e room = subst (λ k. Consumes left left' (take k buf)) e h.0
 
 -- a `?` that reported a fault
-pub reported_stops : {T : Type 0} (r : Result T StreamFault) (reported : StreamFault) (P : StreamFault → Type 0) → IsErrAnd r (λ t. t ≡ reported) → P reported → IfErr r P
+pub reported_stops : {T : Type 0} (r : Result T StreamFault) (reported : StreamFault) (P : StreamFault → Type 0) →
+    IsErrAnd r (λ t. t ≡ reported) → P reported → IfErr r P
 reported_stops (Ok x) reported P e h = tt
 reported_stops (Err t) reported P e h = subst P (sym e) h
 
@@ -76,7 +80,8 @@ abbrev pub none_given : (left : Reading) → left.has_ended ≡ false → left.h
 none_given left more live = record { bytes = []; consumed = Consumes-nil left.remaining; ended = λ e. absurd (false≢true (sym more ∙ e)); live = live }
 
 -- What left the source was taken.
-pub record IsReading {R : Type 0} (taken : R → List ℕ → R → Type 0) (stays : R → R → Type 0) (known : Option (List ℕ)) (left : Reading) (first now : R) (room : ℕ) : Type 0 where
+pub record IsReading {R : Type 0} (taken : R → List ℕ → R → Type 0) (stays : R → R → Type 0) (known : Option (List ℕ)) (left : Reading)
+    (first now : R) (room : ℕ) : Type 0 where
   pub bytes : List ℕ
   pub consumed : Consumes known left.remaining bytes
   pub is_taken : taken first bytes now
@@ -85,14 +90,26 @@ pub record IsReading {R : Type 0} (taken : R → List ℕ → R → Type 0) (sta
   pub live : left.has_failed ≡ false
   pub has_room : 0 < room
 
-module _ {R T : Type 0} (taken : R → List ℕ → R → Type 0) (halts : StreamFault → R → List ℕ → Bool → R → Type 0) (ends : T → R → List ℕ → R → Type 0) (stays : R → R → Type 0)
+module _ {R T : Type 0} (taken : R → List ℕ → R → Type 0) (halts : StreamFault → R → List ℕ → Bool → R → Type 0)
+    (ends : T → R → List ℕ → R → Type 0) (stays : R → R → Type 0)
     (known : Option (List ℕ)) (left left' : Reading) (first now : R) (room : ℕ) (i : IsReading taken stays known left first now room) where
   -- the source failed
-  pub read_stops : Keeps left.remaining left'.remaining → left'.has_failed ≡ true → left'.has_ended ≡ false → ReadStops taken halts stream.Read known left' first now
-  read_stops k e o = inl (refl, record { bytes = i.bytes; consumed = Consumes-kept known left.remaining left'.remaining i.bytes i.consumed k; broken = (e, o); is_taken = i.is_taken })
+  pub read_stops : Keeps left.remaining left'.remaining → left'.has_failed ≡ true → left'.has_ended ≡ false →
+      ReadStops taken halts stream.Read known left' first now
+  read_stops k e o =
+      inl (
+        refl,
+        record {
+          bytes = i.bytes;
+          consumed = Consumes-kept known left.remaining left'.remaining i.bytes i.consumed k;
+          broken = (e, o);
+          is_taken = i.is_taken;
+        },
+      )
 
   -- what was given before the last fill was taken
-  pub before_piece : (now' : R) (piece : List ℕ) → Consumes left.remaining left'.remaining piece → length piece ≤ left'.last → StaysOn stays now now' → TakenBefore taken stays known left' first now'
+  pub before_piece : (now' : R) (piece : List ℕ) → Consumes left.remaining left'.remaining piece → length piece ≤ left'.last →
+      StaysOn stays now now' → TakenBefore taken stays known left' first now'
   before_piece now' piece c few s = record {
     before = i.bytes;
     piece = piece;
@@ -110,10 +127,19 @@ module _ {R T : Type 0} (taken : R → List ℕ → R → Type 0) (halts : Strea
 
       -- a piece more
       pub on_piece : (room' : ℕ) → 0 < room' → TakesMore taken now piece now' → stays first now' → IsReading taken stays known left' first now' room'
-      on_piece room' some h s = record { bytes = i.bytes ++ piece; consumed = all_consumed; is_taken = h first i.bytes i.is_taken; same = s; more = more; live = live; has_room = some }
+      on_piece room' some h s = record {
+        bytes = i.bytes ++ piece;
+        consumed = all_consumed;
+        is_taken = h first i.bytes i.is_taken;
+        same = s;
+        more = more;
+        live = live;
+        has_room = some;
+      }
 
       -- a fault in a piece
-      pub piece_stops : (reported : StreamFault) → HaltsOn taken halts reported now (λ bytes. bytes ++ piece) false now' → ReadStops taken halts reported known left' first now'
+      pub piece_stops : (reported : StreamFault) → HaltsOn taken halts reported now (λ bytes. bytes ++ piece) false now' →
+          ReadStops taken halts reported known left' first now'
       piece_stops reported h =
           inr (
             record { bytes = i.bytes ++ piece; consumed = all_consumed; ended = λ e. absurd (false≢true (sym more ∙ e)); live = live },
@@ -131,7 +157,8 @@ module _ {R T : Type 0} (taken : R → List ℕ → R → Type 0) (halts : Strea
           (λ s e. record { bytes = i.bytes; consumed = whole_consumed; reported = reported; at_end = ended; is_end = e first i.bytes i.is_taken }) h
 
       -- a fault at the end
-      pub end_stops : (r : Result T StreamFault) → IfErr r (λ f. HaltsOn taken halts f now (λ bytes. bytes) true now') → IfErr r (λ f. ReadStops taken halts f known left' first now')
+      pub end_stops : (r : Result T StreamFault) → IfErr r (λ f. HaltsOn taken halts f now (λ bytes. bytes) true now') →
+          IfErr r (λ f. ReadStops taken halts f known left' first now')
       end_stops r h =
           if_err r (λ f. HaltsOn taken halts f now (λ bytes. bytes) true now') (λ f. ReadStops taken halts f known left' first now')
           (λ f e.

@@ -53,8 +53,11 @@ begun_all r ts e = ([], sym e ∙ sym (append-nil ts))
 
 -- so do the first of them
 begun_in_front : (r : Reading) (ahead later ts rest : List Token) → r.tokens ≡ ahead ++ later → ts ++ rest ≡ without_end ahead → Begun r ts
-begun_in_front r ahead later ts rest e d =
-    (rest ++ without_end later, ap without_end e ∙ (without-append ahead later ∙ (ap (λ l. l ++ without_end later) (sym d) ∙ append_assoc ts rest (without_end later))))
+begun_in_front r ahead later ts rest e d = (
+  rest ++ without_end later,
+  ap without_end e
+      ∙ (without-append ahead later ∙ (ap (λ l. l ++ without_end later) (sym d) ∙ append_assoc ts rest (without_end later))),
+)
 
 -- a beginning of their lines is one of the lines of the reading
 shows_front : (a b : Option (List ℕ)) (r : Reading) (ts : List Token) → Begun r ts → AppendsFront a b (all_lines ts) → ShowsFront r a b
@@ -77,8 +80,10 @@ module _ (job : JobRead) (bytes more : List ℕ) (e : Bool) where
 
   module _ (old new : Option (List ℕ)) where
     -- a reading that has ended keeps its outcome and its place, whatever bytes follow
-    stops_at_more : (o : Outcome) (at : Place) → o ≢ undecided → StopsAt (tokens_in job bytes false) o at old new → StopsAt (tokens_in job (bytes ++ more) e) o at old new
-    stops_at_more o at d s = subst (λ r. StopsAt r o at old new) (sym ((lengthens (dialect_of job.form) job.limits.token bytes more e).1 (λ x. d (sym s.outcome ∙ x)))) s
+    stops_at_more : (o : Outcome) (at : Place) → o ≢ undecided → StopsAt (tokens_in job bytes false) o at old new →
+        StopsAt (tokens_in job (bytes ++ more) e) o at old new
+    stops_at_more o at d s = subst (λ r. StopsAt r o at old new)
+        (sym ((lengthens (dialect_of job.form) job.limits.token bytes more e).1 (λ x. d (sym s.outcome ∙ x)))) s
 
     -- what stops the tokens stops them with more bytes
     stops_more : (why : Reason) (at : Place) → ShowRefuses why job bytes false at old new → ShowRefuses why job (bytes ++ more) e at old new
@@ -96,7 +101,8 @@ module _ (job : JobRead) (bytes more : List ℕ) (e : Bool) where
 
 -- ---- after some bytes
 
-module _ {D A : Type 0} (contents : D → Option (List ℕ)) (failed : D → Bool) (d : Dialect) (job : JobRead) (reader : Driven ℕ) (bytes : List ℕ) (first lines : LineOut D A)
+module _ {D A : Type 0} (contents : D → Option (List ℕ)) (failed : D → Bool) (d : Dialect) (job : JobRead) (reader : Driven ℕ)
+    (bytes : List ℕ) (first lines : LineOut D A)
     (o : HandedOver contents failed d job reader bytes first lines) where
   abbrev w : Words ℕ Unit Token
   w = token_words d
@@ -117,7 +123,8 @@ module _ {D A : Type 0} (contents : D → Option (List ℕ)) (failed : D → Boo
   Behind after ts rest = Moves (contents lines.drain.now) (contents after.drain.now) (lines.buffer.now ++ all_lines ts) rest
 
   -- from the beginning of the run
-  from_first : (after : LineOut D A) (ts : List Token) (rest : List ℕ) → Behind after ts rest → Moves (contents first.drain.now) (contents after.drain.now) (all_lines (before ++ ts)) rest
+  from_first : (after : LineOut D A) (ts : List Token) (rest : List ℕ) → Behind after ts rest →
+      Moves (contents first.drain.now) (contents after.drain.now) (all_lines (before ++ ts)) rest
   from_first after ts rest m =
       subst (λ b. Moves (contents first.drain.now) (contents after.drain.now) b rest) (sym (all-append before ts))
       (moves_on (contents first.drain.now) (contents lines.drain.now) (contents after.drain.now) (all_lines before) (all_lines ts) [] rest
@@ -129,24 +136,29 @@ module _ {D A : Type 0} (contents : D → Option (List ℕ)) (failed : D → Boo
       (subst (λ b. Moves (contents lines.drain.now) (contents after.drain.now) (b ++ all_lines ts) rest) o.none_waits m))
 
   -- a beginning of the lines was written
-  written_front : (after : LineOut D A) (r : Reading) (ts : List Token) (rest : List ℕ) → Behind after ts rest → Begun r (before ++ ts) → ShowsFront r (contents first.drain.now) (contents after.drain.now)
+  written_front : (after : LineOut D A) (r : Reading) (ts : List Token) (rest : List ℕ) → Behind after ts rest → Begun r (before ++ ts) →
+      ShowsFront r (contents first.drain.now) (contents after.drain.now)
   written_front after r ts rest m b =
       shows_front (contents first.drain.now) (contents after.drain.now) r (before ++ ts) b
       (moves_front (contents first.drain.now) (contents after.drain.now) (all_lines (before ++ ts)) rest (from_first after ts rest m))
 
   -- all that waited was taken then
-  written_all : (mid after : LineOut D A) (ts : List Token) → Writes contents lines (all_lines ts) mid → Appends (contents mid.drain.now) (contents after.drain.now) mid.buffer.now →
+  written_all : (mid after : LineOut D A) (ts : List Token) → Writes contents lines (all_lines ts) mid →
+      Appends (contents mid.drain.now) (contents after.drain.now) mid.buffer.now →
       Appends (contents first.drain.now) (contents after.drain.now) (all_lines (before ++ ts))
   written_all mid after ts m t =
-      moves_all (contents first.drain.now) (contents mid.drain.now) (contents after.drain.now) (all_lines (before ++ ts)) mid.buffer.now (from_first mid ts mid.buffer.now m) t
+      moves_all (contents first.drain.now) (contents mid.drain.now) (contents after.drain.now) (all_lines (before ++ ts)) mid.buffer.now
+      (from_first mid ts mid.buffer.now m) t
 
   -- the lines of all tokens of some bytes
-  written_tokens : (after : LineOut D A) (ts us : List Token) → Appends (contents first.drain.now) (contents after.drain.now) (all_lines (before ++ ts)) → before ++ ts ≡ without_end us →
+  written_tokens : (after : LineOut D A) (ts us : List Token) → Appends (contents first.drain.now) (contents after.drain.now)
+      (all_lines (before ++ ts)) → before ++ ts ≡ without_end us →
       Appends (contents first.drain.now) (contents after.drain.now) (token_lines us)
   written_tokens after ts us a e = subst (Appends (contents first.drain.now) (contents after.drain.now)) (ap all_lines e ∙ lines_without us) a
 
   -- the drain took a beginning of what waited
-  then_front : (mid after : LineOut D A) (ts : List Token) (rest : List ℕ) → Writes contents lines (all_lines ts) mid → Moves (contents mid.drain.now) (contents after.drain.now) mid.buffer.now rest →
+  then_front : (mid after : LineOut D A) (ts : List Token) (rest : List ℕ) → Writes contents lines (all_lines ts) mid →
+      Moves (contents mid.drain.now) (contents after.drain.now) mid.buffer.now rest →
       Behind after ts rest
   then_front mid after ts rest m n =
       subst (λ b. Moves (contents lines.drain.now) (contents after.drain.now) b rest) (append-nil (lines.buffer.now ++ all_lines ts))
@@ -173,11 +185,13 @@ module _ {D A : Type 0} (contents : D → Option (List ℕ)) (failed : D → Boo
       record {
         more = h.more;
         tries = tried_tokens contents failed h.more lines mid h.puts;
-        begun = begun_in_front (tokens_in job b e) x.ahead x.after (before ++ h.more) x.rest (ap (λ r. r.tokens) (sym (same ∙ same_reading b e)) ∙ x.tokens) (due_tokens d x.ahead ((before ++ h.more) ++ x.rest) x.due);
+        begun = begun_in_front (tokens_in job b e) x.ahead x.after (before ++ h.more) x.rest
+            (ap (λ r. r.tokens) (sym (same ∙ same_reading b e)) ∙ x.tokens) (due_tokens d x.ahead ((before ++ h.more) ++ x.rest) x.due);
       }
 
   -- the drain failed, before or when it was handed what waited
-  tells_write : (r : Reading) (mid after : LineOut D A) → LeftOff r mid → ReportsWrite contents failed mid after → ShowsFront r (contents first.drain.now) (contents after.drain.now)
+  tells_write : (r : Reading) (mid after : LineOut D A) → LeftOff r mid → ReportsWrite contents failed mid after →
+      ShowsFront r (contents first.drain.now) (contents after.drain.now)
   tells_write r mid after h t = by (failed mid.drain.now) refl
     where
       by : (b : Bool) → failed mid.drain.now ≡ b → ShowsFront r (contents first.drain.now) (contents after.drain.now)
@@ -191,18 +205,22 @@ module _ {D A : Type 0} (contents : D → Option (List ℕ)) (failed : D → Boo
           written_front after r h.more (rest ++ all_lines later) (subst (λ ts. Behind after ts (rest ++ all_lines later)) (sym split) m) h.begun
 
   -- the drain has all whole lines
-  tells_some : (r : Reading) (mid after : LineOut D A) → LeftOff r mid → ReportsFault contents failed mid after → ShowsSome r (contents first.drain.now) (contents after.drain.now)
+  tells_some : (r : Reading) (mid after : LineOut D A) → LeftOff r mid → ReportsFault contents failed mid after →
+      ShowsSome r (contents first.drain.now) (contents after.drain.now)
   tells_some r mid after h t =
       let (done, later, split, writes) = h.tries.whole t.live in
       shows_some (contents first.drain.now) (contents after.drain.now) r (before ++ done)
-      (begun_less r (before ++ done) later (subst (Begun r) (ap (λ ts. before ++ ts) split ∙ sym (append_assoc before done later)) h.begun)) (written_all mid after done writes t.taken)
+      (begun_less r (before ++ done) later (subst (Begun r) (ap (λ ts. before ++ ts) split ∙ sym (append_assoc before done later)) h.begun))
+      (written_all mid after done writes t.taken)
 
   -- ---- a reading that is refused
 
-  stops_here : (r : Reading) (why : Outcome) (at : Place) (ahead : List Token) (old new : Option (List ℕ)) → r.outcome ≡ why → r.at ≡ at → r.tokens ≡ ahead → Appends old new (token_lines ahead) → StopsAt r why at old new
+  stops_here : (r : Reading) (why : Outcome) (at : Place) (ahead : List Token) (old new : Option (List ℕ)) → r.outcome ≡ why → r.at ≡ at →
+      r.tokens ≡ ahead → Appends old new (token_lines ahead) → StopsAt r why at old new
   stops_here r why at ahead old new x y z a = record { outcome = x; place = y; written = subst (λ ts. Appends old new (token_lines ts)) (sym z) a }
 
-  refused_shown : (why : Reason) (at : Place) (b : List ℕ) (e : Bool) (ahead : List Token) (old new : Option (List ℕ)) → RefusedIn l (tokens_in job b e) why at ahead → Appends old new (token_lines ahead) →
+  refused_shown : (why : Reason) (at : Place) (b : List ℕ) (e : Bool) (ahead : List Token) (old new : Option (List ℕ)) →
+      RefusedIn l (tokens_in job b e) why at ahead → Appends old new (token_lines ahead) →
       ShowRefuses why job b e at old new
   refused_shown reason.BadUtf8 at b e ahead old new x a = stops_here (tokens_in job b e) bad_utf8 at ahead old new x.outcome x.place x.tokens a
   refused_shown reason.NoToken at b e ahead old new x a = stops_here (tokens_in job b e) no_token at ahead old new x.outcome x.place x.tokens a
@@ -233,7 +251,8 @@ module _ {D A : Type 0} (contents : D → Option (List ℕ)) (failed : D → Boo
     pub all : before ++ more ≡ without_end ahead
     pub left : LeftOff (tokens_in job b e) mid
 
-  refuses : (why : Reason) (at : Place) (b : List ℕ) (e : Bool) (readings : List ℕ → Reading) (g : ℕ) (found : Option Kind) (mid : LineOut D A) → readings bytes ≡ tokens_of d reader.scanner.limit b e →
+  refuses : (why : Reason) (at : Place) (b : List ℕ) (e : Bool) (readings : List ℕ → Reading) (g : ℕ) (found : Option Kind)
+      (mid : LineOut D A) → readings bytes ≡ tokens_of d reader.scanner.limit b e →
       R.Refuses w (TakesToken contents failed) reader lines readings why at g found mid → RefusedAt why at b e mid
   refuses why at b e readings g found mid same h =
       let (ahead, refused, due) = h.refused tt bytes before o.read in
@@ -252,7 +271,8 @@ module _ {D A : Type 0} (contents : D → Option (List ℕ)) (failed : D → Boo
         };
       }
 
-  tells_refused : (why : Reason) (at : Place) (b : List ℕ) (e : Bool) (mid after : LineOut D A) → RefusedAt why at b e mid → ReportsFault contents failed mid after →
+  tells_refused : (why : Reason) (at : Place) (b : List ℕ) (e : Bool) (mid after : LineOut D A) → RefusedAt why at b e mid →
+      ReportsFault contents failed mid after →
       ShowRefuses why job b e at (contents first.drain.now) (contents after.drain.now)
   tells_refused why at b e mid after h t =
       refused_shown why at b e h.ahead (contents first.drain.now) (contents after.drain.now) h.refused
@@ -266,11 +286,13 @@ module _ {D A : Type 0} (contents : D → Option (List ℕ)) (failed : D → Boo
 
   halts_by : (b : List ℕ) (e : Bool) (fault reported : StreamFault) (mid after : LineOut D A) → LeftOff (tokens_in job b e) mid → SameOut mid after →
       (ReportsFault contents failed mid after → HaltsFor fault job b e (contents first.drain.now) (contents after.drain.now) (failed after.drain.now)) →
-      ((reported ≡ stream.Write) × ReportsWrite contents failed mid after) ⊎ ((reported ≡ fault) × ReportsFault contents failed mid after) → Halted reported b e after
+      ((reported ≡ stream.Write) × ReportsWrite contents failed mid after) ⊎ ((reported ≡ fault) × ReportsFault contents failed mid after) →
+      Halted reported b e after
   halts_by b e fault reported mid after h s why t = record {
     same = same_out first mid after (same_out first lines mid o.same h.tries.same) s;
     halts = ⊎_elim
-        (λ p. subst (λ y. HaltsFor y job b e (contents first.drain.now) (contents after.drain.now) (failed after.drain.now)) (sym p.0) (p.1.failed_now, tells_write (tokens_in job b e) mid after h p.1))
+        (λ p. subst (λ y. HaltsFor y job b e (contents first.drain.now) (contents after.drain.now) (failed after.drain.now)) (sym p.0)
+        (p.1.failed_now, tells_write (tokens_in job b e) mid after h p.1))
         (λ p. subst (λ y. HaltsFor y job b e (contents first.drain.now) (contents after.drain.now) (failed after.drain.now)) (sym p.0) (why p.1))
         t;
   }
@@ -291,7 +313,8 @@ module _ {D A : Type 0} (contents : D → Option (List ℕ)) (failed : D → Boo
         let f = h.full tt bytes before o.read in
         let front = take most_bytes all_bytes in
         let b : Begun (tokens_in job (front ++ drop most_bytes all_bytes) false) (before ++ h.more) =
-        begun_in_front (tokens_in job (front ++ drop most_bytes all_bytes) false) (tokens_in job front false).tokens (longer job front (drop most_bytes all_bytes) false).0 (before ++ h.more) []
+        begun_in_front (tokens_in job (front ++ drop most_bytes all_bytes) false) (tokens_in job front false).tokens
+        (longer job front (drop most_bytes all_bytes) false).0 (before ++ h.more) []
         (longer job front (drop most_bytes all_bytes) false).1 (append-nil (before ++ h.more) ∙ full_tokens h) in
         record {
           more = h.more;
@@ -299,8 +322,10 @@ module _ {D A : Type 0} (contents : D → Option (List ℕ)) (failed : D → Boo
           begun = subst (λ b. Begun (tokens_in job b false) (before ++ h.more)) (take-append-drop most_bytes all_bytes) b;
         }
       where
-        full_tokens : (h : R.Overruns w (TakesToken contents failed) reader lines piece here mid) → before ++ h.more ≡ without_end (tokens_in job (take most_bytes all_bytes) false).tokens
-        full_tokens h = due_tokens d _ (before ++ h.more) (h.full tt bytes before o.read).due ∙ ap (λ r. without_end r.tokens) (same_reading (take most_bytes all_bytes) false)
+        full_tokens : (h : R.Overruns w (TakesToken contents failed) reader lines piece here mid) →
+            before ++ h.more ≡ without_end (tokens_in job (take most_bytes all_bytes) false).tokens
+        full_tokens h = due_tokens d _ (before ++ h.more) (h.full tt bytes before o.read).due
+            ∙ ap (λ r. without_end r.tokens) (same_reading (take most_bytes all_bytes) false)
 
     overruns_shown : (after : LineOut D A) → R.Overruns w (TakesToken contents failed) reader lines piece here mid → ReportsFault contents failed mid after →
         ShowRefuses reason.DocumentTooLong job all_bytes false here (contents first.drain.now) (contents after.drain.now)
@@ -321,18 +346,25 @@ module _ {D A : Type 0} (contents : D → Option (List ℕ)) (failed : D → Boo
     left_piece why h = (refuses why here all_bytes false (piece_reading w reader.scanner.limit piece) reader'.grammar reader'.found mid refl h).left
 
     fault_piece : (after : LineOut D A) (why : Reason) → FailsPiece why → ReportsFault contents failed mid after →
-        HaltsFor (fault_by why (record { reason = why; offset = n; line = k })) job all_bytes false (contents first.drain.now) (contents after.drain.now) (failed after.drain.now)
+        HaltsFor (fault_by why (record { reason = why; offset = n; line = k })) job all_bytes false (contents first.drain.now)
+        (contents after.drain.now) (failed after.drain.now)
     fault_piece after reason.Ended h t = absurd (false≢true (sym o.read.running ∙ h.0))
     fault_piece after reason.Memory h t = (t.live_now, tells_some (tokens_in job all_bytes false) mid after (left_piece reason.Memory h) t)
     fault_piece after reason.Sink h t = absurd (false≢true (sym t.live ∙ h.1))
     fault_piece after reason.DocumentTooLong h t = (t.live_now, overruns_shown after h t)
-    fault_piece after why h t = (t.live_now, tells_refused why here all_bytes false mid after (refuses why here all_bytes false (piece_reading w reader.scanner.limit piece) reader'.grammar reader'.found mid refl h) t)
+    fault_piece after why h t = (
+      t.live_now,
+      tells_refused why here all_bytes false mid after
+          (refuses why here all_bytes false (piece_reading w reader.scanner.limit piece) reader'.grammar reader'.found mid refl h) t,
+    )
 
     -- an error in a piece
-    piece_halts : (why : Reason) (after : LineOut D A) (reported : StreamFault) → FailsPiece why → SameOut mid after → Reports contents failed (record { reason = why; offset = n; line = k }) reported mid after →
+    piece_halts : (why : Reason) (after : LineOut D A) (reported : StreamFault) → FailsPiece why → SameOut mid after →
+        Reports contents failed (record { reason = why; offset = n; line = k }) reported mid after →
         Halted reported all_bytes false after
     piece_halts why after reported h s t =
-        halts_by all_bytes false (fault_by why (record { reason = why; offset = n; line = k })) reported mid after (left_piece why h) s (fault_piece after why h) t
+        halts_by all_bytes false (fault_by why (record { reason = why; offset = n; line = k })) reported mid after (left_piece why h) s
+        (fault_piece after why h) t
 
   module _ (n k : ℕ) (reader' : Driven ℕ) (mid : LineOut D A) where
     abbrev end_at : Place
@@ -351,16 +383,20 @@ module _ {D A : Type 0} (contents : D → Option (List ℕ)) (failed : D → Boo
     left_end why h = (refuses why end_at bytes true end_reading reader'.grammar reader'.found mid refl h).left
 
     fault_end : (after : LineOut D A) (why : Reason) → FailsEnd why → ReportsFault contents failed mid after →
-        HaltsFor (fault_by why (record { reason = why; offset = n; line = k })) job bytes true (contents first.drain.now) (contents after.drain.now) (failed after.drain.now)
+        HaltsFor (fault_by why (record { reason = why; offset = n; line = k })) job bytes true (contents first.drain.now)
+        (contents after.drain.now) (failed after.drain.now)
     fault_end after reason.Ended h t = absurd (false≢true (sym o.read.running ∙ h.0))
     fault_end after reason.Memory h t = (t.live_now, tells_some (tokens_in job bytes true) mid after (left_end reason.Memory h) t)
     fault_end after reason.Sink h t = absurd (false≢true (sym t.live ∙ h.1))
-    fault_end after why h t = (t.live_now, tells_refused why end_at bytes true mid after (refuses why end_at bytes true end_reading reader'.grammar reader'.found mid refl h) t)
+    fault_end after why h t =
+        (t.live_now, tells_refused why end_at bytes true mid after (refuses why end_at bytes true end_reading reader'.grammar reader'.found mid refl h) t)
 
     -- an error at the end
-    end_halts : (why : Reason) (after : LineOut D A) (reported : StreamFault) → FailsEnd why → SameOut mid after → Reports contents failed (record { reason = why; offset = n; line = k }) reported mid after →
+    end_halts : (why : Reason) (after : LineOut D A) (reported : StreamFault) → FailsEnd why → SameOut mid after →
+        Reports contents failed (record { reason = why; offset = n; line = k }) reported mid after →
         Halted reported bytes true after
-    end_halts why after reported h s t = halts_by bytes true (fault_by why (record { reason = why; offset = n; line = k })) reported mid after (left_end why h) s (fault_end after why h) t
+    end_halts why after reported h s t = halts_by bytes true (fault_by why (record { reason = why; offset = n; line = k })) reported mid
+        after (left_end why h) s (fault_end after why h) t
 
   -- ---- all that comes was read
 
@@ -376,10 +412,12 @@ module _ {D A : Type 0} (contents : D → Option (List ℕ)) (failed : D → Boo
 
     -- the tokens so far, by the limit that stays
     all' : before ++ f.more ≡ without_end now_all.tokens
-    all' = read'.reached ∙ ap (λ n. without_end (tokens_of d n (bytes ++ piece) false).tokens) f.limit ∙ ap (λ r. without_end r.tokens) (same_reading (bytes ++ piece) false)
+    all' = read'.reached ∙ ap (λ n. without_end (tokens_of d n (bytes ++ piece) false).tokens) f.limit
+        ∙ ap (λ r. without_end r.tokens) (same_reading (bytes ++ piece) false)
 
     -- all lines were handed over
-    piece_read : (after : LineOut D A) → SameOut mid after → Appends (contents mid.drain.now) (contents after.drain.now) mid.buffer.now → after.buffer.now ≡ [] →
+    piece_read : (after : LineOut D A) → SameOut mid after → Appends (contents mid.drain.now) (contents after.drain.now) mid.buffer.now →
+        after.buffer.now ≡ [] →
         failed after.drain.now ≡ false → HandedOver contents failed d job reader' (bytes ++ piece) first after
     piece_read after s t none live = record {
       dialect = o.dialect;
@@ -392,7 +430,8 @@ module _ {D A : Type 0} (contents : D → Option (List ℕ)) (failed : D → Boo
     }
 
     -- the drain failed
-    piece_broke : (after : LineOut D A) → SameOut mid after → AppendsFront (contents mid.drain.now) (contents after.drain.now) mid.buffer.now → failed after.drain.now ≡ true →
+    piece_broke : (after : LineOut D A) → SameOut mid after → AppendsFront (contents mid.drain.now)
+        (contents after.drain.now) mid.buffer.now → failed after.drain.now ≡ true →
         Halted stream.Write (bytes ++ piece) false after
     piece_broke after s t broke =
         let (rest, m) = front_moves (contents mid.drain.now) (contents after.drain.now) mid.buffer.now t in
@@ -412,7 +451,8 @@ module _ {D A : Type 0} (contents : D → Option (List ℕ)) (failed : D → Boo
     all_end = due_tokens d _ (before ++ f.more) sums.due ∙ ap (λ r. without_end r.tokens) (same_reading bytes true)
 
     -- the document was read, and its tokens shown
-    end_read : length bytes ≤ most_bytes → (after : LineOut D A) → SameOut mid after → Appends (contents mid.drain.now) (contents after.drain.now) mid.buffer.now →
+    end_read : length bytes ≤ most_bytes → (after : LineOut D A) → SameOut mid after →
+        Appends (contents mid.drain.now) (contents after.drain.now) mid.buffer.now →
         SameOut first after × Shows job bytes (contents first.drain.now) (contents after.drain.now) (record summary { quads = 0 })
     end_read few after s t = (
       same_out first mid after (same_out first lines mid o.same all_put.same) s,
@@ -427,18 +467,24 @@ module _ {D A : Type 0} (contents : D → Option (List ℕ)) (failed : D → Boo
     )
 
     -- the drain failed
-    end_broke : (after : LineOut D A) → SameOut mid after → AppendsFront (contents mid.drain.now) (contents after.drain.now) mid.buffer.now → failed after.drain.now ≡ true →
+    end_broke : (after : LineOut D A) → SameOut mid after → AppendsFront (contents mid.drain.now)
+        (contents after.drain.now) mid.buffer.now → failed after.drain.now ≡ true →
         Halted stream.Write bytes true after
     end_broke after s t broke =
         let (rest, m) = front_moves (contents mid.drain.now) (contents after.drain.now) mid.buffer.now t in
         record {
           same = same_out first mid after (same_out first lines mid o.same all_put.same) s;
-          halts = (broke, written_front after (tokens_in job bytes true) f.more rest (then_front mid after f.more rest all_put.writes m) (begun_all (tokens_in job bytes true) (before ++ f.more) all_end));
+          halts = (
+            broke,
+            written_front after (tokens_in job bytes true) f.more rest (then_front mid after f.more rest all_put.writes m)
+                (begun_all (tokens_in job bytes true) (before ++ f.more) all_end),
+          );
         }
 
 -- ---- a run
 
-module _ {D A : Type 0} (contents : D → Option (List ℕ)) (failed : D → Bool) (d : Dialect) (reader : Driven ℕ) (first : LineOut D A) (bytes : List ℕ) (old : Driven ℕ) (lines : LineOut D A)
+module _ {D A : Type 0} (contents : D → Option (List ℕ)) (failed : D → Bool) (d : Dialect) (reader : Driven ℕ) (first : LineOut D A)
+    (bytes : List ℕ) (old : Driven ℕ) (lines : LineOut D A)
     (i : IsShowing contents failed d reader first bytes old lines) where
   -- what was handed over of the job that the run began with
   abbrev begun_with : HandedOver contents failed d i.begun.0 old bytes first lines
@@ -448,7 +494,8 @@ module _ {D A : Type 0} (contents : D → Option (List ℕ)) (failed : D → Boo
   live_now = begun_with.live
 
   halted : (reported : StreamFault) (b : List ℕ) (e : Bool) (after : LineOut D A) →
-      ((job : JobRead) (o : HandedOver contents failed d job old bytes first lines) → Halted contents failed d job old bytes first lines o reported b e after) → ShowHalts contents failed d reported reader first b e after
+      ((job : JobRead) (o : HandedOver contents failed d job old bytes first lines) → Halted contents failed d job old bytes first lines o
+      reported b e after) → ShowHalts contents failed d reported reader first b e after
   halted reported b e after h = record { begun = i.begun; same = (h i.begun.0 begun_with).same; halts = λ job y. (h job (i.handed job y)).halts }
 
   -- what stays from the beginning of a run stays from any state that had it
@@ -460,7 +507,8 @@ module _ {D A : Type 0} (contents : D → Option (List ℕ)) (failed : D → Boo
   module _ (piece : List ℕ) where
     module _ (new : Driven ℕ) (mid : LineOut D A) (f : Feeds (token_words d) (TakesToken contents failed) old lines piece new mid) where
       -- a piece more
-      pub run_takes : (after : LineOut D A) → SameOut mid after → Appends (contents mid.drain.now) (contents after.drain.now) mid.buffer.now → after.buffer.now ≡ [] →
+      pub run_takes : (after : LineOut D A) → SameOut mid after →
+          Appends (contents mid.drain.now) (contents after.drain.now) mid.buffer.now → after.buffer.now ≡ [] →
           failed after.drain.now ≡ false → new.scanner.taken.offset ≤ most_bytes → IsShowing contents failed d reader first (bytes ++ piece) new after
       run_takes after s t none live few = record {
         begun = i.begun;
@@ -488,20 +536,26 @@ module _ {D A : Type 0} (contents : D → Option (List ℕ)) (failed : D → Boo
           omega (arith, b, small, few)
 
       -- the drain failed
-      pub run_broke : (after : LineOut D A) → SameOut mid after → AppendsFront (contents mid.drain.now) (contents after.drain.now) mid.buffer.now → failed after.drain.now ≡ true →
+      pub run_broke : (after : LineOut D A) → SameOut mid after → AppendsFront (contents mid.drain.now)
+          (contents after.drain.now) mid.buffer.now → failed after.drain.now ≡ true →
           ShowHalts contents failed d stream.Write reader first (bytes ++ piece) false after
-      run_broke after s t broke = halted stream.Write (bytes ++ piece) false after (λ job o. piece_broke contents failed d job old bytes first lines o piece new mid f after s t broke)
+      run_broke after s t broke = halted stream.Write (bytes ++ piece) false after
+          (λ job o. piece_broke contents failed d job old bytes first lines o piece new mid f after s t broke)
 
     -- an error in a piece
     pub run_halts : (n k : ℕ) (new : Driven ℕ) (mid after : LineOut D A) (why : Reason) (reported : StreamFault) →
-        FeedFails (token_words d) (TakesToken contents failed) (LeavesToken contents failed) (λ s. failed s.drain.now) why (record { offset = n; line = k }) old lines piece new mid → SameOut mid after →
-        Reports contents failed (record { reason = why; offset = n; line = k }) reported mid after → ShowHalts contents failed d reported reader first (bytes ++ piece) false after
+        FeedFails (token_words d) (TakesToken contents failed) (LeavesToken contents failed) (λ s. failed s.drain.now) why
+        (record { offset = n; line = k }) old lines piece new mid → SameOut mid after →
+        Reports contents failed (record { reason = why; offset = n; line = k }) reported mid after →
+        ShowHalts contents failed d reported reader first (bytes ++ piece) false after
     run_halts n k new mid after why reported h s t =
-        halted reported (bytes ++ piece) false after (λ job o. piece_halts contents failed d job old bytes first lines o piece n k new mid why after reported h s t)
+        halted reported (bytes ++ piece) false after
+        (λ job o. piece_halts contents failed d job old bytes first lines o piece n k new mid why after reported h s t)
 
   module _ (summary : Summary) (mid : LineOut D A) (f : Finishes (token_words d) (TakesToken contents failed) old lines summary mid) where
     -- the document was read, and its tokens shown
-    pub run_ends : length bytes ≤ most_bytes → (flushed : D → Bool) (after : LineOut D A) → SameOut mid after → Appends (contents mid.drain.now) (contents after.drain.now) mid.buffer.now → flushed after.drain.now ≡ true →
+    pub run_ends : length bytes ≤ most_bytes → (flushed : D → Bool) (after : LineOut D A) → SameOut mid after →
+        Appends (contents mid.drain.now) (contents after.drain.now) mid.buffer.now → flushed after.drain.now ≡ true →
         ShowEnds contents failed flushed d (record summary { quads = 0 }) reader first bytes after
     run_ends few flushed after s t sent = record {
       same = (end_read contents failed d i.begun.0 old bytes first lines begun_with summary mid f few after s t).0;
@@ -510,37 +564,50 @@ module _ {D A : Type 0} (contents : D → Option (List ℕ)) (failed : D → Boo
     }
 
     -- the drain failed
-    pub end_run_broke : (after : LineOut D A) → SameOut mid after → AppendsFront (contents mid.drain.now) (contents after.drain.now) mid.buffer.now → failed after.drain.now ≡ true →
+    pub end_run_broke : (after : LineOut D A) → SameOut mid after →
+        AppendsFront (contents mid.drain.now) (contents after.drain.now) mid.buffer.now → failed after.drain.now ≡ true →
         ShowHalts contents failed d stream.Write reader first bytes true after
-    end_run_broke after s t broke = halted stream.Write bytes true after (λ job o. end_broke contents failed d job old bytes first lines o summary mid f after s t broke)
+    end_run_broke after s t broke = halted stream.Write bytes true after
+        (λ job o. end_broke contents failed d job old bytes first lines o summary mid f after s t broke)
 
   -- an error at the end
   pub end_run_halts : (n k : ℕ) (new : Driven ℕ) (mid after : LineOut D A) (why : Reason) (reported : StreamFault) →
-      FinishFails (token_words d) (TakesToken contents failed) (LeavesToken contents failed) (λ s. failed s.drain.now) why (record { offset = n; line = k }) old lines new mid → SameOut mid after →
-      Reports contents failed (record { reason = why; offset = n; line = k }) reported mid after → ShowHalts contents failed d reported reader first bytes true after
-  end_run_halts n k new mid after why reported h s t = halted reported bytes true after (λ job o. end_halts contents failed d job old bytes first lines o n k new mid why after reported h s t)
+      FinishFails (token_words d) (TakesToken contents failed) (LeavesToken contents failed) (λ s. failed s.drain.now) why
+      (record { offset = n; line = k }) old lines new mid → SameOut mid after →
+      Reports contents failed (record { reason = why; offset = n; line = k }) reported mid after →
+      ShowHalts contents failed d reported reader first bytes true after
+  end_run_halts n k new mid after why reported h s t = halted reported bytes true after
+      (λ job o. end_halts contents failed d job old bytes first lines o n k new mid why after reported h s t)
 
 -- ---- a whole run
 
 -- a refusal of tokens is one of the document
-refusal_of_document : (why : Reason) (job : JobRead) (bytes : List ℕ) (e : Bool) (at : Place) (old new : Option (List ℕ)) → ShowRefuses why job bytes e at old new → IsOfDocument why
+refusal_of_document : (why : Reason) (job : JobRead) (bytes : List ℕ) (e : Bool) (at : Place) (old new : Option (List ℕ)) →
+    ShowRefuses why job bytes e at old new → IsOfDocument why
 refusal_of_document reason.Memory job bytes e at old new h = h
 refusal_of_document reason.Sink job bytes e at old new h = h
 refusal_of_document reason.Ended job bytes e at old new h = h
 refusal_of_document why job bytes e at old new h = tt
 
 -- a refusal that showing reports is one of the document
-halts_of_document : (reported : StreamFault) (job : JobRead) (bytes : List ℕ) (e : Bool) (old new : Option (List ℕ)) (failed : Bool) → HaltsFor reported job bytes e old new failed → IsRefusal reported
+halts_of_document : (reported : StreamFault) (job : JobRead) (bytes : List ℕ) (e : Bool) (old new : Option (List ℕ)) (failed : Bool) →
+    HaltsFor reported job bytes e old new failed → IsRefusal reported
 halts_of_document (stream.Refused f) job bytes e old new failed h = refusal_of_document f.reason job bytes e (place_of f) old new h.1
 halts_of_document stream.Read job bytes e old new failed h = tt
 halts_of_document stream.Write job bytes e old new failed h = tt
 halts_of_document stream.Memory job bytes e old new failed h = tt
 
 -- why the bytes that were given are not read on is why the tokens are not all shown
-halts_stops : (reported : StreamFault) (job : JobRead) (known : Option (List ℕ)) (left : Reader) (old new : Option (List ℕ)) (write_failed : Bool) (given : HasGiven known left) →
+halts_stops : (reported : StreamFault) (job : JobRead) (known : Option (List ℕ)) (left : Reader) (old new : Option (List ℕ))
+    (write_failed : Bool) (given : HasGiven known left) →
     HaltsFor reported job given.bytes left.has_ended old new write_failed → ShowStops reported job known left old new write_failed
-halts_stops (stream.Refused f) job known left old new write_failed given h =
-    (h.0, all_given known left (λ bytes e. ShowRefuses f.reason job bytes e (place_of f) old new) (λ bytes more x. stops_more job bytes more true old new f.reason (place_of f) x) given h.1, given, h.1)
+halts_stops (stream.Refused f) job known left old new write_failed given h = (
+  h.0,
+  all_given known left (λ bytes e. ShowRefuses f.reason job bytes e (place_of f) old new)
+      (λ bytes more x. stops_more job bytes more true old new f.reason (place_of f) x) given h.1,
+  given,
+  h.1,
+)
 halts_stops stream.Read job known left old new write_failed given h = absurd h
 halts_stops stream.Write job known left old new write_failed given h = (h.0, given, h.1)
 halts_stops stream.Memory job known left old new write_failed given h = (h.0, given, h.1)
@@ -570,7 +637,8 @@ module _ {D : Type 0} (A : Type 0) (contents : D → Option (List ℕ)) (failed 
           dialect = b.dialect;
           limit = b.limit;
           read = subst (λ ts. HasRead (token_words d) first.0 tt [] (without_end ts)) (sym (ap (λ r. r.tokens) none)) b.read;
-          written = subst (λ ts. Appends (contents first.1.drain.now) (contents first.1.drain.now) (token_lines ts)) (sym (ap (λ r. r.tokens) none)) (Appends-nil (contents first.1.drain.now));
+          written = subst (λ ts. Appends (contents first.1.drain.now) (contents first.1.drain.now) (token_lines ts))
+              (sym (ap (λ r. r.tokens) none)) (Appends-nil (contents first.1.drain.now));
           none_waits = b.none_waits;
           same = record { form = refl; buffer = refl; drain = refl };
           live = b.live;
@@ -603,7 +671,8 @@ module _ {D : Type 0} (A : Type 0) (contents : D → Option (List ℕ)) (failed 
         )
 
     -- each other end is a failed source, or an error at the place where the tokens stop
-    pub run_stopped : (reported : StreamFault) → ReadStops Taken Stopped reported known left first now → ShowStops reported job known left old new (failed now.1.drain.now)
+    pub run_stopped : (reported : StreamFault) → ReadStops Taken Stopped reported known left first now →
+        ShowStops reported job known left old new (failed now.1.drain.now)
     run_stopped reported h =
         ⊎_elim (λ p. subst (λ t. ShowStops t job known left old new (failed now.1.drain.now)) (sym p.0) (broke p.1))
         (λ p. halts_stops reported job known left old new (failed now.1.drain.now) p.0 (p.1.0.halts job b)) h
@@ -611,7 +680,8 @@ module _ {D : Type 0} (A : Type 0) (contents : D → Option (List ℕ)) (failed 
     -- an error of a run is one that `show` may report
     pub run_refused : (reported : StreamFault) → ReadStops Taken Stopped reported known left first now → IsRefusal reported
     run_refused reported h =
-        ⊎_elim (λ p. subst IsRefusal (sym p.0) tt) (λ p. halts_of_document reported job p.0.bytes left.has_ended old new (failed now.1.drain.now) (p.1.0.halts job b)) h
+        ⊎_elim (λ p. subst IsRefusal (sym p.0) tt)
+        (λ p. halts_of_document reported job p.0.bytes left.has_ended old new (failed now.1.drain.now) (p.1.0.halts job b)) h
 
     -- what was written before a refusal was flushed
     pub run_sent : (reported : StreamFault) → ReadStops Taken Stopped reported known left first now → IsSentOn reported (flushed now.1.drain.now)

@@ -56,7 +56,8 @@ count_more : (a m n b c : ℕ) → counted_up m ≡ counted_up (a + b) → count
 count_more a m n b c h k = omega (arith, h, k)
 
 -- the lines of the quads of two lists
-pub lines_append : (job : Conversion) (qs rs : List Quad) → lines_of job.form (put_quads job (qs ++ rs)) ≡ lines_of job.form (put_quads job qs) ++ lines_of job.form (put_quads job rs)
+pub lines_append : (job : Conversion) (qs rs : List Quad) → lines_of job.form (put_quads job (qs ++ rs)) ≡ lines_of job.form
+    (put_quads job qs) ++ lines_of job.form (put_quads job rs)
 lines_append job qs rs =
     let put = in_graph job.graph in
     ap encode_utf8_all (ap (text_in job.form) (map-append put qs rs) ∙ flat_map-append (line_in job.form) (map put qs) (map put rs))
@@ -68,7 +69,8 @@ still [] = refl
 still (x ∷ xs) = refl
 
 -- lines are sifted, and then others
-pub sifts_append : (l : Language) (first : Bool) (xs ys kept more bad others : List (List ℕ)) (qs rs : List Quad) → Sifts l first xs kept bad qs → Sifts l (first_after first xs) ys more others rs →
+pub sifts_append : (l : Language) (first : Bool) (xs ys kept more bad others : List (List ℕ)) (qs rs : List Quad) →
+    Sifts l first xs kept bad qs → Sifts l (first_after first xs) ys more others rs →
     Sifts l first (xs ++ ys) (kept ++ more) (bad ++ others) (qs ++ rs)
 sifts_append l first [] ys kept more bad others qs rs s t =
     subst (λ k. Sifts l first ys (k ++ more) (bad ++ others) (qs ++ rs)) (sym s.0)
@@ -94,29 +96,39 @@ sifts_append l first (x ∷ xs) ys kept more bad others qs rs (inr s) t =
     })
 
 -- what is put aside of lines, and then of others
-pub aside_append : (l : Language) (first : Bool) (start : Place) (xs ys : List (List ℕ)) (t u : List ℕ) → IsAside l first start xs t → IsAside l (first_after first xs) (place_past start xs) ys u →
+pub aside_append : (l : Language) (first : Bool) (start : Place) (xs ys : List (List ℕ)) (t u : List ℕ) → IsAside l first start xs t →
+    IsAside l (first_after first xs) (place_past start xs) ys u →
     IsAside l first start (xs ++ ys) (t ++ u)
 aside_append l first start [] ys t u a b = subst (λ t. IsAside l first start ys (t ++ u)) (sym a) b
 aside_append l first start (x ∷ xs) ys t u (inl a) b =
-    inl (a.0, a.1, aside_append l false (place_after start x) xs ys t u a.2 (subst (λ f. IsAside l f (place_past (place_after start x) xs) ys u) (sym (still xs)) b))
+    inl (
+      a.0,
+      a.1,
+      aside_append l false (place_after start x) xs ys t u a.2
+          (subst (λ f. IsAside l f (place_past (place_after start x) xs) ys u) (sym (still xs)) b),
+    )
 aside_append l first start (x ∷ xs) ys t u (inr a) b =
     inr
     (record {
       fault = a.fault;
       is_bad = a.is_bad;
       text_after = a.text_after ++ u;
-      after = aside_append l false (place_after start x) xs ys a.text_after u a.after (subst (λ f. IsAside l f (place_past (place_after start x) xs) ys u) (sym (still xs)) b);
+      after = aside_append l false (place_after start x) xs ys a.text_after u a.after
+          (subst (λ f. IsAside l f (place_past (place_after start x) xs) ys u) (sym (still xs)) b);
       all = ap (λ t. t ++ u) a.all ∙ append_assoc (comment_text (fault_from start a.fault) ++ x) a.text_after u;
     })
 
 -- of good lines nothing is
-pub aside_good : (l : Language) (first : Bool) (start : Place) (xs kept bad : List (List ℕ)) (qs : List Quad) → bad ≡ [] → Sifts l first xs kept bad qs → IsAside l first start xs []
+pub aside_good : (l : Language) (first : Bool) (start : Place) (xs kept bad : List (List ℕ)) (qs : List Quad) → bad ≡ [] →
+    Sifts l first xs kept bad qs → IsAside l first start xs []
 aside_good l first start [] kept bad qs e s = refl
-aside_good l first start (x ∷ xs) kept bad qs e (inl s) = inl (s.quads, s.is_good, aside_good l false (place_after start x) xs s.kept_after bad s.quads_after e s.after)
+aside_good l first start (x ∷ xs) kept bad qs e (inl s) =
+    inl (s.quads, s.is_good, aside_good l false (place_after start x) xs s.kept_after bad s.quads_after e s.after)
 aside_good l first start (x ∷ xs) kept bad qs e (inr s) = absurd (let z = ap length (sym e ∙ s.lines) in omega (arith, z))
 
 -- of a bad one its fault and the line are
-aside_bad : (l : Language) (first : Bool) (start : Place) (line : List ℕ) (f : Fault) → IsBadFor l first line f → IsAside l first start (line ∷ []) (comment_text (fault_from start f) ++ line)
+aside_bad : (l : Language) (first : Bool) (start : Place) (line : List ℕ) (f : Fault) → IsBadFor l first line f →
+    IsAside l first start (line ∷ []) (comment_text (fault_from start f) ++ line)
 aside_bad l first start line f h =
     inr (record { fault = f; is_bad = h; text_after = []; after = refl; all = sym (append-nil (comment_text (fault_from start f) ++ line)) })
 
@@ -134,7 +146,8 @@ whole_front a b us p = (us, [], sym (append-nil us), p)
 
 -- a good line is sifted
 one_good : (l : Language) (first : Bool) (line : List ℕ) (qs : List Quad) → IsGoodLine l first line qs → Sifts l first (line ∷ []) (line ∷ []) [] qs
-one_good l first line qs g = inl (record { kept_after = []; quads = qs; quads_after = []; is_good = g; after = (refl, refl, refl); lines = refl; all = sym (append-nil qs) })
+one_good l first line qs g =
+    inl (record { kept_after = []; quads = qs; quads_after = []; is_good = g; after = (refl, refl, refl); lines = refl; all = sym (append-nil qs) })
 
 -- and so is a bad one
 one_bad : (l : Language) (first : Bool) (line : List ℕ) → IsBadLine l first line → Sifts l first (line ∷ []) [] (line ∷ []) []
@@ -163,9 +176,19 @@ counts_both old mid new q r b c h k = record {
 
 module _ {A D B : Type 0} (takes : drain.Ghosts D) (sets : drain.Ghosts B) where
   -- no line was sifted
-  pub sifted_none : (start : Place) (s : Sieve A) (d : D) (b : B) → takes.has_failed d ≡ false → sets.has_failed b ≡ false → HasSifted takes sets start s d b [] s d b
+  pub sifted_none : (start : Place) (s : Sieve A) (d : D) (b : B) → takes.has_failed d ≡ false → sets.has_failed b ≡ false →
+      HasSifted takes sets start s d b [] s d b
   sifted_none start s d b l m = record {
-    aside = record { kept = []; bad = []; quads = []; sifts = (refl, refl, refl); written = Appends-nil (takes.contents d); text = []; aside = refl; put_aside = Appends-nil (sets.contents b) };
+    aside = record {
+      kept = [];
+      bad = [];
+      quads = [];
+      sifts = (refl, refl, refl);
+      written = Appends-nil (takes.contents d);
+      text = [];
+      aside = refl;
+      put_aside = Appends-nil (sets.contents b);
+    };
     counts = record { quads_counted = omega arith; bad_counted = omega arith };
     first = refl;
     same = record { form = refl; limits = refl; output = refl };
@@ -174,7 +197,8 @@ module _ {A D B : Type 0} (takes : drain.Ghosts D) (sets : drain.Ghosts B) where
   }
 
   -- a good line was put
-  pub line_good : (start : Place) (old new : Sieve A) (d d' : D) (b : B) (line : List ℕ) → sets.has_failed b ≡ false → PutsGood takes old d line new d' → HasSifted takes sets start old d b (line ∷ []) new d' b
+  pub line_good : (start : Place) (old new : Sieve A) (d d' : D) (b : B) (line : List ℕ) → sets.has_failed b ≡ false →
+      PutsGood takes old d line new d' → HasSifted takes sets start old d b (line ∷ []) new d' b
   line_good start old new d d' b line m g = record {
     aside = record {
       kept = line ∷ [];
@@ -194,7 +218,8 @@ module _ {A D B : Type 0} (takes : drain.Ghosts D) (sets : drain.Ghosts B) where
   }
 
   -- good lines were put at once
-  pub block_good : (start : Place) (old new : Sieve A) (d d' : D) (b : B) (block : List ℕ) → 0 < length block → sets.has_failed b ≡ false → PutsGood takes old d block new d' → HasSifted takes sets start old d b (split_lines block) new d' b
+  pub block_good : (start : Place) (old new : Sieve A) (d d' : D) (b : B) (block : List ℕ) → 0 < length block → sets.has_failed b ≡ false →
+      PutsGood takes old d block new d' → HasSifted takes sets start old d b (split_lines block) new d' b
   block_good start old new d d' b [] n m g = absurd (omega (arith, n))
   block_good start old new d d' b (c ∷ w) n m g = record {
     aside = record {
@@ -216,12 +241,14 @@ module _ {A D B : Type 0} (takes : drain.Ghosts D) (sets : drain.Ghosts B) where
   }
 
   -- where there are no bytes, no line is sifted
-  pub empty_sifted : (start : Place) (old : Sieve A) (d : D) (b : B) (block : List ℕ) → length block ≡ 0 → takes.has_failed d ≡ false → sets.has_failed b ≡ false → HasSifted takes sets start old d b (split_lines block) old d b
+  pub empty_sifted : (start : Place) (old : Sieve A) (d : D) (b : B) (block : List ℕ) → length block ≡ 0 → takes.has_failed d ≡ false →
+      sets.has_failed b ≡ false → HasSifted takes sets start old d b (split_lines block) old d b
   empty_sifted start old d b [] e live bad = sifted_none start old d b live bad
   empty_sifted start old d b (c ∷ w) e live bad = absurd (let z : length (c ∷ w) ≡ 0 = e in omega arith)
 
   -- a bad line was put aside
-  pub line_bad : (start : Place) (f : Fault) (old mid new : Sieve A) (d d' : D) (b b' : B) (line : List ℕ) → takes.has_failed d ≡ false → PutsNone old d line f mid d' → PutsBad sets mid b (fault_from start f) line new b' →
+  pub line_bad : (start : Place) (f : Fault) (old mid new : Sieve A) (d d' : D) (b b' : B) (line : List ℕ) → takes.has_failed d ≡ false →
+      PutsNone old d line f mid d' → PutsBad sets mid b (fault_from start f) line new b' →
       HasSifted takes sets start old d b (line ∷ []) new d' b'
   line_bad start f old mid new d d' b b' line l none bad =
       let p : PutsBad sets old b (fault_from start f) line new b' = subst (λ s. PutsBad sets s b (fault_from start f) line new b') none.sieve bad in
@@ -245,7 +272,8 @@ module _ {A D B : Type 0} (takes : drain.Ghosts D) (sets : drain.Ghosts B) where
       })
 
   -- why a good line was not put
-  pub good_fails : (start : Place) (lines : List (List ℕ)) (f : StreamFault) (old new : Sieve A) (d d' : D) (b : B) (bytes : List ℕ) → takes.has_failed d ≡ false → sets.has_failed b ≡ false →
+  pub good_fails : (start : Place) (lines : List (List ℕ)) (f : StreamFault) (old new : Sieve A) (d d' : D) (b : B) (bytes : List ℕ) →
+      takes.has_failed d ≡ false → sets.has_failed b ≡ false →
       ((qs : List Quad) → IsGoodLine (job_of old).language old.is_first bytes qs → Sifts (job_of old).language old.is_first lines lines [] qs) →
       PutGoodFails takes f old d bytes new d' → SiftFails takes sets f start old d b lines new d' b
   good_fails start lines fault.Write old new d d' b bytes l m s h = (
@@ -253,30 +281,45 @@ module _ {A D B : Type 0} (takes : drain.Ghosts D) (sets : drain.Ghosts B) where
     lines,
     [],
     sym (append-nil lines),
-    record { kept = lines; bad = []; quads = h.1; sifts = s h.1 h.2; written = h.3; text = []; aside = aside_good (job_of old).language old.is_first start lines lines [] h.1 refl (s h.1 h.2); put_aside = no_front (sets.contents b) },
+    record {
+      kept = lines;
+      bad = [];
+      quads = h.1;
+      sifts = s h.1 h.2;
+      written = h.3;
+      text = [];
+      aside = aside_good
+          (job_of old).language old.is_first start lines lines [] h.1 refl (s h.1 h.2);
+      put_aside = no_front (sets.contents b);
+    },
   )
   good_fails start lines fault.Memory old new d d' b bytes l m s h = (
     [],
     lines,
     refl,
-    subst (λ x. HasSifted takes sets start old d b [] new x b) (sym h.1) (subst (λ x. HasSifted takes sets start old d b [] x d b) (sym h.0) (sifted_none start old d b l m)),
+    subst (λ x. HasSifted takes sets start old d b [] new x b) (sym h.1)
+        (subst (λ x. HasSifted takes sets start old d b [] x d b) (sym h.0) (sifted_none start old d b l m)),
   )
   good_fails start lines (fault.Refused f) old new d d' b bytes l m s h = absurd h
   good_fails start lines fault.Read old new d d' b bytes l m s h = absurd h
 
   -- a line
-  pub line_fails : (start : Place) (f : StreamFault) (old new : Sieve A) (d d' : D) (b : B) (line : List ℕ) → takes.has_failed d ≡ false → sets.has_failed b ≡ false →
+  pub line_fails : (start : Place) (f : StreamFault) (old new : Sieve A) (d d' : D) (b : B) (line : List ℕ) → takes.has_failed d ≡ false →
+      sets.has_failed b ≡ false →
       PutGoodFails takes f old d line new d' → SiftFails takes sets f start old d b (line ∷ []) new d' b
-  line_fails start f old new d d' b line l m h = good_fails start (line ∷ []) f old new d d' b line l m (λ qs g. one_good (job_of old).language old.is_first line qs g) h
+  line_fails start f old new d d' b line l m h =
+      good_fails start (line ∷ []) f old new d d' b line l m (λ qs g. one_good (job_of old).language old.is_first line qs g) h
 
   -- or a block
-  pub block_fails : (start : Place) (f : StreamFault) (old new : Sieve A) (d d' : D) (b : B) (block : List ℕ) → takes.has_failed d ≡ false → sets.has_failed b ≡ false →
+  pub block_fails : (start : Place) (f : StreamFault) (old new : Sieve A) (d d' : D) (b : B) (block : List ℕ) → takes.has_failed d ≡ false →
+      sets.has_failed b ≡ false →
       PutGoodFails takes f old d block new d' → SiftFails takes sets f start old d b (split_lines block) new d' b
   block_fails start f old new d d' b block l m h =
       good_fails start (split_lines block) f old new d d' b block l m (λ qs g. good_sifted old.form old.limits.token old.limits.iri old.is_first block qs g) h
 
   -- why a bad line was not put aside
-  pub bad_fails : (start : Place) (f : StreamFault) (why : Fault) (old mid new : Sieve A) (d d' : D) (b b' : B) (line : List ℕ) → takes.has_failed d ≡ false → sets.has_failed b ≡ false →
+  pub bad_fails : (start : Place) (f : StreamFault) (why : Fault) (old mid new : Sieve A) (d d' : D) (b b' : B) (line : List ℕ) →
+      takes.has_failed d ≡ false → sets.has_failed b ≡ false →
       PutsNone old d line why mid d' → PutBadFails sets f mid b (fault_from start why) line new b' → SiftFails takes sets f start old d b (line ∷ []) new d' b'
   bad_fails start fault.Write why old mid new d d' b b' line l m none h = (
     inr h.0,
@@ -299,25 +342,31 @@ module _ {A D B : Type 0} (takes : drain.Ghosts D) (sets : drain.Ghosts B) where
     line ∷ [],
     refl,
     subst (λ x. HasSifted takes sets start old d b [] new d' x) (sym h.1)
-        (subst (λ x. HasSifted takes sets start old d b [] new x b) (sym none.drain) (subst (λ x. HasSifted takes sets start old d b [] x d b) (sym (h.0 ∙ none.sieve)) (sifted_none start old d b l m))),
+        (subst (λ x. HasSifted takes sets start old d b [] new x b) (sym none.drain)
+        (subst (λ x. HasSifted takes sets start old d b [] x d b) (sym (h.0 ∙ none.sieve)) (sifted_none start old d b l m))),
   )
   bad_fails start (fault.Refused f) why old mid new d d' b b' line l m none h = absurd h
   bad_fails start fault.Read why old mid new d d' b b' line l m none h = absurd h
 
   -- what is sifted after other lines, by the job and from the place before them
-  moved : (old mid : Sieve A) (xs ys kept bad : List (List ℕ)) (qs : List Quad) → SameSieve old mid → mid.is_first ≡ first_after old.is_first xs → Sifts (job_of mid).language mid.is_first ys kept bad qs →
+  moved : (old mid : Sieve A) (xs ys kept bad : List (List ℕ)) (qs : List Quad) → SameSieve old mid →
+      mid.is_first ≡ first_after old.is_first xs → Sifts (job_of mid).language mid.is_first ys kept bad qs →
       Sifts (job_of old).language (first_after old.is_first xs) ys kept bad qs
   moved old mid xs ys kept bad qs s f h =
-      subst (λ x. Sifts (job_of old).language x ys kept bad qs) f (subst (λ (j : Conversion). Sifts j.language mid.is_first ys kept bad qs) (job_same old mid s) h)
+      subst (λ x. Sifts (job_of old).language x ys kept bad qs) f
+      (subst (λ (j : Conversion). Sifts j.language mid.is_first ys kept bad qs) (job_same old mid s) h)
 
   -- and what is put aside of them
-  moved_aside : (start : Place) (old mid : Sieve A) (xs ys : List (List ℕ)) (t : List ℕ) → SameSieve old mid → mid.is_first ≡ first_after old.is_first xs → IsAside (job_of mid).language mid.is_first (place_past start xs) ys t →
+  moved_aside : (start : Place) (old mid : Sieve A) (xs ys : List (List ℕ)) (t : List ℕ) → SameSieve old mid →
+      mid.is_first ≡ first_after old.is_first xs → IsAside (job_of mid).language mid.is_first (place_past start xs) ys t →
       IsAside (job_of old).language (first_after old.is_first xs) (place_past start xs) ys t
   moved_aside start old mid xs ys t s f h =
-      subst (λ x. IsAside (job_of old).language x (place_past start xs) ys t) f (subst (λ (j : Conversion). IsAside j.language mid.is_first (place_past start xs) ys t) (job_same old mid s) h)
+      subst (λ x. IsAside (job_of old).language x (place_past start xs) ys t) f
+      (subst (λ (j : Conversion). IsAside j.language mid.is_first (place_past start xs) ys t) (job_same old mid s) h)
 
   -- Lines were sifted, and then others.
-  pub sifted_then : (start : Place) (old mid new : Sieve A) (d dm d' : D) (b bm b' : B) (xs ys : List (List ℕ)) → HasSifted takes sets start old d b xs mid dm bm → HasSifted takes sets (place_past start xs) mid dm bm ys new d' b' →
+  pub sifted_then : (start : Place) (old mid new : Sieve A) (d dm d' : D) (b bm b' : B) (xs ys : List (List ℕ)) →
+      HasSifted takes sets start old d b xs mid dm bm → HasSifted takes sets (place_past start xs) mid dm bm ys new d' b' →
       HasSifted takes sets start old d b (xs ++ ys) new d' b'
   sifted_then start old mid new d dm d' b bm b' xs ys p q =
       let lines : lines_of (job_of mid).form (put_quads (job_of mid) q.aside.quads) ≡ lines_of (job_of old).form (put_quads (job_of old) q.aside.quads) =
@@ -327,12 +376,15 @@ module _ {A D B : Type 0} (takes : drain.Ghosts D) (sets : drain.Ghosts B) where
           kept = p.aside.kept ++ q.aside.kept;
           bad = p.aside.bad ++ q.aside.bad;
           quads = p.aside.quads ++ q.aside.quads;
-          sifts = sifts_append (job_of old).language old.is_first xs ys p.aside.kept q.aside.kept p.aside.bad q.aside.bad p.aside.quads q.aside.quads p.aside.sifts
+          sifts = sifts_append (job_of old).language old.is_first xs ys p.aside.kept q.aside.kept p.aside.bad q.aside.bad p.aside.quads
+              q.aside.quads p.aside.sifts
               (moved old mid xs ys q.aside.kept q.aside.bad q.aside.quads p.same p.first q.aside.sifts);
           written = subst (Appends (takes.contents d) (takes.contents d')) (sym (lines_append (job_of old) p.aside.quads q.aside.quads))
-              (Appends-trans (takes.contents d) (takes.contents dm) (takes.contents d') _ _ p.aside.written (subst (Appends (takes.contents dm) (takes.contents d')) lines q.aside.written));
+              (Appends-trans (takes.contents d) (takes.contents dm) (takes.contents d') _ _ p.aside.written
+              (subst (Appends (takes.contents dm) (takes.contents d')) lines q.aside.written));
           text = p.aside.text ++ q.aside.text;
-          aside = aside_append (job_of old).language old.is_first start xs ys p.aside.text q.aside.text p.aside.aside (moved_aside start old mid xs ys q.aside.text p.same p.first q.aside.aside);
+          aside = aside_append (job_of old).language old.is_first start xs ys p.aside.text q.aside.text p.aside.aside
+              (moved_aside start old mid xs ys q.aside.text p.same p.first q.aside.aside);
           put_aside = Appends-trans (sets.contents b) (sets.contents bm) (sets.contents b') p.aside.text q.aside.text p.aside.put_aside q.aside.put_aside;
         };
         counts = let c = counts_both old mid new _ _ _ _ p.counts q.counts in record {
@@ -350,7 +402,8 @@ module _ {A D B : Type 0} (takes : drain.Ghosts D) (sets : drain.Ghosts B) where
       first (x ∷ xs) ys e = e ∙ still ys
 
   -- Lines were sifted, and not all of others.
-  pub fails_then : (start : Place) (f : StreamFault) (old mid new : Sieve A) (d dm d' : D) (b bm b' : B) (xs ys : List (List ℕ)) → HasSifted takes sets start old d b xs mid dm bm → SiftFails takes sets f (place_past start xs) mid dm bm ys new d' b' →
+  pub fails_then : (start : Place) (f : StreamFault) (old mid new : Sieve A) (d dm d' : D) (b bm b' : B) (xs ys : List (List ℕ)) →
+      HasSifted takes sets start old d b xs mid dm bm → SiftFails takes sets f (place_past start xs) mid dm bm ys new d' b' →
       SiftFails takes sets f start old d b (xs ++ ys) new d' b'
   fails_then start fault.Write old mid new d dm d' b bm b' xs ys p (failed, ahead, later, split, q) =
       let lines : lines_of (job_of mid).form (put_quads (job_of mid) q.quads) ≡ lines_of (job_of old).form (put_quads (job_of old) q.quads) =
@@ -366,9 +419,11 @@ module _ {A D B : Type 0} (takes : drain.Ghosts D) (sets : drain.Ghosts B) where
           sifts = sifts_append (job_of old).language old.is_first xs ahead p.aside.kept q.kept p.aside.bad q.bad p.aside.quads q.quads p.aside.sifts
               (moved old mid xs ahead q.kept q.bad q.quads p.same p.first q.sifts);
           written = subst (AppendsFront (takes.contents d) (takes.contents d')) (sym (lines_append (job_of old) p.aside.quads q.quads))
-              (front_then (takes.contents d) (takes.contents dm) (takes.contents d') _ _ p.aside.written (subst (AppendsFront (takes.contents dm) (takes.contents d')) lines q.written));
+              (front_then (takes.contents d) (takes.contents dm) (takes.contents d') _ _ p.aside.written
+              (subst (AppendsFront (takes.contents dm) (takes.contents d')) lines q.written));
           text = p.aside.text ++ q.text;
-          aside = aside_append (job_of old).language old.is_first start xs ahead p.aside.text q.text p.aside.aside (moved_aside start old mid xs ahead q.text p.same p.first q.aside);
+          aside = aside_append (job_of old).language old.is_first start xs ahead p.aside.text q.text p.aside.aside
+              (moved_aside start old mid xs ahead q.text p.same p.first q.aside);
           put_aside = front_then (sets.contents b) (sets.contents bm) (sets.contents b') p.aside.text q.text p.aside.put_aside q.put_aside;
         },
       )
@@ -378,16 +433,20 @@ module _ {A D B : Type 0} (takes : drain.Ghosts D) (sets : drain.Ghosts B) where
   fails_then start fault.Read old mid new d dm d' b bm b' xs ys p h = absurd h
 
 -- What is refused is no good line.
-pub refused_bad : (job : Conversion) (form : LineForm) (limit iri : ℕ) → job.language ≡ in_lines form limit iri → (first : Bool) (bytes : List ℕ) (why : Reason) (at : Place) (old new : Option (List ℕ)) →
+pub refused_bad : (job : Conversion) (form : LineForm) (limit iri : ℕ) → job.language ≡ in_lines form limit iri →
+    (first : Bool) (bytes : List ℕ) (why : Reason) (at : Place) (old new : Option (List ℕ)) →
     RefusesDocument why job bytes true at old new → IsBadLine (in_lines form limit iri) first bytes
 refused_bad job form limit iri same first bytes DocumentTooLong at old new h qs g = let a = h.0.0 in let b = g.accepted.within.size in omega (arith, a, b)
 refused_bad job form limit iri same first bytes why at old new h qs g =
     refused_none form limit iri bytes qs why at (subst (λ (l : Language). Refused l bytes true why at) same (h.0, h.1)) g.accepted.document g.accepted.within
 
 -- and it is bad for that reason
-pub refused_for : (job : Conversion) (form : LineForm) (limit iri : ℕ) → job.language ≡ in_lines form limit iri → (first : Bool) (bytes : List ℕ) (f : Fault) (old new : Option (List ℕ)) → (first ≡ false → HasNoMark bytes) →
-    RefusesDocument f.reason job bytes true (place_of f) old new → IsBadFor (in_lines form limit iri) first bytes f × IsRefusedFor f.reason (in_lines form limit iri) bytes true (place_of f)
-refused_for job form limit iri same first bytes f old new n h = let r = subst (λ (l : Language). IsRefusedFor f.reason l bytes true (place_of f)) same (by f.reason h) in (inr (n, r), r)
+pub refused_for : (job : Conversion) (form : LineForm) (limit iri : ℕ) → job.language ≡ in_lines form limit iri →
+    (first : Bool) (bytes : List ℕ) (f : Fault) (old new : Option (List ℕ)) → (first ≡ false → HasNoMark bytes) →
+    RefusesDocument f.reason job bytes true (place_of f) old new → IsBadFor (in_lines form limit iri) first bytes f × IsRefusedFor f.reason
+    (in_lines form limit iri) bytes true (place_of f)
+refused_for job form limit iri same first bytes f old new n h = let r =
+    subst (λ (l : Language). IsRefusedFor f.reason l bytes true (place_of f)) same (by f.reason h) in (inr (n, r), r)
   where
     by : (r : Reason) → RefusesDocument r job bytes true (place_of f) old new → IsRefusedFor r job.language bytes true (place_of f)
     by DocumentTooLong h = (h.0, h.1)
@@ -402,7 +461,8 @@ refused_place l bytes why at h = by why h
     by why x = places.refused_place l bytes true why at x
 
 -- What is converted is a good line.
-pub converted_good : (form : LineForm) (limit iri : ℕ) (f : Form) (g : Option (List ℕ)) (first : Bool) (bytes old new : List ℕ) (s : Summary) → old ≡ [] → (first ≡ false → HasNoMark bytes) →
+pub converted_good : (form : LineForm) (limit iri : ℕ) (f : Form) (g : Option (List ℕ)) (first : Bool) (bytes old new : List ℕ)
+    (s : Summary) → old ≡ [] → (first ≡ false → HasNoMark bytes) →
     Accepts (record { language = in_lines form limit iri; form = f; graph = g }) bytes (Some old) (Some new) s →
     (quads : List Quad) × IsGoodLine (in_lines form limit iri) first bytes quads × (new ≡ lines_of f (all_in_graph g quads)) × (s.quads ≡ length quads)
 converted_good form limit iri f g first bytes old new s none mark a = (
@@ -432,7 +492,8 @@ unfolding encode
 mark_had bytes (rest, e) =
     let one : chars (encodes (0xFEFF ∷ [])) ≡ 0xFEFF ∷ [] = chars-encodes (0xFEFF ∷ []) refl in
     let utf8 : IsUtf8 (encodes (0xFEFF ∷ [])) = (0xFEFF ∷ [], (refl, refl)) in
-    ap (λ b. has_byte_order_mark (good b)) e ∙ (ap has_byte_order_mark (good_past (encodes (0xFEFF ∷ [])) rest utf8) ∙ ap (λ w. has_byte_order_mark (w ++ good rest)) one)
+    ap (λ b. has_byte_order_mark (good b)) e
+    ∙ (ap has_byte_order_mark (good_past (encodes (0xFEFF ∷ [])) rest utf8) ∙ ap (λ w. has_byte_order_mark (w ++ good rest)) one)
 
 -- a mark's bytes stand in front of bytes that have one
 pub mark_stands : (bytes : List ℕ) → has_byte_order_mark (good bytes) ≡ true → HasMarkBytes bytes
@@ -480,17 +541,22 @@ few_feeds (b ∷ w) = let h = few_feeds w in let e = feeds_cons b w in let c = o
     one false = omega arith
 
 -- lines are sifted in part, and others come after them
-pub fails_more : {A D B : Type 0} (takes : drain.Ghosts D) (sets : drain.Ghosts B) (start : Place) (f : StreamFault) (old new : Sieve A) (d d' : D) (b b' : B) (xs ys : List (List ℕ)) →
+pub fails_more : {A D B : Type 0} (takes : drain.Ghosts D) (sets : drain.Ghosts B) (start : Place) (f : StreamFault) (old new : Sieve A)
+    (d d' : D) (b b' : B) (xs ys : List (List ℕ)) →
     SiftFails takes sets f start old d b xs new d' b' → SiftFails takes sets f start old d b (xs ++ ys) new d' b'
-fails_more takes sets start fault.Write old new d d' b b' xs ys (failed, ahead, later, split, q) = (failed, ahead, later ++ ys, ap (λ z. z ++ ys) split ∙ append_assoc ahead later ys, q)
-fails_more takes sets start fault.Memory old new d d' b b' xs ys (ahead, later, split, q) = (ahead, later ++ ys, ap (λ z. z ++ ys) split ∙ append_assoc ahead later ys, q)
+fails_more takes sets start fault.Write old new d d' b b' xs ys (failed, ahead, later, split, q) =
+    (failed, ahead, later ++ ys, ap (λ z. z ++ ys) split ∙ append_assoc ahead later ys, q)
+fails_more takes sets start fault.Memory old new d d' b b' xs ys (ahead, later, split, q) =
+    (ahead, later ++ ys, ap (λ z. z ++ ys) split ∙ append_assoc ahead later ys, q)
 fails_more takes sets start (fault.Refused f) old new d d' b b' xs ys h = absurd h
 fails_more takes sets start fault.Read old new d d' b b' xs ys h = absurd h
 
 -- what a refusal tells of the bytes of a source
-pub refusal : (r : StreamFault) (f : Fault) → r ≡ fault.Refused f → (job : Conversion) (o : Option (List ℕ)) (left : Reading) (old new : Option (List ℕ)) (failed : Bool) → StopsFor r job o left old new failed →
+pub refusal : (r : StreamFault) (f : Fault) → r ≡ fault.Refused f → (job : Conversion) (o : Option (List ℕ)) (left : Reading)
+    (old new : Option (List ℕ)) (failed : Bool) → StopsFor r job o left old new failed →
     IfSome o (λ bytes. RefusesDocument f.reason job bytes true (place_of f) old new)
-refusal r f e job o left old new failed h = let x : StopsFor (fault.Refused f) job o left old new failed = subst (λ r. StopsFor r job o left old new failed) e h in x.1
+refusal r f e job o left old new failed h = let x : StopsFor (fault.Refused f) job o left old new failed =
+    subst (λ r. StopsFor r job o left old new failed) e h in x.1
 
 -- places are equal where their numbers are
 pub place_same : (p q : Place) → p.offset ≡ q.offset → p.line ≡ q.line → p ≡ q
@@ -527,7 +593,8 @@ fault_fits w f p =
     let t = length-take f.offset w in (n, omega (arith, l, k, t), omega (arith, l))
 
 -- the front of some bytes fits where they fit, and behind it the rest does
-pub room_left : (at : LineStart) (w : List ℕ) (n : ℕ) → HasRoom at w → HasRoom at (take n w) × ((next : LineStart) → start_of next ≡ place_after (start_of at) (take n w) → HasRoom next (drop n w))
+pub room_left : (at : LineStart) (w : List ℕ) (n : ℕ) → HasRoom at w →
+    HasRoom at (take n w) × ((next : LineStart) → start_of next ≡ place_after (start_of at) (take n w) → HasRoom next (drop n w))
 room_left at w n room =
     let few = room.few in
     let lines = room.lines in
@@ -537,5 +604,6 @@ room_left at w n room =
       record { few = omega (arith, few, t); lines = lines },
       λ next e.
           let o : next.offset ≡ at.offset + length (take n w) = ap (λ (p : Place). p.offset) e in
-          let l : next.line ≡ at.line + feeds (take n w) = ap (λ (p : Place). p.line) e in record { few = omega (arith, few, t, d, o); lines = omega (arith, lines, k, o, l) },
+          let l : next.line ≡ at.line + feeds (take n w) = ap (λ (p : Place). p.line) e in
+          record { few = omega (arith, few, t, d, o); lines = omega (arith, lines, k, o, l) },
     )

@@ -56,14 +56,16 @@ no_bytes (c ∷ w) e = absurd (let z : length (c ∷ w) ≡ 0 = e in omega arith
 -- without a line end there is no line feed
 no_feeds : (w : List ℕ) → AllByRecursion (λ b. is_line_end b ≡ false) w → feeds w ≡ 0
 no_feeds [] a = refl
-no_feeds (b ∷ w) a = let n = no_feeds w a.1 in let e : feeds (b ∷ w) ≡ 0 + feeds w = feeds_cons b w ∙ ap (λ t. cond t 1 0 + feeds w) (neither (b == 10) (b == 13) a.0) in omega (arith, n, e)
+no_feeds (b ∷ w) a = let n = no_feeds w a.1 in let e : feeds (b ∷ w) ≡ 0 + feeds w =
+    feeds_cons b w ∙ ap (λ t. cond t 1 0 + feeds w) (neither (b == 10) (b == 13) a.0) in omega (arith, n, e)
   where
     neither : (x y : Bool) → (x || y) ≡ false → x ≡ false
     neither true y e = e
     neither false y e = refl
 
 -- of two texts without a line end neither has one together
-no_ends : (u v : List ℕ) → AllByRecursion (λ b. is_line_end b ≡ false) u → AllByRecursion (λ b. is_line_end b ≡ false) v → AllByRecursion (λ b. is_line_end b ≡ false) (u ++ v)
+no_ends : (u v : List ℕ) → AllByRecursion (λ b. is_line_end b ≡ false) u → AllByRecursion (λ b. is_line_end b ≡ false) v →
+    AllByRecursion (λ b. is_line_end b ≡ false) (u ++ v)
 no_ends [] v a b = b
 no_ends (c ∷ u) v a b = (a.0, no_ends u v a.1 b)
 
@@ -75,7 +77,8 @@ take_past (c ∷ u) v n =
     ap (λ k. take k (c ∷ u ++ v)) e ∙ ap (λ w. c ∷ w) (take_past u v n)
 
 -- the place of a fault after as many bytes as a document has
-too_long : (bytes piece : List ℕ) (at : Place) (n line : ℕ) → n ≡ length bytes → line ≡ 1 + feeds bytes → length bytes ≤ most_bytes → most_bytes < n + length piece →
+too_long : (bytes piece : List ℕ) (at : Place) (n line : ℕ) → n ≡ length bytes → line ≡ 1 + feeds bytes → length bytes ≤ most_bytes →
+    most_bytes < n + length piece →
     at.offset ≡ most_bytes → at.line ≡ line + feeds (take (most_bytes - n) piece) → IsTooLong (bytes ++ piece) at
 too_long bytes piece at n line count lines few many offset place =
     let room = most_bytes - n in
@@ -84,11 +87,13 @@ too_long bytes piece at n line count lines few many offset place =
     let front : take most_bytes (bytes ++ piece) ≡ bytes ++ more = ap (λ k. take k (bytes ++ piece)) (sym fits) ∙ take_past bytes piece room in
     let size : length more ≡ room = let t = length-take room piece in omega (arith, t, count, few, many) in
     let a : at.offset ≡ length (bytes ++ more) = let l = length-append bytes more in omega (arith, offset, l, size, fits) in
-    let b : at.line ≡ 1 + count_by (λ b. b == 10) (bytes ++ more) = let l : feeds (bytes ++ more) ≡ feeds bytes + feeds more = feeds-append bytes more in omega (arith, place, lines, l) in
+    let b : at.line ≡ 1 + count_by (λ b. b == 10) (bytes ++ more) = let l : feeds (bytes ++ more) ≡ feeds bytes + feeds more =
+    feeds-append bytes more in omega (arith, place, lines, l) in
     (let l = length-append bytes piece in omega (arith, l, count, many), place_same at (end_of (bytes ++ more)) a b ∙ ap end_of (sym front))
 
 -- What was written for a document within the limits is what `convert` writes.
-converted : (form : LineForm) (limit iri : ℕ) (out : OutputView) → out.lines.style ≡ Kept → (bytes : List ℕ) (qs : List Quad) → IsDocumentWithin (in_lines form limit iri) bytes qs → (old new : Option (List ℕ)) →
+converted : (form : LineForm) (limit iri : ℕ) (out : OutputView) → out.lines.style ≡ Kept → (bytes : List ℕ) (qs : List Quad) →
+    IsDocumentWithin (in_lines form limit iri) bytes qs → (old new : Option (List ℕ)) →
     (let job : Conversion = record { language = in_lines form limit iri; form = (output_of out).form; graph = (output_of out).graph } in
     Appends old new (lines_of (output_of out).form (put_quads job qs)) → IsConverted job bytes old new)
 converted form limit iri out style bytes qs d old new written =
@@ -111,7 +116,8 @@ converted form limit iri out style bytes qs d old new written =
     )
 
 -- the lines of the block and of what comes after it
-block_split : (part front block more : List ℕ) → block ≡ part ++ front → IsEndedFront front → 0 < length front → split_lines (part ++ (front ++ more)) ≡ split_lines block ++ split_lines more
+block_split : (part front block more : List ℕ) → block ≡ part ++ front → IsEndedFront front → 0 < length front →
+    split_lines (part ++ (front ++ more)) ≡ split_lines block ++ split_lines more
 block_split part front block more e (inl n) l = absurd (let z = ap length n in omega (arith, z, l))
 block_split part front block more e (inr (w, c, s, t)) l =
     let same : (part ++ w) ++ c ∷ [] ≡ block = append_assoc part w (c ∷ []) ∙ (ap (λ x. part ++ x) (sym s) ∙ sym e) in
@@ -119,7 +125,8 @@ block_split part front block more e (inr (w, c, s, t)) l =
     ∙ (split_append (part ++ w) c more t ∙ ap (λ x. split_lines x ++ split_lines more) same)
 
 -- the lines of a part and of what comes after it are its line and the others
-line_split : (part front : List ℕ) (n : ℕ) → IsEndedFront (take n front) → 0 < length (take n front) → split_lines (part ++ front) ≡ split_lines (part ++ take n front) ++ split_lines (drop n front)
+line_split : (part front : List ℕ) (n : ℕ) → IsEndedFront (take n front) → 0 < length (take n front) →
+    split_lines (part ++ front) ≡ split_lines (part ++ take n front) ++ split_lines (drop n front)
 line_split part front n ended l =
     ap (λ w. split_lines (part ++ w)) (sym (take-append-drop n front)) ∙ block_split part (take n front) (part ++ take n front) (drop n front) refl ended l
 
@@ -137,12 +144,14 @@ room_behind at part front n room =
       record { few = omega (arith, few, t, a, c); lines = lines },
       λ next e.
           let o : next.offset ≡ at.offset + length (part ++ take n front) = ap (λ (p : Place). p.offset) e in
-          let l : next.line ≡ at.line + feeds (part ++ take n front) = ap (λ (p : Place). p.line) e in record { few = omega (arith, few, t, d, a, c, o); lines = omega (arith, lines, k, o, l) },
+          let l : next.line ≡ at.line + feeds (part ++ take n front) = ap (λ (p : Place). p.line) e in
+          record { few = omega (arith, few, t, d, a, c, o); lines = omega (arith, lines, k, o, l) },
     )
 
 module _ {A D B : Type 0} (takes : drain.Ghosts D) (sets : drain.Ghosts B) where
   -- nothing was read
-  pub skipping_start : (first : Held A × D × B) → Begins takes sets first → first.0.part.items ≡ [] → first.0.bytes ≡ 0 → first.0.line ≡ 1 → takes.has_failed first.1 ≡ false → sets.has_failed first.2 ≡ false → IsSkipping takes sets first [] first
+  pub skipping_start : (first : Held A × D × B) → Begins takes sets first → first.0.part.items ≡ [] → first.0.bytes ≡ 0 → first.0.line ≡ 1 →
+      takes.has_failed first.1 ≡ false → sets.has_failed first.2 ≡ false → IsSkipping takes sets first [] first
   skipping_start first b p n l live bad = record {
     begins = b;
     ahead = [];
@@ -156,7 +165,8 @@ module _ {A D B : Type 0} (takes : drain.Ghosts D) (sets : drain.Ghosts B) where
   }
 
   -- a piece that ends no line
-  pub front_none : (start : Place) (old : Held A) (d : D) (b : B) (front : List ℕ) → length front ≡ 0 → takes.has_failed d ≡ false → sets.has_failed b ≡ false → SiftsFront takes sets start old d b front old d b
+  pub front_none : (start : Place) (old : Held A) (d : D) (b : B) (front : List ℕ) → length front ≡ 0 → takes.has_failed d ≡ false →
+      sets.has_failed b ≡ false → SiftsFront takes sets start old d b front old d b
   front_none start old d b [] e live bad = record {
     lines = [];
     sifted = sifted_none takes sets start old.sieve d b live bad;
@@ -169,8 +179,10 @@ module _ {A D B : Type 0} (takes : drain.Ghosts D) (sets : drain.Ghosts B) where
   front_none start old d b (c ∷ w) e live bad = absurd (let z : length (c ∷ w) ≡ 0 = e in omega arith)
 
   -- a piece whose lines were sifted
-  pub front_sifted : (start : Place) (old new : Held A) (d d' : D) (b b' : B) (front block : List ℕ) → block ≡ old.part.items ++ front → IsEndedFront front → 0 < length front →
-      HasSifted takes sets start old.sieve d b (split_lines block) new.sieve d' b' → new.part.items ≡ [] → new.bytes ≡ old.bytes → new.line ≡ old.line → SiftsFront takes sets start old d b front new d' b'
+  pub front_sifted : (start : Place) (old new : Held A) (d d' : D) (b b' : B) (front block : List ℕ) → block ≡ old.part.items ++ front →
+      IsEndedFront front → 0 < length front →
+      HasSifted takes sets start old.sieve d b (split_lines block) new.sieve d' b' → new.part.items ≡ [] → new.bytes ≡ old.bytes →
+      new.line ≡ old.line → SiftsFront takes sets start old d b front new d' b'
   front_sifted start old new d d' b b' front block e ended l h p n k = record {
     lines = split_lines block;
     sifted = h;
@@ -182,7 +194,8 @@ module _ {A D B : Type 0} (takes : drain.Ghosts D) (sets : drain.Ghosts B) where
   }
 
   -- not all of them were
-  pub front_fails : (start : Place) (f : StreamFault) (old new : Held A) (d d' : D) (b b' : B) (front block : List ℕ) → block ≡ old.part.items ++ front → IsEndedFront front → 0 < length front →
+  pub front_fails : (start : Place) (f : StreamFault) (old new : Held A) (d d' : D) (b b' : B) (front block : List ℕ) →
+      block ≡ old.part.items ++ front → IsEndedFront front → 0 < length front →
       SiftFails takes sets f start old.sieve d b (split_lines block) new.sieve d' b' → SiftFrontFails takes sets f start old d b front new d' b'
   front_fails start f old new d d' b b' front block e ended l h = record {
     lines = split_lines block;
@@ -192,7 +205,8 @@ module _ {A D B : Type 0} (takes : drain.Ghosts D) (sets : drain.Ghosts B) where
 
   -- A piece that begins with a line: its lines were sifted where they stand.
   pub front_direct : (start : Place) (old new : Held A) (d d' : D) (b b' : B) (front : List ℕ) → old.part.items ≡ [] → IsEndedFront front →
-      HasSifted takes sets start old.sieve d b (split_lines front) new.sieve d' b' → new.part.items ≡ old.part.items → new.bytes ≡ old.bytes → new.line ≡ old.line → SiftsFront takes sets start old d b front new d' b'
+      HasSifted takes sets start old.sieve d b (split_lines front) new.sieve d' b' → new.part.items ≡ old.part.items →
+      new.bytes ≡ old.bytes → new.line ≡ old.line → SiftsFront takes sets start old d b front new d' b'
   front_direct start old new d d' b b' [] none ended h p n k = record {
     lines = [];
     sifted = h;
@@ -209,39 +223,49 @@ module _ {A D B : Type 0} (takes : drain.Ghosts D) (sets : drain.Ghosts B) where
   pub direct_fails : (start : Place) (f : StreamFault) (old new : Held A) (d d' : D) (b b' : B) (front : List ℕ) → old.part.items ≡ [] → IsEndedFront front →
       SiftFails takes sets f start old.sieve d b (split_lines front) new.sieve d' b' → SiftFrontFails takes sets f start old d b front new d' b'
   direct_fails start f old new d d' b b' [] none ended h = record { lines = []; split = λ more. (split_lines (old.part.items ++ more), refl); fails = h }
-  direct_fails start f old new d d' b b' (c ∷ w) none ended h = front_fails start f old new d d' b b' (c ∷ w) (c ∷ w) (ap (λ u. u ++ c ∷ w) (sym none)) ended (omega arith) h
+  direct_fails start f old new d d' b b' (c ∷ w) none ended h =
+      front_fails start f old new d d' b b' (c ∷ w) (c ∷ w) (ap (λ u. u ++ c ∷ w) (sym none)) ended (omega arith) h
 
   -- The line of which a part was held is not sifted.
-  pub line_stops : (start : Place) (f : StreamFault) (old new : Held A) (d d' : D) (b b' : B) (front : List ℕ) (n : ℕ) → IsEndedFront front → 0 < length front → IsEndedFront (take n front) → 0 < length (take n front) →
-      SiftFails takes sets f start old.sieve d b (split_lines (old.part.items ++ take n front)) new.sieve d' b' → SiftFrontFails takes sets f start old d b front new d' b'
+  pub line_stops : (start : Place) (f : StreamFault) (old new : Held A) (d d' : D) (b b' : B) (front : List ℕ) (n : ℕ) →
+      IsEndedFront front → 0 < length front → IsEndedFront (take n front) → 0 < length (take n front) →
+      SiftFails takes sets f start old.sieve d b (split_lines (old.part.items ++ take n front)) new.sieve d' b' →
+      SiftFrontFails takes sets f start old d b front new d' b'
   line_stops start f old new d d' b b' front n ended l line m h =
       front_fails start f old new d d' b b' front (old.part.items ++ front) refl ended l
       (subst (λ ls. SiftFails takes sets f start old.sieve d b ls new.sieve d' b') (sym (line_split old.part.items front n line m))
       (fails_more takes sets start f old.sieve new.sieve d d' b b' (split_lines (old.part.items ++ take n front)) (split_lines (drop n front)) h))
 
   -- It was sifted, and the others behind it.
-  module _ (start next : Place) (old mid new : Held A) (d dm d' : D) (b bm b' : B) (front : List ℕ) (n : ℕ) (ended : IsEndedFront front) (l : 0 < length front) (line : IsEndedFront (take n front)) (m : 0 < length (take n front))
-      (h : HasSifted takes sets start old.sieve d b (split_lines (old.part.items ++ take n front)) mid.sieve dm bm) (at : next ≡ place_after start (old.part.items ++ take n front)) where
+  module _ (start next : Place) (old mid new : Held A) (d dm d' : D) (b bm b' : B) (front : List ℕ) (n : ℕ) (ended : IsEndedFront front)
+      (l : 0 < length front) (line : IsEndedFront (take n front)) (m : 0 < length (take n front))
+      (h : HasSifted takes sets start old.sieve d b (split_lines (old.part.items ++ take n front)) mid.sieve dm bm)
+      (at : next ≡ place_after start (old.part.items ++ take n front)) where
     past : next ≡ place_past start (split_lines (old.part.items ++ take n front))
     past = at ∙ sym (past_lines start [] (old.part.items ++ take n front))
 
-    pub both_sifted : HasSifted takes sets next mid.sieve dm bm (split_lines (drop n front)) new.sieve d' b' → new.part.items ≡ [] → new.bytes ≡ old.bytes → new.line ≡ old.line → SiftsFront takes sets start old d b front new d' b'
+    pub both_sifted : HasSifted takes sets next mid.sieve dm bm (split_lines (drop n front)) new.sieve d' b' → new.part.items ≡ [] →
+        new.bytes ≡ old.bytes → new.line ≡ old.line → SiftsFront takes sets start old d b front new d' b'
     both_sifted k p c t =
         front_sifted start old new d d' b b' front (old.part.items ++ front) refl ended l
         (subst (λ ls. HasSifted takes sets start old.sieve d b ls new.sieve d' b') (sym (line_split old.part.items front n line m))
-        (sifted_then takes sets start old.sieve mid.sieve new.sieve d dm d' b bm b' (split_lines (old.part.items ++ take n front)) (split_lines (drop n front)) h
+        (sifted_then takes sets start old.sieve mid.sieve new.sieve d dm d' b bm b' (split_lines (old.part.items ++ take n front))
+        (split_lines (drop n front)) h
         (subst (λ (p : Place). HasSifted takes sets p mid.sieve dm bm (split_lines (drop n front)) new.sieve d' b') past k))) p c t
 
-    pub both_fails : (f : StreamFault) → SiftFails takes sets f next mid.sieve dm bm (split_lines (drop n front)) new.sieve d' b' → SiftFrontFails takes sets f start old d b front new d' b'
+    pub both_fails : (f : StreamFault) → SiftFails takes sets f next mid.sieve dm bm (split_lines (drop n front)) new.sieve d' b' →
+        SiftFrontFails takes sets f start old d b front new d' b'
     both_fails f k =
         front_fails start f old new d d' b b' front (old.part.items ++ front) refl ended l
         (subst (λ ls. SiftFails takes sets f start old.sieve d b ls new.sieve d' b') (sym (line_split old.part.items front n line m))
-        (fails_then takes sets start f old.sieve mid.sieve new.sieve d dm d' b bm b' (split_lines (old.part.items ++ take n front)) (split_lines (drop n front)) h
+        (fails_then takes sets start f old.sieve mid.sieve new.sieve d dm d' b bm b' (split_lines (old.part.items ++ take n front))
+        (split_lines (drop n front)) h
         (subst (λ (p : Place). SiftFails takes sets f p mid.sieve dm bm (split_lines (drop n front)) new.sieve d' b') past k)))
 
   module _ (first : Held A × D × B) (bytes : List ℕ) (old : Held A) (d : D) (b : B) (i : IsSkipping takes sets first bytes (old, d, b)) where
     -- what was sifted from the first line on
-    from_first : (lines : List (List ℕ)) (s t : Option (List ℕ)) (u v : Option (List ℕ)) → PutsAside Appends (job_of first.0.sieve) first.0.sieve.is_first first_place lines s t u v → PutsAside Appends (job_of first.0.sieve) true first_place lines s t u v
+    from_first : (lines : List (List ℕ)) (s t : Option (List ℕ)) (u v : Option (List ℕ)) → PutsAside Appends (job_of first.0.sieve)
+        first.0.sieve.is_first first_place lines s t u v → PutsAside Appends (job_of first.0.sieve) true first_place lines s t u v
     from_first lines s t u v h = subst (λ f. PutsAside Appends (job_of first.0.sieve) f first_place lines s t u v) i.begins.fresh h
 
     -- where not all lines of some bytes were sifted, the run halts
@@ -253,7 +277,8 @@ module _ {A D B : Type 0} (takes : drain.Ghosts D) (sets : drain.Ghosts B) where
         ahead = ahead;
         later = more ++ later;
         lines = s ∙ (ap (λ z. z ++ later) split ∙ append_assoc ahead more later);
-        aside = subst (λ f. PutsAside AppendsFront (job_of first.0.sieve) f first_place ahead (takes.contents first.1) (takes.contents d') (sets.contents first.2) (sets.contents b')) i.begins.fresh q;
+        aside = subst (λ f. PutsAside AppendsFront (job_of first.0.sieve) f first_place ahead (takes.contents first.1) (takes.contents d')
+            (sets.contents first.2) (sets.contents b')) i.begins.fresh q;
       },
     )
     halts_of fault.Memory all e lines later new d' b' s (ahead, more, split, h) = (
@@ -310,7 +335,8 @@ module _ {A D B : Type 0} (takes : drain.Ghosts D) (sets : drain.Ghosts B) where
       next = record old { bytes = old.bytes + length piece; line = old.line + feeds piece }
 
       -- too many bytes
-      pub count_halts : (f : StreamFault) (new : Held A) → RefusesPiece f old.bytes old.line piece → new ≡ old → SkipHalts takes sets f first (bytes ++ piece) false (new, d, b)
+      pub count_halts : (f : StreamFault) (new : Held A) → RefusesPiece f old.bytes old.line piece → new ≡ old →
+          SkipHalts takes sets f first (bytes ++ piece) false (new, d, b)
       count_halts (fault.Refused f) new (reason, many, offset, line) e = (
         i.sifted.live,
         i.sifted.bad_live,
@@ -338,32 +364,45 @@ module _ {A D B : Type 0} (takes : drain.Ghosts D) (sets : drain.Ghosts B) where
         lines_without = i.lines piece ∙ ap (λ w. i.ahead ++ split_lines (old.part.items ++ w)) whole
 
         -- a fault while the lines of a piece are sifted
-        pub front_halts : (f : StreamFault) (start : Place) (new : Held A) (d' : D) (b' : B) → start ≡ place_past first_place i.ahead → SiftFrontFails takes sets f start mid d b front new d' b' →
+        pub front_halts : (f : StreamFault) (start : Place) (new : Held A) (d' : D) (b' : B) → start ≡ place_past first_place i.ahead →
+            SiftFrontFails takes sets f start mid d b front new d' b' →
             SkipHalts takes sets f first (bytes ++ piece) false (new, d', b')
         front_halts f start new d' b' at h' =
-            let k : SiftFrontFails takes sets f start next d b front new d' b' = subst (λ m. SiftFrontFails takes sets f start m d b front new d' b') counted_on h' in
-            let h : SiftFrontFails takes sets f (place_past first_place i.ahead) next d b front new d' b' = subst (λ (p : Place). SiftFrontFails takes sets f p next d b front new d' b') at k in
+            let k : SiftFrontFails takes sets f start next d b front new d' b' =
+            subst (λ m. SiftFrontFails takes sets f start m d b front new d' b') counted_on h' in
+            let h : SiftFrontFails takes sets f (place_past first_place i.ahead) next d b front new d' b' =
+            subst (λ (p : Place). SiftFrontFails takes sets f p next d b front new d' b') at k in
             let s = h.split rest in
-            halts_of f (bytes ++ piece) false (i.ahead ++ h.lines) s.0 new d' b' (lines_without ∙ (ap (λ z. i.ahead ++ z) s.1 ∙ sym (append_assoc i.ahead h.lines s.0)))
+            halts_of f (bytes ++ piece) false (i.ahead ++ h.lines) s.0 new d' b'
+            (lines_without ∙ (ap (λ z. i.ahead ++ z) s.1 ∙ sym (append_assoc i.ahead h.lines s.0)))
             (fails_then takes sets first_place f first.0.sieve old.sieve new.sieve first.1 d d' first.2 b b' i.ahead h.lines i.sifted h.fails)
 
-        module _ (start : Place) (at : start ≡ place_past first_place i.ahead) (m : Held A) (d' : D) (b' : B) (s' : SiftsFront takes sets start mid d b front m d' b') where
+        module _ (start : Place) (at : start ≡ place_past first_place i.ahead) (m : Held A) (d' : D) (b' : B)
+            (s' : SiftsFront takes sets start mid d b front m d' b') where
           abbrev s : SiftsFront takes sets (place_past first_place i.ahead) next d b front m d' b'
-          s = subst (λ (p : Place). SiftsFront takes sets p next d b front m d' b') at (subst (λ k. SiftsFront takes sets start k d b front m d' b') counted_on s')
+          s = subst (λ (p : Place). SiftsFront takes sets p next d b front m d' b')
+              at (subst (λ k. SiftsFront takes sets start k d b front m d' b') counted_on s')
 
           all_sifted : HasSifted takes sets first_place first.0.sieve first.1 first.2 (i.ahead ++ s.lines) m.sieve d' b'
           all_sifted = sifted_then takes sets first_place first.0.sieve old.sieve m.sieve first.1 d d' first.2 b b' i.ahead s.lines i.sifted s.sifted
 
           -- want of memory after that
-          pub hold_halts : (f : StreamFault) (new : Held A) → f ≡ fault.Memory → new.sieve ≡ m.sieve → SkipHalts takes sets f first (bytes ++ piece) false (new, d', b')
+          pub hold_halts : (f : StreamFault) (new : Held A) → f ≡ fault.Memory → new.sieve ≡ m.sieve →
+              SkipHalts takes sets f first (bytes ++ piece) false (new, d', b')
           hold_halts f new e k =
               subst (λ f. SkipHalts takes sets f first (bytes ++ piece) false (new, d', b')) (sym e)
               (halts_of fault.Memory (bytes ++ piece) false (i.ahead ++ s.lines) (split_lines (m.part.items ++ rest)) new d' b'
-              (lines_without ∙ (ap (λ z. i.ahead ++ z) (s.split rest) ∙ sym (append_assoc i.ahead s.lines (split_lines (m.part.items ++ rest)))))
-              (i.ahead ++ s.lines, [], sym (append-nil (i.ahead ++ s.lines)), subst (λ x. HasSifted takes sets first_place first.0.sieve first.1 first.2 (i.ahead ++ s.lines) x d' b') (sym k) all_sifted))
+              (lines_without ∙ (ap (λ z. i.ahead ++ z) (s.split rest) ∙ sym (append_assoc i.ahead s.lines (split_lines (m.part.items ++ rest))))) (
+                i.ahead ++ s.lines,
+                [],
+                sym (append-nil (i.ahead ++ s.lines)),
+                subst
+                    (λ x. HasSifted takes sets first_place first.0.sieve first.1 first.2 (i.ahead ++ s.lines) x d' b') (sym k) all_sifted,
+              ))
 
           -- A piece was taken.
-          pub piece_taken : (tail : List ℕ) (new : Held A) → tail ≡ rest → AllByRecursion (λ b. is_line_end b ≡ false) rest → old.bytes + length piece ≤ most_bytes → Holds m tail new → IsSkipping takes sets first (bytes ++ piece) (new, d', b')
+          pub piece_taken : (tail : List ℕ) (new : Held A) → tail ≡ rest → AllByRecursion (λ b. is_line_end b ≡ false) rest →
+              old.bytes + length piece ≤ most_bytes → Holds m tail new → IsSkipping takes sets first (bytes ++ piece) (new, d', b')
           piece_taken tail new t n few h =
               let part : new.part.items ≡ m.part.items ++ rest = h.parts ∙ ap (λ w. m.part.items ++ w) t in
               record {
@@ -372,11 +411,14 @@ module _ {A D B : Type 0} (takes : drain.Ghosts D) (sets : drain.Ghosts B) where
                 whole = ap (λ w. w ++ piece) i.whole
                     ∙ (append_assoc (concat i.ahead) old.part.items piece
                     ∙ (ap (λ w. concat i.ahead ++ w)
-                    (ap (λ w. old.part.items ++ w) whole ∙ (sym (append_assoc old.part.items front rest) ∙ (ap (λ w. w ++ rest) s.whole ∙ (append_assoc (concat s.lines) m.part.items rest ∙ ap (λ w. concat s.lines ++ w) (sym part)))))
-                    ∙ (sym (append_assoc (concat i.ahead) (concat s.lines) new.part.items) ∙ ap (λ w. w ++ new.part.items) (sym (concat-append i.ahead s.lines)))));
+                    (ap (λ w. old.part.items ++ w) whole ∙ (sym (append_assoc old.part.items front rest) ∙ (ap (λ w. w ++ rest) s.whole
+                    ∙ (append_assoc (concat s.lines) m.part.items rest ∙ ap (λ w. concat s.lines ++ w) (sym part)))))
+                    ∙ (sym (append_assoc (concat i.ahead) (concat s.lines) new.part.items)
+                    ∙ ap (λ w. w ++ new.part.items) (sym (concat-append i.ahead s.lines)))));
                 lines = λ more.
                     lines_of_all more
-                    ∙ (ap (λ z. i.ahead ++ z) (s.split (rest ++ more) ∙ ap (λ w. s.lines ++ split_lines w) (sym (append_assoc m.part.items rest more) ∙ ap (λ w. w ++ more) (sym part)))
+                    ∙ (ap (λ z. i.ahead ++ z) (s.split (rest ++ more)
+                    ∙ ap (λ w. s.lines ++ split_lines w) (sym (append_assoc m.part.items rest more) ∙ ap (λ w. w ++ more) (sym part)))
                     ∙ sym (append_assoc i.ahead s.lines (split_lines (new.part.items ++ more))));
                 no_end = subst (AllByRecursion (λ b. is_line_end b ≡ false)) (sym part) (no_ends m.part.items rest (s.no_end i.no_end) n);
                 sifted = subst (λ x. HasSifted takes sets first_place first.0.sieve first.1 first.2 (i.ahead ++ s.lines) x d' b') (sym h.sieve) all_sifted;
@@ -394,7 +436,8 @@ module _ {A D B : Type 0} (takes : drain.Ghosts D) (sets : drain.Ghosts B) where
     all_lines = ap split_lines (sym (append-nil bytes)) ∙ (i.lines [] ∙ ap (λ w. i.ahead ++ split_lines w) (append-nil old.part.items))
 
     -- a fault at the last line
-    pub rest_halts : (f : StreamFault) (start : Place) (new : Held A) (d' : D) (b' : B) → start ≡ place_past first_place i.ahead → SiftFails takes sets f start old.sieve d b (split_lines old.part.items) new.sieve d' b' →
+    pub rest_halts : (f : StreamFault) (start : Place) (new : Held A) (d' : D) (b' : B) → start ≡ place_past first_place i.ahead →
+        SiftFails takes sets f start old.sieve d b (split_lines old.part.items) new.sieve d' b' →
         SkipHalts takes sets f first bytes true (new, d', b')
     rest_halts f start new d' b' at h' =
         let h : SiftFails takes sets f (place_past first_place i.ahead) old.sieve d b (split_lines old.part.items) new.sieve d' b' =
@@ -402,13 +445,15 @@ module _ {A D B : Type 0} (takes : drain.Ghosts D) (sets : drain.Ghosts B) where
         halts_of f bytes true (i.ahead ++ split_lines old.part.items) [] new d' b' (all_lines ∙ sym (append-nil (i.ahead ++ split_lines old.part.items)))
         (fails_then takes sets first_place f first.0.sieve old.sieve new.sieve first.1 d d' first.2 b b' i.ahead (split_lines old.part.items) i.sifted h)
 
-    module _ (start : Place) (at : start ≡ place_past first_place i.ahead) (new : Held A) (d' : D) (b' : B) (h : HasSifted takes sets start old.sieve d b (split_lines old.part.items) new.sieve d' b') where
+    module _ (start : Place) (at : start ≡ place_past first_place i.ahead) (new : Held A) (d' : D) (b' : B)
+        (h : HasSifted takes sets start old.sieve d b (split_lines old.part.items) new.sieve d' b') where
       every : HasSifted takes sets first_place first.0.sieve first.1 first.2 (i.ahead ++ split_lines old.part.items) new.sieve d' b'
       every = sifted_then takes sets first_place first.0.sieve old.sieve new.sieve first.1 d d' first.2 b b' i.ahead (split_lines old.part.items) i.sifted
           (subst (λ (p : Place). HasSifted takes sets p old.sieve d b (split_lines old.part.items) new.sieve d' b') at h)
 
       module _ (d2 : D) (b2 : B) (k : Keeps (takes.contents d') (takes.contents d2)) (l : Keeps (sets.contents b') (sets.contents b2)) where
-        written_all : Appends (takes.contents first.1) (takes.contents d2) (lines_of (job_of first.0.sieve).form (put_quads (job_of first.0.sieve) every.aside.quads))
+        written_all : Appends (takes.contents first.1) (takes.contents d2)
+            (lines_of (job_of first.0.sieve).form (put_quads (job_of first.0.sieve) every.aside.quads))
         written_all = Appends-kept (takes.contents first.1) (takes.contents d') (takes.contents d2) _ every.aside.written k
 
         aside_all : Appends (sets.contents first.2) (sets.contents b2) every.aside.text
@@ -422,7 +467,8 @@ module _ {A D B : Type 0} (takes : drain.Ghosts D) (sets : drain.Ghosts B) where
             ahead = i.ahead ++ split_lines old.part.items;
             later = [];
             lines = all_lines ∙ sym (append-nil (i.ahead ++ split_lines old.part.items));
-            aside = subst (λ f. PutsAside AppendsFront (job_of first.0.sieve) f first_place (i.ahead ++ split_lines old.part.items) (takes.contents first.1) (takes.contents d2) (sets.contents first.2) (sets.contents b2)) i.begins.fresh
+            aside = subst (λ f. PutsAside AppendsFront (job_of first.0.sieve) f first_place (i.ahead ++ split_lines old.part.items)
+                (takes.contents first.1) (takes.contents d2) (sets.contents first.2) (sets.contents b2)) i.begins.fresh
                 (record {
                   kept = every.aside.kept;
                   bad = every.aside.bad;
@@ -443,16 +489,30 @@ module _ {A D B : Type 0} (takes : drain.Ghosts D) (sets : drain.Ghosts B) where
             let s = first.0.sieve in
             let style : s.output.lines.style ≡ Kept = sym (ap (λ o. o.lines.style) i.sifted.same.output) ∙ styled in
             let sifts = subst (λ ls. Sifts (job_of s).language true ls every.aside.kept every.aside.bad every.aside.quads) (sym all_lines)
-            (subst (λ f. Sifts (job_of s).language f (i.ahead ++ split_lines old.part.items) every.aside.kept every.aside.bad every.aside.quads) i.begins.fresh every.aside.sifts) in
+            (subst (λ f. Sifts (job_of s).language f (i.ahead ++ split_lines old.part.items) every.aside.kept every.aside.bad
+            every.aside.quads) i.begins.fresh every.aside.sifts) in
             let aside = subst (λ ls. IsAside (job_of s).language true first_place ls every.aside.text) (sym all_lines)
-            (subst (λ f. IsAside (job_of s).language f first_place (i.ahead ++ split_lines old.part.items) every.aside.text) i.begins.fresh every.aside.aside) in
+            (subst (λ f. IsAside (job_of s).language f first_place (i.ahead ++ split_lines old.part.items) every.aside.text) i.begins.fresh
+            every.aside.aside) in
             let good = good_read s.form s.limits.token s.limits.iri bytes every.aside.kept every.aside.bad every.aside.quads i.few sifts in
             record {
               skips = record {
-                aside = record { kept = every.aside.kept; bad = every.aside.bad; quads = every.aside.quads; sifts = sifts; written = written_all; text = every.aside.text; aside = aside; put_aside = aside_all };
-                converted = converted s.form s.limits.token s.limits.iri s.output style (concat every.aside.kept) every.aside.quads good (takes.contents first.1) (takes.contents d2) written_all;
-                quads = every.counts.quads_counted ∙ (let z = i.begins.no_quads in let e : s.quads + length every.aside.quads ≡ length every.aside.quads = omega (arith, z) in ap counted_up e);
-                bad_lines = every.counts.bad_counted ∙ (let z = i.begins.no_bad_lines in let e : s.bad_lines + length every.aside.bad ≡ length every.aside.bad = omega (arith, z) in ap counted_up e);
+                aside = record {
+                  kept = every.aside.kept;
+                  bad = every.aside.bad;
+                  quads = every.aside.quads;
+                  sifts = sifts;
+                  written = written_all;
+                  text = every.aside.text;
+                  aside = aside;
+                  put_aside = aside_all;
+                };
+                converted = converted s.form s.limits.token s.limits.iri s.output style (concat every.aside.kept) every.aside.quads good
+                    (takes.contents first.1) (takes.contents d2) written_all;
+                quads = every.counts.quads_counted ∙ (let z = i.begins.no_quads in
+                    let e : s.quads + length every.aside.quads ≡ length every.aside.quads = omega (arith, z) in ap counted_up e);
+                bad_lines = every.counts.bad_counted ∙ (let z = i.begins.no_bad_lines in
+                    let e : s.bad_lines + length every.aside.bad ≡ length every.aside.bad = omega (arith, z) in ap counted_up e);
                 size = n ∙ i.count;
               };
               sent = sent;
@@ -460,10 +520,12 @@ module _ {A D B : Type 0} (takes : drain.Ghosts D) (sets : drain.Ghosts B) where
             }
 
   -- All bytes of the source were read.
-  pub skipped_all : (first now : Held A × D × B) (known : Option (List ℕ)) (left : Reading) (s : SkipSummary) → ReadsAll (SkipEnds takes sets) known left s first now →
+  pub skipped_all : (first now : Held A × D × B) (known : Option (List ℕ)) (left : Reading) (s : SkipSummary) →
+      ReadsAll (SkipEnds takes sets) known left s first now →
       SkipsAll (job_of first.0.sieve) known (takes.contents first.1) (takes.contents now.1) (sets.contents first.2) (sets.contents now.2) s
   skipped_all first now known left s a =
-      Consumes-whole known left.remaining a.bytes (λ bytes. Skips (job_of first.0.sieve) bytes (takes.contents first.1) (takes.contents now.1) (sets.contents first.2) (sets.contents now.2) s) a.consumed a.at_end a.is_end.skips
+      Consumes-whole known left.remaining a.bytes (λ bytes. Skips (job_of first.0.sieve) bytes (takes.contents first.1)
+      (takes.contents now.1) (sets.contents first.2) (sets.contents now.2) s) a.consumed a.at_end a.is_end.skips
 
   -- what had been sifted when the source failed
   ended_lines : (first : Held A × D × B) (bytes : List ℕ) (old : Held A) (d : D) (b : B) → IsSkipping takes sets first bytes (old, d, b) →
@@ -478,12 +540,15 @@ module _ {A D B : Type 0} (takes : drain.Ghosts D) (sets : drain.Ghosts B) where
   }
 
   -- Why the run stopped.
-  pub skip_stopped : (f : StreamFault) (first now : Held A × D × B) (known : Option (List ℕ)) (left : Reading) → ReadStops (IsSkipping takes sets) (SkipHalts takes sets) f known left first now →
-      SkipStops f (job_of first.0.sieve) known left (takes.contents first.1) (takes.contents now.1) (sets.contents first.2) (sets.contents now.2) (takes.has_failed now.1) (sets.has_failed now.2)
+  pub skip_stopped : (f : StreamFault) (first now : Held A × D × B) (known : Option (List ℕ)) (left : Reading) →
+      ReadStops (IsSkipping takes sets) (SkipHalts takes sets) f known left first now →
+      SkipStops f (job_of first.0.sieve) known left (takes.contents first.1) (takes.contents now.1) (sets.contents first.2)
+      (sets.contents now.2) (takes.has_failed now.1) (sets.has_failed now.2)
   skip_stopped f first now known left h = ⊎_elim (λ p. subst Stops (sym p.0) (broke p.1)) (λ p. halted f p.0 p.1) h
     where
       Stops : StreamFault → Type 0
-      Stops f = SkipStops f (job_of first.0.sieve) known left (takes.contents first.1) (takes.contents now.1) (sets.contents first.2) (sets.contents now.2) (takes.has_failed now.1) (sets.has_failed now.2)
+      Stops f = SkipStops f (job_of first.0.sieve) known left (takes.contents first.1) (takes.contents now.1) (sets.contents first.2)
+          (sets.contents now.2) (takes.has_failed now.1) (sets.has_failed now.2)
 
       broke : SourceFails (IsSkipping takes sets) known left first now → Stops fault.Read
       broke s = (
@@ -500,7 +565,8 @@ module _ {A D B : Type 0} (takes : drain.Ghosts D) (sets : drain.Ghosts B) where
       halted fault.Memory given (live, bad, some) = (live, bad, given, some)
 
 -- nothing was read
-pub none_skips : (job : Conversion) (left : Reading) (old old_bad : Option (List ℕ)) (failed bad_failed : Bool) → left.has_ended ≡ false → left.has_failed ≡ false → failed ≡ false → bad_failed ≡ false →
+pub none_skips : (job : Conversion) (left : Reading) (old old_bad : Option (List ℕ)) (failed bad_failed : Bool) → left.has_ended ≡ false →
+    left.has_failed ≡ false → failed ≡ false → bad_failed ≡ false →
     SkipStops fault.Memory job left.remaining left old old old_bad old_bad failed bad_failed
 none_skips job left old old_bad failed bad_failed o r f g = (
   f,
@@ -510,12 +576,22 @@ none_skips job left old old_bad failed bad_failed o r f g = (
     ahead = [];
     later = [];
     lines = refl;
-    aside = record { kept = []; bad = []; quads = []; sifts = (refl, refl, refl); written = Appends-nil old; text = []; aside = refl; put_aside = Appends-nil old_bad };
+    aside = record {
+      kept = [];
+      bad = [];
+      quads = [];
+      sifts = (refl, refl, refl);
+      written = Appends-nil old;
+      text = [];
+      aside = refl;
+      put_aside = Appends-nil old_bad;
+    };
   },
 )
 
 -- what holds of the conversion of a sieve holds of the job that it was made for
-pub by_job : {A : Type 0} (P : Conversion → Type 0) (job : JobRead) (form : LineForm) → kind_of job.form ≡ Line form → (s : Sieve A) → s.form ≡ form → s.limits ≡ job.limits → output_of s.output ≡ output Kept job →
+pub by_job : {A : Type 0} (P : Conversion → Type 0) (job : JobRead) (form : LineForm) → kind_of job.form ≡ Line form → (s : Sieve A) →
+    s.form ≡ form → s.limits ≡ job.limits → output_of s.output ≡ output Kept job →
     P (job_of s) → P (conversion_of job)
 by_job P job form k s f l o h =
     lines_job P job form k s.limits.iri (ap (λ m. m.iri) l) s.limits.token (ap (λ m. m.token) l) (output_of s.output) o

@@ -61,7 +61,8 @@ first_shown (t ∷ ts) (u ∷ us) rest e = by (λ firsts h. first_shown ts first
       lines = ap (λ l. shown t ++ l) h.lines ∙ l;
     }
 
-    by : ((firsts : List Token) → without_end ts ≡ firsts ++ rest → Shown ts firsts) → (b : Bool) → is_end t.kind ≡ b → cond b (without_end ts) (t ∷ without_end ts) ≡ u ∷ (us ++ rest) →
+    by : ((firsts : List Token) → without_end ts ≡ firsts ++ rest → Shown ts firsts) → (b : Bool) → is_end t.kind ≡ b →
+        cond b (without_end ts) (t ∷ without_end ts) ≡ u ∷ (us ++ rest) →
         Shown (t ∷ ts) (u ∷ us)
     by others true k h = more (u ∷ us) (others (u ∷ us) h) (ap (λ b. cond b [] (token_line t) ++ all_lines (u ∷ us)) k)
     by others false k h =
@@ -117,7 +118,8 @@ module _ {D A : Type 0} (contents : D → Option (List ℕ)) (failed : D → Boo
         whole = λ l. ([], t ∷ ts, refl, p.1.live l);
       }
 
-      more : ((n : LineOut D A) → Tries n ts b → TriedTokens n ts b) → (next : LineOut D A) × TakesToken contents failed a t next × Tries next ts b → TriedTokens a (t ∷ ts) b
+      more : ((n : LineOut D A) → Tries n ts b → TriedTokens n ts b) →
+          (next : LineOut D A) × TakesToken contents failed a t next × Tries next ts b → TriedTokens a (t ∷ ts) b
       more others p =
           let (next, x, tries) = p in
           let r = others next tries in
@@ -125,7 +127,8 @@ module _ {D A : Type 0} (contents : D → Option (List ℕ)) (failed : D → Boo
             same = same_out a next b x.same r.same;
             rest = r.rest;
             moves = subst (λ l. Moves (contents a.drain.now) (contents b.drain.now) l r.rest) (append_assoc a.buffer.now (token_line t) (all_lines ts))
-                (moves_on (contents a.drain.now) (contents next.drain.now) (contents b.drain.now) (a.buffer.now ++ token_line t) (all_lines ts) next.buffer.now r.rest x.writes r.moves);
+                (moves_on (contents a.drain.now) (contents next.drain.now) (contents b.drain.now) (a.buffer.now ++ token_line t)
+                (all_lines ts) next.buffer.now r.rest x.writes r.moves);
             whole = λ l.
                 let (done, later, split, writes) = r.whole l in
                 (t ∷ done, later, ap (λ us. t ∷ us) split, writes_on contents failed a next b (token_line t) (all_lines done) x.writes writes);

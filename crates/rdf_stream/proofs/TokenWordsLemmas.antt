@@ -35,10 +35,12 @@ due_below n (t ∷ ts) more =
 
 -- so all tokens that were read are due at once, and none waits for the next
 due_all : (ts more : List Token) → items_below (length ts) (marked_from 0 (ts ++ more)) ≡ without_end ts
-due_all ts more = let n : 0 + length ts ≡ length ts = omega arith in subst (λ k. items_below k (marked_from 0 (ts ++ more)) ≡ without_end ts) n (due_below 0 ts more)
+due_all ts more = let n : 0 + length ts ≡ length ts = omega arith in
+    subst (λ k. items_below k (marked_from 0 (ts ++ more)) ≡ without_end ts) n (due_below 0 ts more)
 
 -- without their marks they are the tokens
-unmarked_step : (b : Bool) (n : ℕ) (t : Token) (rest : List (MarkedItem Token)) (ts : List Token) → unmarked rest ≡ ts → unmarked (cond b rest (record { item = t; mark = n } ∷ rest)) ≡ cond b ts (t ∷ ts)
+unmarked_step : (b : Bool) (n : ℕ) (t : Token) (rest : List (MarkedItem Token)) (ts : List Token) → unmarked rest ≡ ts →
+    unmarked (cond b rest (record { item = t; mark = n } ∷ rest)) ≡ cond b ts (t ∷ ts)
 unmarked_step true n t rest ts e = e
 unmarked_step false n t rest ts e = ap (λ us. t ∷ us) e
 
@@ -94,7 +96,8 @@ module _ {S : Type 0} (takes leaves : S → Token → S → Type 0) (d : Dialect
     count = refl;
     puts = refl;
     limit = refl;
-    reached = λ x ts qs h. append-nil qs ∙ (h ∙ sym (without-append ts (t ∷ []) ∙ (ap (λ us. without_end ts ++ us) (cond-true (is_end t.kind) _ _ e) ∙ append-nil (without_end ts))));
+    reached = λ x ts qs h. append-nil qs
+        ∙ (h ∙ sym (without-append ts (t ∷ []) ∙ (ap (λ us. without_end ts ++ us) (cond-true (is_end t.kind) _ _ e) ∙ append-nil (without_end ts))));
   }
 
   -- another token brings itself

@@ -69,7 +69,8 @@ column_few n (b ∷ w) =
     step false false = omega arith
 
 -- what holds of the bytes from a place on holds of them as a list of their own
-pub rest_plain : (w : List ℕ) (n : ℕ) → ((k : ℕ) → n ≤ k → k < length w → is_feed (slice_index w k) ≡ false) → (k : ℕ) → k < length (drop n w) → is_feed (slice_index (drop n w) k) ≡ false
+pub rest_plain : (w : List ℕ) (n : ℕ) → ((k : ℕ) → n ≤ k → k < length w → is_feed (slice_index w k) ≡ false) → (k : ℕ) →
+    k < length (drop n w) → is_feed (slice_index (drop n w) k) ≡ false
 rest_plain w zero h k s = h k (omega arith) s
 rest_plain [] (suc n) h k s = absurd (let z : k < 0 = s in omega arith)
 rest_plain (b ∷ w) (suc n) h k s =
@@ -82,7 +83,8 @@ line_of_last gone front at s e h =
     line_append [] gone front ∙ (line_feed (line_after [] gone) front at s e ∙ line_plain [] (drop (at + 1) front) (rest_plain front (at + 1) h))
 
 -- and where they have none
-pub line_of_all : (gone front : List ℕ) → ((k : ℕ) → k < length front → is_feed (slice_index front k) ≡ false) → line_after [] (gone ++ front) ≡ line_after [] gone ++ front
+pub line_of_all : (gone front : List ℕ) → ((k : ℕ) → k < length front → is_feed (slice_index front k) ≡ false) →
+    line_after [] (gone ++ front) ≡ line_after [] gone ++ front
 line_of_all gone front h = line_append [] gone front ∙ line_plain (line_after [] gone) front h
 
 -- the first bytes of two lists, that are more than the first has, and the bytes behind them
@@ -106,11 +108,13 @@ module _ (kept : Kept) (bytes : List ℕ) (w : Watches kept bytes) (offset at : 
   rest_kept = ap (drop offset) w.whole ∙ (ap (λ n. drop n (w.gone ++ kept.bytes)) past ∙ drop_past w.gone kept.bytes at)
 
   pub column_kept : column_after kept.column (take at kept.bytes) ≡ column_after 1 (take offset bytes)
-  column_kept = ap (λ n. column_after n (take at kept.bytes)) w.column ∙ (sym (column_append 1 w.gone (take at kept.bytes)) ∙ ap (column_after 1) (sym front_kept))
+  column_kept = ap (λ n. column_after n (take at kept.bytes)) w.column
+      ∙ (sym (column_append 1 w.gone (take at kept.bytes)) ∙ ap (column_after 1) (sym front_kept))
 
 -- the last bytes are those of the part that has enough
 pub last_part : (u w : List ℕ) → reach ≤ length w → last_of reach (u ++ w) ≡ last_of reach w
-last_part u w s = let e : length (u ++ w) - reach ≡ length u + (length w - reach) = omega (arith, length-append u w, s) in ap (λ m. drop m (u ++ w)) e ∙ drop_past u w (length w - reach)
+last_part u w s = let e : length (u ++ w) - reach ≡ length u + (length w - reach) = omega (arith, length-append u w, s) in
+    ap (λ m. drop m (u ++ w)) e ∙ drop_past u w (length w - reach)
 
 -- the bytes behind the first are moved to the front
 pub moved_front : (w : List ℕ) (n : ℕ) → n ≤ length w → take (length w - n) (copy_within w n (length w) 0) ≡ drop n w
@@ -122,7 +126,8 @@ moved_front w n l =
 
 -- what is told of a bracket holds of the innermost that is open
 pub told_open : (d : Dialect) (limit : ℕ) (bytes : List ℕ) (is_end : Bool) (offset : ℕ) (bracket : Option TokenPlace) (told : Option Opened) →
-    IfSome bracket (IsOpenBefore (tokens_of d limit bytes is_end) offset) → IsToldOf bytes bracket told → IfSome told (IsOpenBracket d limit bytes is_end offset)
+    IfSome bracket (IsOpenBefore (tokens_of d limit bytes is_end) offset) → IsToldOf bytes bracket told →
+    IfSome told (IsOpenBracket d limit bytes is_end offset)
 told_open d limit bytes is_end offset None told h t = subst (λ o. IfSome o (IsOpenBracket d limit bytes is_end offset)) (sym t) tt
 told_open d limit bytes is_end offset (Some place) None h t = tt
 told_open d limit bytes is_end offset (Some place) (Some told) h t = record { place = place; before = h; tells = t }
@@ -143,14 +148,16 @@ hands_out (Told o) Asked Asked told tells a b h = tt
 hands_out (Told o) Asked (Told n) told tells a b h = subst (λ t. IfSome t tells) b h
 
 -- what is told of the place of a fault is told by the bytes that the source gave
-pub tells_given : (words : Words) (f : StreamFault) (near : NearRead) (known : Option (List ℕ)) (left : Reading) (given : HasGiven known left) (e : Bool) → left.has_ended ≡ e →
+pub tells_given : (words : Words) (f : StreamFault) (near : NearRead) (known : Option (List ℕ)) (left : Reading)
+    (given : HasGiven known left) (e : Bool) → left.has_ended ≡ e →
     IsNearFault words f given.bytes e near → TellsNear words.dialect words.limit (Err f) known left near
 tells_given words (Refused f) near known left given e same h = (given, subst (λ x. IsNear words.dialect words.limit given.bytes x f.offset near) (sym same) h)
 tells_given words Read near known left given e same h = absurd h
 tells_given words Write near known left given e same h = absurd h
 tells_given words Memory near known left given e same h = absurd h
 
-module _ {A : Type 0} (known : Option (List ℕ)) (left left' : Reading) (watching : Watching A) (i : Follows known left watching) (live : left'.has_failed ≡ false) where
+module _ {A : Type 0} (known : Option (List ℕ)) (left left' : Reading) (watching : Watching A) (i : Follows known left watching)
+    (live : left'.has_failed ≡ false) where
   -- a piece more
   pub follows_more : (piece : List ℕ) → Consumes left.remaining left'.remaining piece → (new : Watching A) →
       ((bytes : List ℕ) → WatchesAll watching bytes → WatchesAll new (bytes ++ piece)) → new.near ≡ watching.near → Follows known left' new
@@ -175,7 +182,8 @@ module _ {A : Type 0} (known : Option (List ℕ)) (left left' : Reading) (watchi
       }) false more (h i.bytes i.kept)
 
   -- a fault at the end
-  pub tells_at_end : Consumes left.remaining left'.remaining [] → IsAtEnd left'.remaining → left'.has_ended ≡ true → (f : StreamFault) (near : Option NearRead) →
+  pub tells_at_end : Consumes left.remaining left'.remaining [] → IsAtEnd left'.remaining → left'.has_ended ≡ true →
+      (f : StreamFault) (near : Option NearRead) →
       ((bytes : List ℕ) → WatchesAll watching bytes → IfSome near (λ n. IsNearFault watching.words f (bytes ++ []) true n)) →
       IfSome near (TellsNear watching.words.dialect watching.words.limit (Err f) known left')
   tells_at_end c at_end ended f None h = tt

@@ -41,4 +41,5 @@ last_char bytes v c k u e = sym (encodes-chars bytes u) ∙ (ap encode_utf8_all 
 -- a character has at most four bytes
 pub few_bytes : (w : List ℕ) → length (encode_utf8_all w) ≤ 4 * length w
 few_bytes [] = omega arith
-few_bytes (c ∷ w) = let a = len_utf8_bounds c in let r = few_bytes w in omega (arith, length-append (encode_utf8 c) (encode_utf8_all w), length-encode c, a.1, r)
+few_bytes (c ∷ w) = let a = len_utf8_bounds c in let r = few_bytes w in
+    omega (arith, length-append (encode_utf8 c) (encode_utf8_all w), length-encode c, a.1, r)

@@ -106,7 +106,8 @@ in-sound xs digit c e h =
 in-sound xs k c e h = absurd (false≢true e)
 
 -- a repetition meets a set of characters only where a part does
-none-met-parts : (xs : List ℕ) (P : List ℕ → Type 0) → ((u : List ℕ) → P u → meets xs u ≡ false) → (ps : List (List ℕ)) → AllByRecursion P ps → meets xs (concat ps) ≡ false
+none-met-parts : (xs : List ℕ) (P : List ℕ → Type 0) → ((u : List ℕ) → P u → meets xs u ≡ false) → (ps : List (List ℕ)) →
+    AllByRecursion P ps → meets xs (concat ps) ≡ false
 none-met-parts xs P h [] a = refl
 none-met-parts xs P h (p ∷ ps) a = meets-append xs p (concat ps) ∙ (ap (λ b. b || meets xs (concat ps)) (h p a.0) ∙ none-met-parts xs P h ps a.1)
 

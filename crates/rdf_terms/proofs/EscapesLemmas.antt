@@ -135,7 +135,16 @@ none_of c k h l = ne_eqb c k (λ e. omega (arith, e))
 letter_high : (c : ℕ) → 128 ≤ c → letter_move c ≡ fails
 letter_high c h =
     let n : (k : ℕ) → k < 128 → (c == k) ≡ false = λ k l. none_of c k h l in
-    rw (n 116 (omega arith), n 98 (omega arith), n 110 (omega arith), n 114 (omega arith), n 102 (omega arith), n 34 (omega arith), n 39 (omega arith), n 92 (omega arith)) refl
+    rw (
+      n 116 (omega arith),
+      n 98 (omega arith),
+      n 110 (omega arith),
+      n 114 (omega arith),
+      n 102 (omega arith),
+      n 34 (omega arith),
+      n 39 (omega arith),
+      n 92 (omega arith),
+    ) refl
 
 -- nor is it one of ECHAR where an IRI stands
 echar_high : (i : Inside) (c : ℕ) → 128 ≤ c → echar_move i c ≡ fails
@@ -202,7 +211,8 @@ step_digit i zero n bs at p u l h = absurd (omega arith)
 step_digit i (suc k) n bs at p u l h =
     let b = get_or bs at 0 in
     let e : suc k - 1 ≡ k = omega arith in
-    step_low i (digits (suc k) n) (digit_move i k (16 * n + hex_value b)) bs at l u (hex_low b h) (cond-true (has hex_digit b) (digit_move i k (16 * n + hex_value b)) fails h)
+    step_low i (digits (suc k) n) (digit_move i k (16 * n + hex_value b)) bs at l u (hex_low b h)
+    (cond-true (has hex_digit b) (digit_move i k (16 * n + hex_value b)) fails h)
     ∙ ap (λ j. value_after i (digit_move i j (16 * n + hex_value b)) bs (at + 1)) (sym e)
 
 -- and what follows it is UTF-8
@@ -210,7 +220,8 @@ pub utf8_digit : (bs : List ℕ) (at : ℕ) → at < length bs → IsUtf8 (drop 
 utf8_digit bs at l u h = utf8_low bs at l u (hex_low (get_or bs at 0) h)
 
 -- where a digit is to come and none does
-pub no_digit : (i : Inside) (left n : ℕ) (bs : List ℕ) (at : ℕ) → 0 < left → IsUtf8 (drop at bs) → ((at < length bs) × (has hex_digit (get_or bs at 0) ≡ true) → ⊥) →
+pub no_digit : (i : Inside) (left n : ℕ) (bs : List ℕ) (at : ℕ) → 0 < left → IsUtf8 (drop at bs) →
+    ((at < length bs) × (has hex_digit (get_or bs at 0) ≡ true) → ⊥) →
     value_after i (digit_move i left n) bs at ≡ None
 no_digit i zero n bs at p u f = absurd (omega arith)
 no_digit i (suc k) n bs at p u f =
@@ -222,7 +233,8 @@ no_digit i (suc k) n bs at p u f =
     other : at < length bs → has hex_digit (get_or bs at 0) ≡ false → value_after i (leads (digits (suc k) n)) bs at ≡ None
     other l h =
         ⊎_elim
-        (λ (a : get_or bs at 0 < 128). step_low i (digits (suc k) n) fails bs at l u a (cond-false (has hex_digit (get_or bs at 0)) (digit_move i k (16 * n + hex_value (get_or bs at 0))) fails h))
+        (λ (a : get_or bs at 0 < 128). step_low i (digits (suc k) n) fails bs at l u a
+        (cond-false (has hex_digit (get_or bs at 0)) (digit_move i k (16 * n + hex_value (get_or bs at 0))) fails h))
         (λ a. step_high i (digits (suc k) n) bs at l u a (λ c x. cond-false (has hex_digit c) (digit_move i k (16 * n + hex_value c)) fails (hex_none c x)))
         (cases_lt (get_or bs at 0) 128)
 
@@ -251,7 +263,8 @@ pub with_front-push : (out grown : List ℕ) (c : ℕ) (o : Option (List ℕ)) �
 with_front-push out grown c None u h e = refl
 with_front-push out grown c (Some w) u h e =
     let one : chars (encode_utf8 c) ≡ c ∷ [] = chars-encode c h in
-    ap Some (sym (ap (λ x. chars x ++ w) e ∙ ap (λ x. x ++ w) (chars-append out (encode_utf8 c) u ∙ ap (λ x. chars out ++ x) one) ∙ append_assoc (chars out) (c ∷ []) w))
+    ap Some (sym (ap (λ x. chars x ++ w) e ∙ ap (λ x. x ++ w) (chars-append out (encode_utf8 c) u ∙ ap (λ x. chars out ++ x) one)
+    ∙ append_assoc (chars out) (c ∷ []) w))
 
 -- Runs between escapes.
 -- a character that stands as it is means itself
@@ -283,7 +296,8 @@ pub slice_passes : (p : ℕ → Bool) (bs : List ℕ) (at n : ℕ) → at + n �
 slice_passes p bs at zero l h = refl
 slice_passes p bs at (suc n) l h =
     ap (λ x. all_have p (take (suc n) x)) (drop_more bs at 0 (omega arith))
-    ∙ and_from (p (get_or bs at 0)) _ (h at (omega arith) (omega arith)) (slice_passes p bs (at + 1) n (omega arith) (λ k from to. h k (omega arith) (omega arith)))
+    ∙ and_from (p (get_or bs at 0)) _ (h at (omega arith) (omega arith))
+    (slice_passes p bs (at + 1) n (omega arith) (λ k from to. h k (omega arith) (omega arith)))
 
 -- as the bytes of a run do, which a look at the whole text needs
 run_passes : (p : ℕ → Bool) (bs : List ℕ) (at end : ℕ) → IsRun p bs at end → all_have p (slice_range bs at end) ≡ true
@@ -294,7 +308,8 @@ run_passes p bs at end r =
 unescaped_one : (c : ℕ) → all_have is_unescaped (encode_utf8 c) ≡ true → is_unescaped c ≡ true
 unescaped_one c h =
     ⊎_elim
-    (λ e. absurd (false≢true (sym (ap (all_have is_unescaped) (encode_ascii 92 (omega arith))) ∙ subst (λ x. all_have is_unescaped (encode_utf8 x) ≡ true) (eqb-true c 92 e) h)))
+    (λ e. absurd (false≢true (sym (ap (all_have is_unescaped) (encode_ascii 92 (omega arith)))
+    ∙ subst (λ x. all_have is_unescaped (encode_utf8 x) ≡ true) (eqb-true c 92 e) h)))
     (λ e. not_from_false (c == 92) e)
     (cases_Bool (c == 92))
 
@@ -318,7 +333,8 @@ plain_value (c ∷ w) h some =
     let step : move of_iri outside c ≡ allowed of_iri c = cond-false (c == 92) (leads slash) (allowed of_iri c) (not-true (c == 92) p.0) in
     let rest : EscapeState → Option (List ℕ) = λ t. value of_iri t w in
     ⊎_elim
-    (λ e. let one : value of_iri outside (c ∷ w) ≡ option_map (λ v. c ∷ v) (value of_iri outside w) = ap (λ m. go m rest) (step ∙ cond-true (has iri_char c) (means c) fails e) in
+    (λ e. let one : value of_iri outside (c ∷ w) ≡ option_map (λ v. c ∷ v) (value of_iri outside w) = ap (λ m. go m rest)
+    (step ∙ cond-true (has iri_char c) (means c) fails e) in
     one ∙ ap (option_map (λ v. c ∷ v)) (plain_value w p.1 (λ none. some (one ∙ ap (option_map (λ v. c ∷ v)) none))))
     (λ e. absurd (some (ap (λ m. go m rest) (step ∙ cond-false (has iri_char c) (means c) fails e))))
     (cases_Bool (has iri_char c))

@@ -58,7 +58,8 @@ same_move-eq (leads s) n e = absurd (false≢true e)
 pub table_letter : (b : ℕ) → b < 256 → cond (get_or LETTERS b 0 == 0) fails (means (get_or LETTERS b 0)) ≡ letter_move b
 unfolding same_move
 table_letter b l =
-    same_move-eq _ _ (agree_below_at (λ b. same_move (cond (get_or LETTERS b 0 == 0) fails (means (get_or LETTERS b 0))) (letter_move b)) (λ _. true) 256 b refl l)
+    same_move-eq _ _ (agree_below_at (λ b. same_move (cond (get_or LETTERS b 0 == 0) fails (means (get_or LETTERS b 0))) (letter_move b))
+    (λ _. true) 256 b refl l)
 
 -- so a byte whose entry is not 0 means that character
 pub letter_told : (b : ℕ) → b < 256 → (get_or LETTERS b 0 ≡ 0 → ⊥) → means (get_or LETTERS b 0) ≡ letter_move b
@@ -97,7 +98,8 @@ sum_tells a b c d = ⊎_elim
     (cases_lt (digit_or_none a + digit_or_none b + digit_or_none c + digit_or_none d) 65536)
 
 -- one digit, up to the place after it
-one_digit : (i : Inside) (left less n more : ℕ) (bs : List ℕ) (at next : ℕ) → 0 < left → IsUtf8 (drop at bs) → at < length bs → has hex_digit (get_or bs at 0) ≡ true →
+one_digit : (i : Inside) (left less n more : ℕ) (bs : List ℕ) (at next : ℕ) → 0 < left → IsUtf8 (drop at bs) → at < length bs →
+    has hex_digit (get_or bs at 0) ≡ true →
     left - 1 ≡ less → 16 * n + hex_value (get_or bs at 0) ≡ more → at + 1 ≡ next →
     value_after i (digit_move i left n) bs at ≡ value_after i (digit_move i less more) bs next
 one_digit i left less n more bs at next p u l h e f g =

@@ -64,7 +64,8 @@ last_off : (text rest : List ℕ) (c : ℕ) → IsUtf8 text → IsUtf8 rest → 
     chars rest ≡ take (length (chars text) - 1) (chars text)
 last_off text rest c u v h =
     let last = next_char (encode_utf8 c) [] c (utf8_rest rest (encode_utf8 c) v (subst IsUtf8 h u)) (sym (append-nil (encode_utf8 c))) in
-    let whole : chars text ≡ chars rest ++ c ∷ [] = ap chars h ∙ chars-append rest (encode_utf8 c) v ∙ ap (λ w. chars rest ++ w) (last.chars ∙ ap (λ w. c ∷ w) chars-nil) in
+    let whole : chars text ≡ chars rest ++ c ∷ [] =
+    ap chars h ∙ chars-append rest (encode_utf8 c) v ∙ ap (λ w. chars rest ++ w) (last.chars ∙ ap (λ w. c ∷ w) chars-nil) in
     let e : length (chars rest ++ c ∷ []) - 1 ≡ length (chars rest) = omega (arith, length-append (chars rest) (c ∷ [])) in
     sym (ap (λ w. take (length w - 1) w) whole ∙ ap (λ k. take k (chars rest ++ c ∷ [])) e ∙ take-append_seam (chars rest) (c ∷ []))
 

@@ -21,7 +21,8 @@ high_byte : (b : ℕ) → 128 ≤ b → iri_byte b ≡ true
 high_byte b l = grind (arith, nat_tests)
 
 -- bytes from 128 on pass a test, if each such number does
-pub all_high : (test : ℕ → Bool) → ((b : ℕ) → 128 ≤ b → test b ≡ true) → (xs : List ℕ) → ((k : ℕ) → k < length xs → 128 ≤ get_or xs k 0) → all_have test xs ≡ true
+pub all_high : (test : ℕ → Bool) → ((b : ℕ) → 128 ≤ b → test b ≡ true) → (xs : List ℕ) → ((k : ℕ) → k < length xs → 128 ≤ get_or xs k 0) →
+    all_have test xs ≡ true
 all_high test f [] h = refl
 all_high test f (b ∷ xs) h = and_from (test b) (all_have test xs) (f b (h 0 (omega arith))) (all_high test f xs (λ k l. h (suc k) (omega arith)))
 
@@ -45,7 +46,8 @@ one_char c s = ⊎_elim low high (cases_lt c 128)
     low : c < 128 → all_have iri_byte (encode_utf8 c) ≡ (scalar c && member iri_char c)
     low l =
         let e : nat_le 128 c ≡ false = grind (arith, nat_tests) in
-        ap (all_have iri_byte) (encode_ascii c l) ∙ (ap (λ t. (t || member iri_char c) && true) e ∙ (same (member iri_char c) ∙ ap (λ t. t && member iri_char c) (sym s)))
+        ap (all_have iri_byte) (encode_ascii c l)
+        ∙ (ap (λ t. (t || member iri_char c) && true) e ∙ (same (member iri_char c) ∙ ap (λ t. t && member iri_char c) (sym s)))
 
     high : 128 ≤ c → all_have iri_byte (encode_utf8 c) ≡ (scalar c && member iri_char c)
     high l = all_high iri_byte high_byte (encode_utf8 c) (high_bytes c l) ∙ sym (and_from (scalar c) (member iri_char c) s (high_char c l))
@@ -69,7 +71,8 @@ all_chars [] s = refl
 all_chars (c ∷ w) s =
     let p = and_parts _ _ s in
     have-append iri_byte (encode_utf8 c) (encode_utf8_all w)
-    ∙ (ap (λ t. t && all_have iri_byte (encode_utf8_all w)) (one_char c (scalar_same c (ap (λ b. b && true) p.0))) ∙ ap (λ t. has iri_char c && t) (all_chars w p.1))
+    ∙ (ap (λ t. t && all_have iri_byte (encode_utf8_all w)) (one_char c (scalar_same c (ap (λ b. b && true) p.0)))
+    ∙ ap (λ t. has iri_char c && t) (all_chars w p.1))
 
 -- whether a str has IRI characters alone may be tested byte by byte
 pub iri_bytes : (bs : List ℕ) → IsUtf8 bs → all_have iri_byte bs ≡ all_have (has iri_char) (chars bs)

@@ -234,7 +234,8 @@ strings-apart : (q : ℕ) (short long : Regex) (w : List ℕ) → nullable (afte
     nullable (after_all long (q ∷ q ∷ [])) ≡ false → longer (after_all short (q ∷ q ∷ [])) ≡ false → Matches short (q ∷ w) → Matches long (q ∷ w) → ⊥
 strings-apart q short long [] z i e f m n = false≢true (sym z ∙ matches-nullable (after long q) (matches-after long q [] n))
 strings-apart q short long (c ∷ w) z i e f m n =
-    let t : (c == q || false) ≡ true = starts-first (λ c. one_of (q ∷ []) c ≡ true) (class_in (q ∷ [])) (in-sound (q ∷ [])) (after long q) c w i (matches-after long q (c ∷ w) n) in
+    let t : (c == q || false) ≡ true = starts-first (λ c. one_of (q ∷ []) c ≡ true) (class_in (q ∷ [])) (in-sound (q ∷ []))
+    (after long q) c w i (matches-after long q (c ∷ w) n) in
     let same : c ≡ q = ⊎_elim (λ h. eqb-true c q h) (λ h. absurd (false≢true h)) (or_cases (c == q) false t) in
     ends w (matches-after_all (q ∷ q ∷ []) w short (subst (λ x. Matches short (q ∷ x ∷ w)) same m))
     (matches-after_all (q ∷ q ∷ []) w long (subst (λ x. Matches long (q ∷ x ∷ w)) same n))
@@ -337,7 +338,8 @@ one_kind d j k w m n =
     (λ h. absurd (hard-apart d j k w h m n))
     (λ h. absurd (parted_by-apart marks (shape d j) (shape d k) w (apart t g h) (matches_of d j w m) (matches_of d k w n)))
     (cases_Bool (hard j k)))
-    (λ g. absurd (groups-apart d j k w (no_end d w j m) (no_end d w k n) (λ e. false≢true (sym g ∙ eq-eqb (group j) (group k) e)) (matches_of d j w m) (matches_of d k w n)))
+    (λ g. absurd (groups-apart d j k w (no_end d w j m) (no_end d w k n) (λ e. false≢true (sym g ∙ eq-eqb (group j) (group k) e))
+    (matches_of d j w m) (matches_of d k w n)))
     (cases_Bool (group j == group k)))
     (cases_Bool (number j == number k))
   where
@@ -349,7 +351,8 @@ one_kind d j k w m n =
 -- the kind that the test finds is that of the shape
 keyword_first : (d : Dialect) (w : List ℕ) → Matches (shape d AtPrefix ∣ shape d AtBase) w → kind_of d w ≢ Some LangTag
 unfolding kind_of
-keyword_first d w m e = go _ (nullable (after_all (shape d AtPrefix) w)) (nullable (after_all (shape d AtBase) w)) (⊎_elim (λ x. inl (matches-form _ w x)) (λ x. inr (matches-form _ w x)) m) e
+keyword_first d w m e = go _ (nullable (after_all (shape d AtPrefix) w)) (nullable (after_all (shape d AtBase) w))
+    (⊎_elim (λ x. inl (matches-form _ w x)) (λ x. inr (matches-form _ w x)) m) e
   where
     go : (o : Option Kind) (a b : Bool) → (a ≡ true) ⊎ (b ≡ true) → cond a (Some AtPrefix) (cond b (Some AtBase) o) ≡ Some LangTag → ⊥
     go o true b h e = let x : Some AtPrefix ≡ Some LangTag = e in cc

@@ -43,7 +43,9 @@ one_of-all test (x ∷ xs) c a h =
 -- each character that PN_LOCAL_ESC escapes may stand in an IRI
 pub local_escape-iri_char : (c : ℕ) → has local_escape c ≡ true → has iri_char c ≡ true
 unfolding has
-local_escape-iri_char c h = one_of-all (has iri_char) (95 ∷ 126 ∷ 46 ∷ 45 ∷ 33 ∷ 36 ∷ 38 ∷ 39 ∷ 40 ∷ 41 ∷ 42 ∷ 43 ∷ 44 ∷ 59 ∷ 61 ∷ 47 ∷ 63 ∷ 35 ∷ 64 ∷ 37 ∷ []) c refl (and_parts (is_scalar c) _ h).1
+local_escape-iri_char c h =
+    one_of-all (has iri_char) (95 ∷ 126 ∷ 46 ∷ 45 ∷ 33 ∷ 36 ∷ 38 ∷ 39 ∷ 40 ∷ 41 ∷ 42 ∷ 43 ∷ 44 ∷ 59 ∷ 61 ∷ 47 ∷ 63 ∷ 35 ∷ 64 ∷ 37 ∷ []) c
+    refl (and_parts (is_scalar c) _ h).1
 
 -- a text of IRI characters means itself
 pub local_value_plain : (w : List ℕ) → all_have (has iri_char) w ≡ true → local_value w ≡ Some w
@@ -66,7 +68,8 @@ local-next true c w = by (has local_escape c)
     by false = refl
 local-next false c w = by (c == 92) (has iri_char c)
   where
-    by : (s t : Bool) → is_some (cond s (local_from true w) (cond t (option_map (λ v. c ∷ v) (local_from false w)) None)) ≡ ((s || t) && is_some (local_from s w))
+    by : (s t : Bool) → is_some (cond s (local_from true w) (cond t (option_map (λ v. c ∷ v) (local_from false w)) None))
+        ≡ ((s || t) && is_some (local_from s w))
     by true t = refl
     by false true = is_some-map _ (local_from false w)
     by false false = refl
@@ -123,7 +126,8 @@ local-means false (c ∷ w) v h =
 
 -- the first turn of the loop that builds, and a character more
 pub unescaped_none : (text rest out : List ℕ) → rest ≡ text → out ≡ [] → without_backslashes (chars text) ≡ chars out ++ without_backslashes (chars rest)
-unescaped_none text rest out e f = ap (λ x. without_backslashes (chars x)) (sym e) ∙ ap (λ x. x ++ without_backslashes (chars rest)) (sym (ap chars f ∙ chars-nil))
+unescaped_none text rest out e f = ap (λ x. without_backslashes (chars x)) (sym e)
+    ∙ ap (λ x. x ++ without_backslashes (chars rest)) (sym (ap chars f ∙ chars-nil))
 
 -- the first character of a text is one
 first_scalar : (bytes rest : List ℕ) (c : ℕ) → IsUtf8 bytes → bytes ≡ encode_utf8 c ++ rest → scalars (c ∷ []) ≡ true
@@ -138,19 +142,23 @@ unescaped_push whole out grown bytes rest c h u v e n g =
     let k : chars grown ≡ chars out ++ (c ∷ []) = ap chars g ∙ (chars-append out (encode_utf8 c) u ∙ ap (λ x. chars out ++ x) one) in
     let w : without_backslashes (chars bytes) ≡ c ∷ without_backslashes (chars rest) =
     ap without_backslashes (next_char bytes rest c v e).chars ∙ cond-false (c == 92) (without_backslashes (chars rest)) _ (ne_eqb c 92 n) in
-    h ∙ (ap (λ x. chars out ++ x) w ∙ (sym (append_assoc (chars out) (c ∷ []) (without_backslashes (chars rest))) ∙ ap (λ x. x ++ without_backslashes (chars rest)) (sym k)))
+    h ∙ (ap (λ x. chars out ++ x) w ∙ (sym (append_assoc (chars out) (c ∷ []) (without_backslashes (chars rest)))
+    ∙ ap (λ x. x ++ without_backslashes (chars rest)) (sym k)))
 
 -- what the loop keeps holds after a backslash that is left out
 pub unescaped_skip : (whole out bytes rest : List ℕ) (c : ℕ) → whole ≡ chars out ++ without_backslashes (chars bytes) → IsUtf8 bytes →
     bytes ≡ encode_utf8 c ++ rest → c ≡ 92 → whole ≡ chars out ++ without_backslashes (chars rest)
 unescaped_skip whole out bytes rest c h v e n =
-    h ∙ ap (λ x. chars out ++ x) (ap without_backslashes (next_char bytes rest c v e).chars ∙ cond-true (c == 92) (without_backslashes (chars rest)) _ (eq-eqb c 92 n))
+    h ∙ ap (λ x. chars out ++ x) (ap without_backslashes (next_char bytes rest c v e).chars
+    ∙ cond-true (c == 92) (without_backslashes (chars rest)) _ (eq-eqb c 92 n))
 
 -- a value is the text without backslashes
-pub value_is : (w : List ℕ) → is_some (local_value w) ≡ true → (local_value w ≡ Some (without_backslashes w)) × (all_have (has iri_char) (without_backslashes w) ≡ true)
+pub value_is : (w : List ℕ) → is_some (local_value w) ≡ true →
+    (local_value w ≡ Some (without_backslashes w)) × (all_have (has iri_char) (without_backslashes w) ≡ true)
 value_is w h = by (local_value w) refl h
   where
-    by : (o : Option (List ℕ)) → local_value w ≡ o → is_some o ≡ true → (local_value w ≡ Some (without_backslashes w)) × (all_have (has iri_char) (without_backslashes w) ≡ true)
+    by : (o : Option (List ℕ)) → local_value w ≡ o → is_some o ≡ true →
+        (local_value w ≡ Some (without_backslashes w)) × (all_have (has iri_char) (without_backslashes w) ≡ true)
     by None e h = absurd (false≢true h)
     by (Some v) e h = let m = local-means false w v e in (e ∙ ap (λ x. Some x) m.0, sym (ap (all_have (has iri_char)) m.0) ∙ m.1)
 
@@ -181,7 +189,8 @@ encodes-without (c ∷ w) =
     ⊎_elim
     (λ (t : (c == 92) ≡ true).
     ap encode_utf8_all (cond-true (c == 92) (without_backslashes w) (c ∷ without_backslashes w) t)
-    ∙ (encodes-without w ∙ sym (ap (λ x. without_backslashes (encode_utf8 x ++ rest)) (eqb-true c 92 t) ∙ ap (λ x. without_backslashes (x ++ rest)) (encode_ascii 92 (omega arith)))))
+    ∙ (encodes-without w ∙ sym (ap (λ x. without_backslashes (encode_utf8 x ++ rest)) (eqb-true c 92 t)
+    ∙ ap (λ x. without_backslashes (x ++ rest)) (encode_ascii 92 (omega arith)))))
     (λ (f : (c == 92) ≡ false).
     ap encode_utf8_all (cond-false (c == 92) (without_backslashes w) (c ∷ without_backslashes w) f)
     ∙ (ap (λ x. encode_utf8 c ++ x) (encodes-without w) ∙ sym (without-append (encode_utf8 c) rest (bytes_unescaped c f))))

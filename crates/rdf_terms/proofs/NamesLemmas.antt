@@ -184,7 +184,8 @@ matches-tag part (c ∷ w) m =
     ⊎_elim
     (λ a. choose_first (has letter_or_digit c) part _ (λ q. tag_goes_on q w) a.0 (matches-tag part w a.1))
     (λ n. let a = parts-step c w n in
-    choose_second (has letter_or_digit c) (has (the 45) c) part hyphen (λ q. tag_goes_on q w) (apart letter_or_digit 45 c a.0 no_letter_or_digit) a.0 (matches-tag hyphen w a.1))
+    choose_second (has letter_or_digit c) (has (the 45) c) part hyphen (λ q. tag_goes_on q w)
+    (apart letter_or_digit 45 c a.0 no_letter_or_digit) a.0 (matches-tag hyphen w a.1))
     (many-step letter_or_digit parts c w m)
 
 -- the code tells exactly the language tags
@@ -300,7 +301,8 @@ begin-prefix c w m =
 -- the code tells exactly the prefixes that are not empty
 pub name_goes_on-prefix : (b : Bool) (c : ℕ) (w : List ℕ) → b ≡ (has pn_base c && name_goes_on Turtle true w) → (b ≡ true) ↔ Matches pn_prefix (c ∷ w)
 name_goes_on-prefix b c w e = (
-  λ h. let p = and_parts (has pn_base c) (name_goes_on Turtle true w) (sym e ∙ h) in (c ∷ [], w, one-matches pn_base c p.0, name-matches Turtle true w p.1, refl),
+  λ h. let p = and_parts (has pn_base c) (name_goes_on Turtle true w) (sym e ∙ h) in
+      (c ∷ [], w, one-matches pn_base c p.0, name-matches Turtle true w p.1, refl),
   λ m. let p = begin-prefix c w m in e ∙ and_from _ _ p.0 (matches-name Turtle true w p.1),
 )
 
@@ -334,7 +336,8 @@ pub chars_colon : chars (58 ∷ []) ≡ 58 ∷ []
 chars_colon = ap chars (sym bytes_colon) ∙ chars-encodes (58 ∷ []) refl
 
 -- by the bytes before the colon
-pub ns_of_prefix : (b : Bool) (bytes front : List ℕ) → IsUtf8 bytes → bytes ≡ front ++ 58 ∷ [] → (b ≡ true) ↔ Matches pn_prefix (chars front) → (length front ≡ 0 → ⊥) →
+pub ns_of_prefix : (b : Bool) (bytes front : List ℕ) → IsUtf8 bytes → bytes ≡ front ++ 58 ∷ [] →
+    (b ≡ true) ↔ Matches pn_prefix (chars front) → (length front ≡ 0 → ⊥) →
     (b ≡ true) ↔ Shape Turtle PnameNs (chars bytes)
 ns_of_prefix b bytes front u e h n =
     let k = before_last bytes front 58 utf8_colon chars_colon u e in (

@@ -117,7 +117,8 @@ means-value i (c ∷ v) w m =
 abbrev MeansFrom : Inside → EscapeState → List ℕ → List ℕ → Type 0
 MeansFrom i outside w v = Means (IsPiece i) w v
 MeansFrom i slash w v = Means (IsPiece i) (92 ∷ w) v
-MeansFrom i (digits k n) w v = (hexes rest : List ℕ) × (c : ℕ) × (u : List ℕ) × (w ≡ hexes ++ rest) × (length hexes ≡ k) × (all_have (has hex_digit) hexes ≡ true)
+MeansFrom i (digits k n) w v =
+    (hexes rest : List ℕ) × (c : ℕ) × (u : List ℕ) × (w ≡ hexes ++ rest) × (length hexes ≡ k) × (all_have (has hex_digit) hexes ≡ true)
     × (c ≡ so_far n hexes) × (scalar c ≡ true) × MayMean i c × (v ≡ c ∷ u) × Means (IsPiece i) rest u
 
 -- what holds of what follows
@@ -192,7 +193,8 @@ from-slash i c w v f e =
     ⊎_elim
     (λ h. small (eqb-true c 117 h) (f (digits 4 0) v (sym (at (cond-true (c == 117) (leads (digits 4 0)) _ h)) ∙ e)))
     (λ h. ⊎_elim
-    (λ g. large (eqb-true c 85 g) (f (digits 8 0) v (sym (at (cond-false (c == 117) (leads (digits 4 0)) _ h ∙ cond-true (c == 85) (leads (digits 8 0)) _ g)) ∙ e)))
+    (λ g. large (eqb-true c 85 g)
+    (f (digits 8 0) v (sym (at (cond-false (c == 117) (leads (digits 4 0)) _ h ∙ cond-true (c == 85) (leads (digits 8 0)) _ g)) ∙ e)))
     (λ g. from-letter i c w v f (sym (at (cond-false (c == 117) (leads (digits 4 0)) _ h ∙ cond-false (c == 85) (leads (digits 8 0)) (echar_move i c) g)) ∙ e))
     (cases_Bool (c == 85)))
     (cases_Bool (c == 117))
@@ -230,7 +232,8 @@ from-digits : (i : Inside) (k n : ℕ) (c : ℕ) (w v : List ℕ) → Follows i 
 from-digits i zero n c w v f e = absurd (none_is_some v e)
 from-digits i (suc k) n c w v f e =
     ⊎_elim
-    (λ h. from-digit i k n c w v h f (sym (ap (λ y. go y (λ t. value i t w)) (cond-true (has hex_digit c) (digit_move i k (16 * n + hex_value c)) fails h)) ∙ e))
+    (λ h. from-digit i k n c w v h f
+    (sym (ap (λ y. go y (λ t. value i t w)) (cond-true (has hex_digit c) (digit_move i k (16 * n + hex_value c)) fails h)) ∙ e))
     (λ h. absurd (none_is_some v (sym (ap (λ y. go y (λ t. value i t w)) (cond-false (has hex_digit c) (digit_move i k (16 * n + hex_value c)) fails h)) ∙ e)))
     (cases_Bool (has hex_digit c))
 
@@ -252,7 +255,8 @@ pub iri_means : (w v : List ℕ) → (iri_value w ≡ Some v) ↔ Means (IsPiece
 iri_means w v = (λ e. value-means of_iri outside w v e, λ m. means-value of_iri v w m)
 
 -- The same of local parts.
-local-takes : (piece : List ℕ) (c : ℕ) → IsLocalPiece piece c → (rest : List ℕ) → local_from false (piece ++ rest) ≡ option_map (λ w. c ∷ w) (local_from false rest)
+local-takes : (piece : List ℕ) (c : ℕ) → IsLocalPiece piece c → (rest : List ℕ) →
+    local_from false (piece ++ rest) ≡ option_map (λ w. c ∷ w) (local_from false rest)
 local-takes piece c p rest = ⊎_elim
     (λ h. ap (λ x. local_from false (x ++ rest)) h.0
     ∙ (cond-false (c == 92) (local_from true rest) _ (ne_eqb c 92 h.1) ∙ cond-true (has iri_char c) (option_map (λ w. c ∷ w) (local_from false rest)) None h.2))

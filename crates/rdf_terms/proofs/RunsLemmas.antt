@@ -65,7 +65,8 @@ last_decides p bs last n at count whole over front r =
     ⊎_elim
     (λ (l : count < n). ne_eqb count n (λ e. omega (arith, e)) ∙ sym (one_fails p bs (last + count) (omega arith) (r.stops l)))
     (λ l. let all : count ≡ n = omega (arith, r.few) in
-    eq-eqb count n all ∙ sym (all_pass p bs (pass-more p bs 0 last (length bs) (λ k from to. front k from (omega arith)) (λ k from to. r.pass k from (omega (arith, all))))))
+    eq-eqb count n all ∙ sym (all_pass p bs
+    (pass-more p bs 0 last (length bs) (λ k from to. front k from (omega arith)) (λ k from to. r.pass k from (omega (arith, all))))))
     (cases_lt count n)
 
 -- the first n bytes and the last decide, where they cover all
@@ -137,8 +138,12 @@ lanes_decide p bs at n m room few e =
     ⊎_elim
     (λ (l : 0 < m).
     let some : 0 < stop_mask p bs at n = omega (arith, e, l) in
-    let k = count_trailing_zeros 64 (stop_mask p bs at n) in
-    (k, one_stops p bs at n room few some, ne_eqb m 0 (λ z. omega (arith, z, l)) ∙ sym (ne_eqb k n (λ z. omega (arith, z, one_within p bs at n room few some)))))
+    let k = count_trailing_zeros 64 (stop_mask p bs at n) in (
+      k,
+      one_stops p bs at n room few some,
+      ne_eqb m 0 (λ z. omega (arith, z, l))
+          ∙ sym (ne_eqb k n (λ z. omega (arith, z, one_within p bs at n room few some))),
+    ))
     (λ l.
     let none : m ≡ 0 = omega (arith, l) in
     (n, none_stops p bs at n room (sym e ∙ none), eq-eqb m 0 none ∙ sym (eq-eqb n n refl)))
@@ -207,7 +212,8 @@ module _ (p : ℕ → Bool) (bs : List ℕ) (at m : ℕ) (room : at + 16 ≤ len
       (one_ends p bs _ (15 - count_trailing_zeros 64 m) (omega (arith, first_within, room)) (omega arith) (omega (arith, others_are, more)))
 
 -- the bytes that are left are seen in a load with those before them, whose bits are shifted out of its mask
-module _ (p : ℕ → Bool) (bs : List ℕ) (last from m : ℕ) (whole : last + 16 ≡ length bs) (over : last ≤ from) (within : from ≤ length bs) (is : m ≡ stop_mask p bs last 16) where
+module _ (p : ℕ → Bool) (bs : List ℕ) (last from m : ℕ) (whole : last + 16 ≡ length bs) (over : last ≤ from) (within : from ≤ length bs)
+    (is : m ≡ stop_mask p bs last 16) where
   left_are : m / 2 ^ (from - last) ≡ stop_mask p bs from (length bs - from)
   left_are =
       ap (λ n. n / 2 ^ (from - last)) is

@@ -47,7 +47,8 @@ matches-first_kind d (l ∷ ks) w m =
     (cases_Bool (nullable (after_all (shape d l) w)))
 
 -- a shape of the list is among its shapes
-pub matches-any : (d : Dialect) (before : List Kind) (k : Kind) (later : List Kind) (w : List ℕ) → Matches (shape d k) w → Matches (any_shape d (before ++ k ∷ later)) w
+pub matches-any : (d : Dialect) (before : List Kind) (k : Kind) (later : List Kind) (w : List ℕ) → Matches (shape d k) w →
+    Matches (any_shape d (before ++ k ∷ later)) w
 matches-any d [] k later w m = inl m
 matches-any d (l ∷ before) k later w m = inr (matches-any d before k later w m)
 

@@ -87,7 +87,8 @@ wider : (k : Class) (c : ℕ) → has k c ≡ true → has (wide_class k) c ≡ 
 unfolding has
 wider (pn_u Turtle) c h = u_bools (scalar c) (is_base c) (c == 95) (c == 58) h
 wider (pn_u Lines) c h = h
-wider (pn_char Turtle) c h = char_bools (scalar c) (is_base c) (c == 95) (c == 58) (c == 45) (is_digit c) (c == 0xB7) (within 0x300 0x36F c) (within 0x203F 0x2040 c) h
+wider (pn_char Turtle) c h = char_bools (scalar c) (is_base c) (c == 95) (c == 58) (c == 45) (is_digit c) (c == 0xB7) (within 0x300 0x36F c)
+    (within 0x203F 0x2040 c) h
 wider (pn_char Lines) c h = h
 wider k c h = h
 

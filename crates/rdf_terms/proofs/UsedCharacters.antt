@@ -30,7 +30,8 @@ all_append P [] v a b = b
 all_append P (c ∷ u) v a b = (a.0, all_append P u v a.1 b)
 
 -- what holds of any number of texts holds of all together
-all_concat : (P : List ℕ → Type 0) (Q : ℕ → Type 0) → ((w : List ℕ) → P w → AllByRecursion Q w) → (ws : List (List ℕ)) → AllByRecursion P ws → AllByRecursion Q (concat ws)
+all_concat : (P : List ℕ → Type 0) (Q : ℕ → Type 0) → ((w : List ℕ) → P w → AllByRecursion Q w) → (ws : List (List ℕ)) →
+    AllByRecursion P ws → AllByRecursion Q (concat ws)
 all_concat P Q f [] a = tt
 all_concat P Q f (w ∷ ws) a = all_append Q w (concat ws) (f w a.0) (all_concat P Q f ws a.1)
 

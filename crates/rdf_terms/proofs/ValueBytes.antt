@@ -66,7 +66,8 @@ encode_stands i c h s = each (encode_utf8 c) (high_bytes c h) (encode_bytes c s)
     each [] f e = refl
     each (b ∷ xs) f e =
         let p = and_parts (is_byte b) (all_have is_byte xs) e in
-        and_from (stands i b) (all_have (stands i) xs) (high_byte_stands i b (f 0 (omega arith)) (ltb-true b 256 p.0)) (each xs (λ k l. f (suc k) (omega arith)) p.1)
+        and_from (stands i b) (all_have (stands i) xs) (high_byte_stands i b (f 0 (omega arith)) (ltb-true b 256 p.0))
+        (each xs (λ k l. f (suc k) (omega arith)) p.1)
 
 -- a number from 128 on is no hex digit
 high_digit : (i : Inside) (b : ℕ) → 128 ≤ b → (k n : ℕ) → move i (digits k n) b ≡ fails

@@ -1,6 +1,7 @@
 //! The laws of shapes and values. These functions do nothing: their contracts are the laws.
 
-ghost use Rattle.rdf_terms.specs.Laws.{TextsHaveOneKind, KindsAreShapes, BeginningsAreLive, StringsMeanTheirPieces, IrisMeanTheirPieces, LocalPartsMeanTheirPieces, FitTextsHaveMeaning};
+ghost use Rattle.rdf_terms.specs.Laws.{TextsHaveOneKind, KindsAreShapes, BeginningsAreLive, StringsMeanTheirPieces};
+ghost use Rattle.rdf_terms.specs.Laws.{IrisMeanTheirPieces, LocalPartsMeanTheirPieces, FitTextsHaveMeaning};
 
 /// No text has the shapes of two kinds.
 pub fn texts_have_one_kind()

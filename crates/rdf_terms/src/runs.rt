@@ -2,7 +2,9 @@
 
 ghost use Rattle.std.specs.Prelude.{◌≡◌, ◌==◌, ◌+◌, ◌≤◌, ◌<◌, ℕ, length, map, not};
 ghost use Rattle.std.specs.Simd.Lanes.{mask_l};
-ghost use Rattle.rdf_terms.specs.Runs.{iri_byte, goes_over, is_ascii_byte, is_ascii_quote_byte, is_long_byte, is_name_byte, is_short_byte, is_text_byte, is_unescaped, is_line_break, is_comment_byte, is_space, is_white, IsRun, IsRunIn};
+ghost use Rattle.rdf_terms.specs.Runs.{iri_byte, goes_over, is_ascii_byte, is_ascii_quote_byte, is_long_byte};
+ghost use Rattle.rdf_terms.specs.Runs.{is_name_byte, is_short_byte, is_text_byte, is_unescaped, is_line_break};
+ghost use Rattle.rdf_terms.specs.Runs.{is_comment_byte, is_space, is_white, IsRun, IsRunIn};
 ghost use Rattle.rdf_terms.specs.Terms.{all_have};
 
 use crate::classes::is_iri_byte;

@@ -1,13 +1,16 @@
 // The characters that a token's inside means.
 
-ghost use Rattle.std.specs.Prelude.{◌≡◌, ◌↔◌, ◌^◌, ◌≤◌, ◌<◌, ◌++◌, true, false, cond, IfOk, OnOk, OnErr, IfSome, SomeIff, Err, Some, None, is_some, option_map, drop, length, get_or, slice_range, encode_utf8};
+ghost use Rattle.std.specs.Prelude.{◌≡◌, ◌↔◌, ◌^◌, ◌≤◌, ◌<◌, ◌++◌, true, false, cond, IfOk, OnOk, OnErr, IfSome};
+ghost use Rattle.std.specs.Prelude.{SomeIff, Err, Some, None, is_some, option_map, drop, length, get_or, slice_range};
+ghost use Rattle.std.specs.Prelude.{encode_utf8};
 ghost use Rattle.std.specs.Str.{chars, IsUtf8};
 ghost use Rattle.std.specs.String.{string_bytes};
 ghost use Rattle.rdf_terms.specs.Classes.{has, scalar};
 ghost use Rattle.rdf_terms.specs.Classes.Class.{iri_char, hex_digit};
 ghost use Rattle.rdf_terms.specs.Runs.{IsRun, goes_over};
 ghost use Rattle.rdf_terms.specs.Terms.{all_have};
-ghost use Rattle.rdf_terms.specs.Values.{value, inside, is_fit, outside, slash, string_value, iri_value, leads, means, fails, allowed, echar_move, digit_move, hex_value};
+ghost use Rattle.rdf_terms.specs.Values.{value, inside, is_fit, outside, slash, string_value, iri_value, leads, means};
+ghost use Rattle.rdf_terms.specs.Values.{fails, allowed, echar_move, digit_move, hex_value};
 ghost use Rattle.rdf_terms.specs.Escapes.{inside_of, run_of, completes, IsRead, Reads, IsPut, IsPutUpTo};
 
 use crate::Kind;

@@ -42,13 +42,15 @@ blank-step d true c w = go (is_line_end c) (is_space d c)
 pub comment-step : (d : Dialect) (b : Bool) (c : ℕ) (w : List ℕ) → comment_after d b (c ∷ w) ≡ comment_by d (comment_step d b c) w
 comment-step d false c w = go (is_space d c) (c == 35)
   where
-    go : (s t : Bool) → cond s (comment_after d false w) (cond t (comment_after d true w) false) ≡ comment_by d (cond s (Some false) (cond t (Some true) None)) w
+    go : (s t : Bool) → cond s (comment_after d false w) (cond t (comment_after d true w) false) ≡ comment_by d
+        (cond s (Some false) (cond t (Some true) None)) w
     go true t = refl
     go false true = refl
     go false false = refl
 comment-step d true c w = go (is_line_end c) (is_space d c)
   where
-    go : (s t : Bool) → cond s (cond t (comment_after d false w) false) (comment_after d true w) ≡ comment_by d (cond s (cond t (Some false) None) (Some true)) w
+    go : (s t : Bool) → cond s (cond t (comment_after d false w) false) (comment_after d true w) ≡ comment_by d
+        (cond s (cond t (Some false) None) (Some true)) w
     go true true = refl
     go true false = refl
     go false t = refl
@@ -60,7 +62,8 @@ blank-append d b (c ∷ u) v e =
     blank-step d b c (u ++ v) ∙ (go (comment_step d b c) (sym (blank-step d b c u) ∙ e) (λ b' h. blank-append d b' u v h)
     ∙ ap (λ x. suc (length u) + blank d x v) (sym (comment-step d b c u)))
   where
-    go : (o : Option Bool) → blank_by d o u ≡ suc (length u) → ((b' : Bool) → blank d b' u ≡ length u → blank d b' (u ++ v) ≡ length u + blank d (comment_after d b' u) v) →
+    go : (o : Option Bool) → blank_by d o u ≡ suc (length u) →
+        ((b' : Bool) → blank d b' u ≡ length u → blank d b' (u ++ v) ≡ length u + blank d (comment_after d b' u) v) →
         blank_by d o (u ++ v) ≡ suc (length u) + blank d (comment_by d o u) v
     go None e h = absurd (omega arith)
     go (Some b') e h = let k = h b' (omega arith) in omega arith
@@ -103,7 +106,8 @@ stays_none : (d : Dialect) (b : Bool) (c : ℕ) → comment_step d b c ≡ None 
 stays_none d false c e = e
 stays_none d true c e = go (is_line_end c) (is_space d c) (λ h. ends-no-comment c h) e
   where
-    go : (s t : Bool) → (s ≡ true → (c == 35) ≡ false) → cond s (cond t (Some false) None) (Some true) ≡ None → cond t (Some false) (cond (c == 35) (Some true) None) ≡ None
+    go : (s t : Bool) → (s ≡ true → (c == 35) ≡ false) → cond s (cond t (Some false) None) (Some true) ≡ None →
+        cond t (Some false) (cond (c == 35) (Some true) None) ≡ None
     go true true h e = e
     go true false h e = ap (λ x. cond x (Some true) None) (h refl)
     go false t h e = absurd (let x : Some true ≡ None = e in cc)
@@ -113,7 +117,8 @@ pub rest-blank : (d : Dialect) (b : Bool) (u v : List ℕ) → is_empty (rest_of
 rest-blank d b [] v e = absurd (true≢false e)
 rest-blank d b (c ∷ u) v e =
     let s = blank-step d b c u in
-    ap (λ n. blank d false (drop n (c ∷ u) ++ v)) s ∙ go (comment_step d b c) refl (subst (λ n. is_empty (drop n (c ∷ u)) ≡ false) s e) (λ b' h. rest-blank d b' u v h)
+    ap (λ n. blank d false (drop n (c ∷ u) ++ v)) s ∙ go (comment_step d b c) refl (subst (λ n. is_empty (drop n (c ∷ u)) ≡ false) s e)
+    (λ b' h. rest-blank d b' u v h)
   where
     go : (o : Option Bool) → comment_step d b c ≡ o → is_empty (drop (blank_by d o u) (c ∷ u)) ≡ false →
         ((b' : Bool) → is_empty (rest_of d b' u) ≡ false → blank d false (rest_of d b' u ++ v) ≡ 0) → blank d false (drop (blank_by d o u) (c ∷ u) ++ v) ≡ 0
@@ -131,7 +136,8 @@ tokens-rest d limit t b p u v e =
     r.1 ∙ sym (ap (λ n. past (place_of d b p u) (take n (rest_of d b u ++ v))) z) in
     tokens-step d limit t b p (u ++ v)
     ∙ (ap (λ x. go_on (step d limit t x) (place_of d b p (u ++ v)) x (λ q v. tokens d limit t false q v)) rest
-    ∙ (ap (λ x. go_on (step d limit t (rest_of d false (rest_of d b u ++ v))) x (rest_of d false (rest_of d b u ++ v)) (λ q v. tokens d limit t false q v)) place
+    ∙ (ap (λ x. go_on (step d limit t (rest_of d false (rest_of d b u ++ v))) x (rest_of d false (rest_of d b u ++ v))
+    (λ q v. tokens d limit t false q v)) place
     ∙ sym (tokens-step d limit t false (place_of d b p u) (rest_of d b u ++ v))))
 
 -- a byte from 128 on stands in a comment alone
@@ -211,7 +217,8 @@ comment-encodes d b (c ∷ w) = ⊎_elim
     (λ l. high b l (comment-encodes d true w))
     (cases_lt c 128)
   where
-    low : (o : Option Bool) → ((b' : Bool) → comment_after d b' (encode_utf8_all w) ≡ comment_after d b' w) → comment_by d o (encode_utf8_all w) ≡ comment_by d o w
+    low : (o : Option Bool) → ((b' : Bool) → comment_after d b' (encode_utf8_all w) ≡ comment_after d b' w) →
+        comment_by d o (encode_utf8_all w) ≡ comment_by d o w
     low None h = refl
     low (Some b') h = h b'
 

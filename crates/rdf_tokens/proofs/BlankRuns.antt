@@ -31,7 +31,8 @@ is_false false e = refl
 comment_on : (d : Dialect) (c : ℕ) (w : List ℕ) → goes_on true c ≡ true → Goes d true (c ∷ w) 1 true w
 comment_on d c w e =
     let f : is_line_end c ≡ false = is_false (is_line_end c) e in
-    let len : blank d true (c ∷ w) ≡ suc (blank d true w) = ap (λ t. cond t (cond (is_space d c) (suc (blank d false w)) 0) (suc (blank d true w))) f in record {
+    let len : blank d true (c ∷ w) ≡ suc (blank d true w) =
+    ap (λ t. cond t (cond (is_space d c) (suc (blank d false w)) 0) (suc (blank d true w))) f in record {
       len = omega (arith, len);
       comment = ap (λ t. cond t (cond (is_space d c) (comment_after d false w) false) (comment_after d true w)) f;
     }
@@ -53,7 +54,8 @@ bytes_on d b p one bs zero at l pass =
     record { len = omega (arith, len); comment = ap (λ k. comment_after d b (drop k bs)) e }
 bytes_on d b p one bs (suc n) at l pass =
     let c = get_or bs at 0 in
-    let first = subst (λ w. Goes d b w 1 b (drop (at + 1) bs)) (sym (drop_more bs at 0 (omega arith))) (one c (drop (at + 1) bs) (pass at (omega arith) (omega arith))) in
+    let first = subst (λ w. Goes d b w 1 b (drop (at + 1) bs)) (sym (drop_more bs at 0 (omega arith)))
+    (one c (drop (at + 1) bs) (pass at (omega arith) (omega arith))) in
     let rest = bytes_on d b p one bs n (at + 1) (omega arith) (λ k x y. pass k (omega arith) (omega arith)) in
     let e : at + 1 + n ≡ at + suc n = omega arith in
     let m : 1 + n ≡ suc n = omega arith in
@@ -88,7 +90,8 @@ none_on : (d : Dialect) (c : ℕ) (w : List ℕ) → goes_on false c ≡ true �
 none_on d c w e = absurd (false≢true e)
 
 -- Past a comment that ends within the text no comment is open.
-past_comment : (d : Dialect) (b : Bool) (bs : List ℕ) (at end : ℕ) → IsRun (goes_on b) bs at end → is_cut b bs end ≡ false → Goes d b (drop at bs) (end - at) false (drop end bs)
+past_comment : (d : Dialect) (b : Bool) (bs : List ℕ) (at end : ℕ) → IsRun (goes_on b) bs at end → is_cut b bs end ≡ false →
+    Goes d b (drop at bs) (end - at) false (drop end bs)
 past_comment d false bs at end r e = run_on d false (goes_on false) (none_on d) bs at end r
 past_comment d true bs at end r e =
     let within = r.within in
@@ -96,7 +99,8 @@ past_comment d true bs at end r e =
     let c = get_or bs end 0 in
     let ends : is_line_end c ≡ true = is_true (is_line_end c) (r.stops inside) in
     let closed = subst (λ w. Goes d true w 0 false w) (sym (drop_more bs end 0 inside)) (line_end_closes d c (drop (end + 1) bs) ends (no_hash c ends)) in
-    let all = and_then d true true false (drop at bs) (drop end bs) (drop end bs) (end - at) 0 (run_on d true (goes_on true) (comment_on d) bs at end r) closed in
+    let all = and_then d true true false (drop at bs) (drop end bs) (drop end bs) (end - at) 0
+    (run_on d true (goes_on true) (comment_on d) bs at end r) closed in
     let z : end - at + 0 ≡ end - at = omega arith in
     subst (λ n. Goes d true (drop at bs) n false (drop end bs)) z all
   where
@@ -105,7 +109,8 @@ past_comment d true bs at end r e =
     is_true false e = absurd (false≢true (sym e))
 
 -- a comment that is open, and the white space after it
-pub part_on : (d : Dialect) (b : Bool) (bs : List ℕ) (at end white : ℕ) → IsRun (goes_on b) bs at end → is_cut b bs end ≡ false → IsRun (is_space d) bs end white →
+pub part_on : (d : Dialect) (b : Bool) (bs : List ℕ) (at end white : ℕ) → IsRun (goes_on b) bs at end → is_cut b bs end ≡ false →
+    IsRun (is_space d) bs end white →
     Goes d b (drop at bs) (white - at) false (drop white bs)
 part_on d b bs at end white r e s =
     let from = r.from in
@@ -135,8 +140,10 @@ ends_there d bs at white r e = ⊎_elim
     let more = drop_more bs white 0 l in
     let w = drop (white + 1) bs in
     let none = r.stops l in (
-      ap (blank d false) more ∙ (ap (λ t. cond t (suc (blank d false w)) (cond (c == 35) (suc (blank d true w)) 0)) none ∙ ap (λ t. cond t (suc (blank d true w)) 0) h),
-      ap (comment_after d false) more ∙ (ap (λ t. cond t (comment_after d false w) (cond (c == 35) (comment_after d true w) false)) none ∙ ap (λ t. cond t (comment_after d true w) false) h),
+      ap (blank d false) more ∙ (ap (λ t. cond t (suc (blank d false w)) (cond (c == 35) (suc (blank d true w)) 0)) none
+          ∙ ap (λ t. cond t (suc (blank d true w)) 0) h),
+      ap (comment_after d false) more ∙ (ap (λ t. cond t (comment_after d false w) (cond (c == 35) (comment_after d true w) false)) none
+          ∙ ap (λ t. cond t (comment_after d true w) false) h),
     ))
     (λ m. let z : drop white bs ≡ [] = drop_all white bs m in (ap (blank d false) z, ap (comment_after d false) z))
     (cases_lt white (length bs))
@@ -167,7 +174,8 @@ no_feeds p flat bs (suc n) at l pass =
     omega (arith, rest, all, one, same)
 
 -- where no byte ends a line, a comment goes over all
-pub no_line_end : (bs : List ℕ) (r : Option ℕ) (b : Bool) → IsFirstByte (is_byte2 10 13) bs r → is_some r ≡ not b → b ≡ true → IsRun is_comment_byte bs 0 (length bs)
+pub no_line_end : (bs : List ℕ) (r : Option ℕ) (b : Bool) → IsFirstByte (is_byte2 10 13) bs r → is_some r ≡ not b → b ≡ true →
+    IsRun is_comment_byte bs 0 (length bs)
 no_line_end bs None b h s e = record {
   from = omega arith;
   within = omega arith;
@@ -221,7 +229,8 @@ module _ (bs : List ℕ) (end : ℕ) (z : stands_at 10 bs 0 ≡ true) (r : IsRun
       let from = r.from in
       let n : 1 + (end - 1) ≡ end = omega arith in
       let first : Goes Turtle false bs 1 false (drop 1 bs) =
-      subst (λ w. Goes Turtle false w 1 false (drop 1 bs)) (sym (drop_more bs 0 0 feed.0)) (white_on Turtle (get_or bs 0 0) (drop 1 bs) (ap (is_space Turtle) feed.1)) in
+      subst (λ w. Goes Turtle false w 1 false (drop 1 bs)) (sym (drop_more bs 0 0 feed.0))
+      (white_on Turtle (get_or bs 0 0) (drop 1 bs) (ap (is_space Turtle) feed.1)) in
       subst (λ n. Goes Turtle false bs n false (drop end bs)) n
       (and_then Turtle false false false bs (drop 1 bs) (drop end bs) 1 (end - 1) first (run_on Turtle false is_space_byte spaces bs 1 end r))
     where

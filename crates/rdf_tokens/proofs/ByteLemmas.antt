@@ -33,7 +33,8 @@ past_char bs at n c h e f =
     let p = uncons w (chars rest) n c m in
     let grown : take (n + 1) w ≡ take n w ++ c ∷ [] = take_more w n c p.0 ∙ ap (λ x. take n w ++ x ∷ []) p.1 in
     let size : bytes_of (n + 1) w ≡ bytes_of n w + length (encode_utf8_all (c ∷ [])) =
-    ap (λ x. length (encode_utf8_all x)) grown ∙ (ap length (encodes-append (take n w) (c ∷ [])) ∙ length-append (encode_utf8_all (take n w)) (encode_utf8_all (c ∷ []))) in
+    ap (λ x. length (encode_utf8_all x)) grown
+    ∙ (ap length (encodes-append (take n w) (c ∷ [])) ∙ length-append (encode_utf8_all (take n w)) (encode_utf8_all (c ∷ []))) in
     let one : length (encode_utf8_all (c ∷ [])) ≡ len_utf8 c = length-append (encode_utf8 c) [] ∙ (omega (arith, length-encode c)) in (
       m ∙ ap (λ t. c ∷ t) (sym p.2),
       record {

@@ -66,7 +66,8 @@ chars-empty bs u = at (chars bs) (encodes-chars bs u)
         grind (arith, nat_tests)
 
 -- the leading U+FEFF, by its bytes
-pub mark_bytes : (bs : List ℕ) (c next : ℕ) → IsUtf8 bs → bs ≡ encode_utf8 c ++ drop next bs → bytes_of (mark (chars bs)) (chars bs) ≡ cond (c == 0xFEFF) (len_utf8 c) 0
+pub mark_bytes : (bs : List ℕ) (c next : ℕ) → IsUtf8 bs → bs ≡ encode_utf8 c ++ drop next bs →
+    bytes_of (mark (chars bs)) (chars bs) ≡ cond (c == 0xFEFF) (len_utf8 c) 0
 mark_bytes bs c next u e =
     ap (λ w. bytes_of (mark w) w) (chars_past_char bs (drop next bs) c u e) ∙ at (c == 0xFEFF)
   where

@@ -141,7 +141,8 @@ four-most bs from l hex =
 
 -- what eight digits at a place write, by the last four of them
 pub eight-at : (bs : List ℕ) (from : ℕ) → from + 8 ≤ length bs →
-    hex_number (take 8 (drop from bs)) ≡ eight (get_or bs from 0) (get_or bs (from + 1) 0) (get_or bs (from + 2) 0) (get_or bs (from + 3) 0) (hex_number (take 4 (drop (from + 4) bs)))
+    hex_number (take 8 (drop from bs)) ≡ eight (get_or bs from 0) (get_or bs (from + 1) 0) (get_or bs (from + 2) 0) (get_or bs (from + 3) 0)
+    (hex_number (take 4 (drop (from + 4) bs)))
 eight-at bs from l =
     first_digit bs from (from + 1) 7 268435456 l refl refl
     ∙ (ap (λ k. hex_value (get_or bs from 0) * 268435456 + k) (first_digit bs (from + 1) (from + 2) 6 16777216 (omega arith) (omega arith) refl
@@ -149,7 +150,8 @@ eight-at bs from l =
     ∙ (ap (λ k. hex_value (get_or bs (from + 2) 0) * 1048576 + k) (first_digit bs (from + 3) (from + 4) 4 65536 (omega arith) (omega arith) refl))))))
 
 -- four hex digits of no surrogate
-pub four-number : (bs : List ℕ) (from end : ℕ) → IsHexes bs from 4 end → is_surrogate (get_or bs from 0) (get_or bs (from + 1) 0) ≡ false → IsNumber bs from 4 end
+pub four-number : (bs : List ℕ) (from end : ℕ) → IsHexes bs from 4 end → is_surrogate (get_or bs from 0) (get_or bs (from + 1) 0) ≡ false →
+    IsNumber bs from 4 end
 four-number bs from end h t = record {
   hexes = h;
   character = four_character bs from (omega (arith, h.ends, h.within)) (λ k a b. h.hexes k a (omega (arith, h.ends))) t;
@@ -194,7 +196,8 @@ eight-number bs from end h t = record { hexes = h; character = subst (λ n. scal
         omega (arith, ap hex_value a, ap hex_value b, ap hex_value (eqb-true (digit (from + 2)) 48 r.0), ap hex_value d) in
         subst (λ n. scalar n ≡ true) same
         (four_character bs (from + 4) (omega arith) hex
-        (subst (λ k. is_surrogate (digit (from + 4)) (digit k) ≡ false) fifth (subst (λ k. is_surrogate (digit k) (digit (from + 2 + 3)) ≡ false) fourth (not_true _ s.1)))))
+        (subst (λ k. is_surrogate (digit (from + 4)) (digit k) ≡ false) fifth
+        (subst (λ k. is_surrogate (digit k) (digit (from + 2 + 3)) ≡ false) fourth (not_true _ s.1)))))
         (either (is_plane (digit (from + 2)) (digit (from + 3))) (is_in_first_plane bs (from + 2)) q.1)
 
 -- whether a move completes a character
@@ -222,7 +225,8 @@ four_pass bs at h k from to =
     let p = and_parts (has hex_digit (get_or bs at 0)) _ h in
     let q = and_parts (has hex_digit (get_or bs (at + 1) 0)) _ p.1 in
     let r = and_parts (has hex_digit (get_or bs (at + 2) 0)) _ q.1 in
-    let here : (j : ℕ) → has hex_digit (get_or bs j 0) ≡ true → j ≡ k → is_hex (get_or bs k 0) ≡ true = λ j x e. subst (λ i. is_hex (get_or bs i 0) ≡ true) e (hex_of (get_or bs j 0) x) in
+    let here : (j : ℕ) → has hex_digit (get_or bs j 0) ≡ true → j ≡ k → is_hex (get_or bs k 0) ≡ true =
+    λ j x e. subst (λ i. is_hex (get_or bs i 0) ≡ true) e (hex_of (get_or bs j 0) x) in
     ⊎_elim (λ (x : k < at + 1). here at p.0 (omega arith))
     (λ x. ⊎_elim (λ (y : k < at + 2). here (at + 1) q.0 (omega arith))
     (λ y. ⊎_elim (λ (z : k < at + 3). here (at + 2) r.0 (omega arith)) (λ z. here (at + 3) r.1 (omega arith)) (cases_lt k (at + 3)))
@@ -241,7 +245,11 @@ short_uchar bs at b f =
       digits = inl (
         eqb-true (get_or bs (at + 1) 0) 117 q.1,
         four-number bs (at + 2) (at + 6)
-            record { ends = sym six; within = leb-true (at + 6) (length bs) p.0; hexes = subst (PassBetween is_hex bs (at + 2)) six (four_pass bs (at + 2) r.0) }
+            record {
+              ends = sym six;
+              within = leb-true (at + 6) (length bs) p.0;
+              hexes = subst (PassBetween is_hex bs (at + 2)) six (four_pass bs (at + 2) r.0);
+            }
             (not_true _ r.1),
       );
     }

@@ -73,7 +73,8 @@ alt-from r empty w m = ⊎_elim (λ x. inr x) (λ x. inl x) m
 alt-from r s w m = m
 
 -- two tests with matching sides match
-on_cond : (b : Bool) (x y x' y' : Regex) (w : List ℕ) → (Matches x w → Matches x' w) → (Matches y w → Matches y' w) → Matches (cond b x y) w → Matches (cond b x' y') w
+on_cond : (b : Bool) (x y x' y' : Regex) (w : List ℕ) → (Matches x w → Matches x' w) → (Matches y w → Matches y' w) →
+    Matches (cond b x y) w → Matches (cond b x' y') w
 on_cond true x y x' y' w f g m = f m
 on_cond false x y x' y' w f g m = g m
 
@@ -172,7 +173,8 @@ found P [] k a e = absurd (false≢true e)
 found P (x ∷ xs) k a e = ⊎_elim (λ h. subst P (same_class-eq x k h) a.0) (λ h. found P xs k a.1 h) (or_cases (same_class x k) (is_among xs k) e)
 
 -- the derivative depends on the sort alone
-next_alike : (canon : ℕ → ℕ) (ks : List Class) → AllByRecursion (Alike canon) ks → (r : Regex) → covers ks r ≡ true → (c : ℕ) → scalar c ≡ true → next r c ≡ next r (canon c)
+next_alike : (canon : ℕ → ℕ) (ks : List Class) → AllByRecursion (Alike canon) ks → (r : Regex) → covers ks r ≡ true → (c : ℕ) →
+    scalar c ≡ true → next r c ≡ next r (canon c)
 next_alike canon ks a nothing e c s = refl
 next_alike canon ks a empty e c s = refl
 next_alike canon ks a (one k) e c s = ap (λ b. cond b empty nothing) (found (Alike canon) ks k a e c s)

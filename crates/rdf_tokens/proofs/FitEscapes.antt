@@ -25,7 +25,8 @@ use Rattle.rdf_tokens.proofs.EscapeNumbers.{digits-hex, digits-length}
 use Rattle.rdf_tokens.proofs.RestEscapes.{letter_below, implied, uchar_from}
 
 -- the bytes between two places, cut at one between them
-pub slice-split : (bs : List ℕ) (at mid end : ℕ) → at ≤ mid → mid ≤ end → mid ≤ length bs → slice_range bs at end ≡ slice_range bs at mid ++ slice_range bs mid end
+pub slice-split : (bs : List ℕ) (at mid end : ℕ) → at ≤ mid → mid ≤ end → mid ≤ length bs →
+    slice_range bs at end ≡ slice_range bs at mid ++ slice_range bs mid end
 slice-split bs at mid end l m h =
     let first = slice_range bs at mid in
     let long : length first ≡ mid - at = length-take-le (mid - at) (drop at bs) (omega (arith, length-drop at bs)) in
@@ -99,7 +100,8 @@ long_slash Single = refl
 -- one byte
 pub fits_byte : (bs : List ℕ) (at : ℕ) → at < length bs → is_unescaped (get_or bs at 0) ≡ true → FitsInString bs at (at + 1)
 fits_byte bs at l e =
-    fits_unescaped bs at (at + 1) (omega arith) (omega arith) (λ k a b. let same : at ≡ k = omega arith in subst (λ k. is_unescaped (get_or bs k 0) ≡ true) same e)
+    fits_unescaped bs at (at + 1) (omega arith) (omega arith) (λ k a b. let same : at ≡ k = omega arith in
+    subst (λ k. is_unescaped (get_or bs k 0) ≡ true) same e)
 
 -- none
 pub fits_none : (bs : List ℕ) (at : ℕ) → at ≤ length bs → FitsInString bs at at
@@ -164,7 +166,8 @@ have_hex [] h = refl
 have_hex (c ∷ w) h = let p = and_parts (is_hex c) (all_have is_hex w) h in and_from (has hex_digit c) _ (has_hex c p.0) (have_hex w p.1)
 
 -- what is an escape by number
-number_value : (i : Inside) (piece : List ℕ) (c : ℕ) (w : List ℕ) → IsNumberEscape i piece c → is_some (value i outside (piece ++ w)) ≡ is_some (value i outside w)
+number_value : (i : Inside) (piece : List ℕ) (c : ℕ) (w : List ℕ) → IsNumberEscape i piece c →
+    is_some (value i outside (piece ++ w)) ≡ is_some (value i outside w)
 number_value i piece c w h = ap is_some (number_escape-takes i piece c h w) ∙ is_some-map (λ v. c ∷ v) (value i outside w)
 
 -- a backslash, a letter, and digits

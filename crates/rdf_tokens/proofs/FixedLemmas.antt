@@ -78,7 +78,8 @@ after_left b r o (x ∷ w) h m =
 
 -- what is left to match of a spelling is the spelling of what is left
 spelled-left : (b : Bool) (s w : List ℕ) → IsChars w → Same (after_all (spelled b s) w) (rest b (left b s w))
-spelled-left b s w h = subst (λ o. Same (after_all (spelled b s) w) (rest b o)) (sym (left-less b s w)) (after_left b (spelled b s) (Some s) w h (same (spelled b s)))
+spelled-left b s w h = subst (λ o. Same (after_all (spelled b s) w) (rest b o)) (sym (left-less b s w))
+    (after_left b (spelled b s) (Some s) w h (same (spelled b s)))
 
 -- a spelling is complete where nothing of it is left
 nullable-rest : (b : Bool) (o : Option (List ℕ)) → nullable (rest b o) ≡ is_done o
@@ -209,8 +210,95 @@ Agrees d k = (shape d k ≡ spelled_by (spellings d k)) × OfKind k (spellings d
 -- the table has the spellings of each kind as its shape has them, in both dialects
 all_agree : (d : Dialect) → AllByRecursion (Agrees d) fixed
 unfolding shape
-all_agree Lines = ((refl, tt), ((refl, tt), ((refl, ((refl, refl), tt)), ((refl, ((refl, refl), tt)), ((refl, ((refl, refl), ((refl, refl), tt))), ((refl, tt), ((refl, tt), ((refl, tt), ((refl, tt), ((refl, tt), ((refl, tt), ((refl, tt), ((refl, tt), ((refl, tt), ((refl, tt), ((refl, tt), ((refl, tt), ((refl, tt), ((refl, tt), tt)))))))))))))))))))
-all_agree Turtle = ((refl, ((refl, refl), tt)), ((refl, ((refl, refl), tt)), ((refl, ((refl, refl), tt)), ((refl, ((refl, refl), tt)), ((refl, tt), ((refl, ((refl, refl), tt)), ((refl, ((refl, refl), tt)), ((refl, ((refl, refl), tt)), ((refl, ((refl, refl), tt)), ((refl, ((refl, refl), tt)), ((refl, ((refl, refl), tt)), ((refl, ((refl, refl), tt)), ((refl, ((refl, refl), tt)), ((refl, ((refl, refl), tt)), ((refl, ((refl, refl), tt)), ((refl, ((refl, refl), tt)), ((refl, ((refl, refl), tt)), ((refl, ((refl, refl), tt)), ((refl, ((refl, refl), tt)), tt)))))))))))))))))))
+all_agree Lines = (
+  (refl, tt),
+  (
+    (refl, tt),
+    (
+      (refl, ((refl, refl), tt)),
+      (
+        (refl, ((refl, refl), tt)),
+        (
+          (refl, ((refl, refl), ((refl, refl), tt))),
+          (
+            (refl, tt),
+            (
+              (refl, tt),
+              (
+                (refl, tt),
+                (
+                  (refl, tt),
+                  (
+                    (refl, tt),
+                    (
+                      (refl, tt),
+                      (
+                        (refl, tt),
+                        ((refl, tt), ((refl, tt), ((refl, tt), ((refl, tt), ((refl, tt), ((refl, tt), ((refl, tt), tt))))))),
+                      ),
+                    ),
+                  ),
+                ),
+              ),
+            ),
+          ),
+        ),
+      ),
+    ),
+  ),
+)
+all_agree Turtle = (
+  (refl, ((refl, refl), tt)),
+  (
+    (refl, ((refl, refl), tt)),
+    (
+      (refl, ((refl, refl), tt)),
+      (
+        (refl, ((refl, refl), tt)),
+        (
+          (refl, tt),
+          (
+            (refl, ((refl, refl), tt)),
+            (
+              (refl, ((refl, refl), tt)),
+              (
+                (refl, ((refl, refl), tt)),
+                (
+                  (refl, ((refl, refl), tt)),
+                  (
+                    (refl, ((refl, refl), tt)),
+                    (
+                      (refl, ((refl, refl), tt)),
+                      (
+                        (refl, ((refl, refl), tt)),
+                        (
+                          (refl, ((refl, refl), tt)),
+                          (
+                            (refl, ((refl, refl), tt)),
+                            (
+                              (refl, ((refl, refl), tt)),
+                              (
+                                (refl, ((refl, refl), tt)),
+                                (
+                                  (refl, ((refl, refl), tt)),
+                                  ((refl, ((refl, refl), tt)), ((refl, ((refl, refl), tt)), tt)),
+                                ),
+                              ),
+                            ),
+                          ),
+                        ),
+                      ),
+                    ),
+                  ),
+                ),
+              ),
+            ),
+          ),
+        ),
+      ),
+    ),
+  ),
+)
 
 -- so the first kind by shapes is that by the table
 kinds-rows : (d : Dialect) (ks : List Kind) (w : List ℕ) → AllByRecursion (Agrees d) ks → IsChars w → first_kind d ks w ≡ kind_by (rows_of d ks) w
@@ -221,7 +309,8 @@ kinds-rows d (k ∷ ks) w a h =
     ∙ sym (kind_by-append k (spellings d k) (rows_of d ks) w a.0.1))
 
 -- a longer shape of some kinds begins so where a longer spelling of theirs does
-live-rows : (d : Dialect) (ks : List Kind) (w : List ℕ) → AllByRecursion (Agrees d) ks → IsChars w → longer (after_all (any_shape d ks) w) ≡ live_by (rows_of d ks) w
+live-rows : (d : Dialect) (ks : List Kind) (w : List ℕ) → AllByRecursion (Agrees d) ks → IsChars w →
+    longer (after_all (any_shape d ks) w) ≡ live_by (rows_of d ks) w
 live-rows d [] w a h = ap longer (after_nothing w)
 live-rows d (k ∷ ks) w a h =
     ap longer (after_or (shape d k) (any_shape d ks) w)

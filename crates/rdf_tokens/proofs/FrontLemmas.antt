@@ -15,7 +15,8 @@ longest-by d w zero = refl
 longest-by d w (suc n) = ap (with_length (suc n) (only_long (three_quotes d w) (kind_of d (take (suc n) w)))) (longest-by d w n)
 
 -- two tests that agree on the fronts give one front
-pub longest_by-same : (f g : List ℕ → Option Kind) (w : List ℕ) → ((m : ℕ) → f (take (suc m) w) ≡ g (take (suc m) w)) → (n : ℕ) → longest_by f w n ≡ longest_by g w n
+pub longest_by-same : (f g : List ℕ → Option Kind) (w : List ℕ) → ((m : ℕ) → f (take (suc m) w) ≡ g (take (suc m) w)) → (n : ℕ) →
+    longest_by f w n ≡ longest_by g w n
 longest_by-same f g w e zero = refl
 longest_by-same f g w e (suc n) =
     ap (λ k. with_length (suc n) k (longest_by f w n)) (e n) ∙ ap (with_length (suc n) (g (take (suc n) w))) (longest_by-same f g w e n)
@@ -50,7 +51,8 @@ longer-step n (Some k) None a (Some y) h i = sym (ap (λ t. cond t (Some y) (Som
 longer-step n (Some k) (Some l) a b h i = sym (ap (λ t. cond t (Some (suc n, l)) (Some (suc n, k))) (le-ltb (suc n) (suc n) (omega arith)))
 
 -- the longest front by either of two tests is the longer of theirs, so spellings and states may be looked for apart
-pub longest_by-or : (f g : List ℕ → Option Kind) (w : List ℕ) (n : ℕ) → longest_by (λ u. or_else (f u) (g u)) w n ≡ longer_front (longest_by f w n) (longest_by g w n)
+pub longest_by-or : (f g : List ℕ → Option Kind) (w : List ℕ) (n : ℕ) →
+    longest_by (λ u. or_else (f u) (g u)) w n ≡ longer_front (longest_by f w n) (longest_by g w n)
 longest_by-or f g w zero = refl
 longest_by-or f g w (suc n) =
     ap (with_length (suc n) (or_else (f (take (suc n) w)) (g (take (suc n) w)))) (longest_by-or f g w n)

@@ -138,7 +138,8 @@ starts_none c k s p q =
     (λ a. ⊎_elim
     (λ b. by_two (encode_two c a b) (two_one c a b) k p (subst (λ x. k < length x) (encode_two c a b) q))
     (λ b. ⊎_elim
-    (λ d. by_three (encode_three c b d) (three_one c b d) (three_two c b d (⊎_elim (λ x. inl x) (λ x. inr x.0) (scalar_cases c s))) k p (subst (λ x. k < length x) (encode_three c b d) q))
+    (λ d. by_three (encode_three c b d) (three_one c b d) (three_two c b d (⊎_elim (λ x. inl x) (λ x. inr x.0) (scalar_cases c s))) k p
+    (subst (λ x. k < length x) (encode_three c b d) q))
     (λ d. let h : c < 1114112 = ⊎_elim (λ x. omega arith) (λ x. x.1) (scalar_cases c s) in
     by_four (encode_four c d) (four_one c d h) (four_two c d h) (four_three c d h) k p (subst (λ x. k < length x) (encode_four c d) q))
     (cases_lt c 65536))
@@ -148,19 +149,22 @@ starts_none c k s p q =
     by_one : encode c ≡ c ∷ [] → utf8_error_len (take k (encode c)) ≡ None
     by_one e = let h : k < length (c ∷ []) = subst (λ x. k < length x) e q in absurd (omega arith)
 
-    by_two : {a b : ℕ} → encode c ≡ a ∷ b ∷ [] → utf8_error_len (a ∷ []) ≡ None → (k : ℕ) → 0 < k → k < length (a ∷ b ∷ []) → utf8_error_len (take k (encode c)) ≡ None
+    by_two : {a b : ℕ} → encode c ≡ a ∷ b ∷ [] → utf8_error_len (a ∷ []) ≡ None → (k : ℕ) → 0 < k → k < length (a ∷ b ∷ []) →
+        utf8_error_len (take k (encode c)) ≡ None
     by_two e n zero p q = absurd (omega arith)
     by_two e n (suc zero) p q = ap (λ x. utf8_error_len (take 1 x)) e ∙ n
     by_two e n (suc (suc k)) p q = absurd (omega arith)
 
-    by_three : {a b d : ℕ} → encode c ≡ a ∷ b ∷ d ∷ [] → utf8_error_len (a ∷ []) ≡ None → utf8_error_len (a ∷ b ∷ []) ≡ None → (k : ℕ) → 0 < k → k < length (a ∷ b ∷ d ∷ []) →
+    by_three : {a b d : ℕ} → encode c ≡ a ∷ b ∷ d ∷ [] → utf8_error_len (a ∷ []) ≡ None → utf8_error_len (a ∷ b ∷ []) ≡ None → (k : ℕ) →
+        0 < k → k < length (a ∷ b ∷ d ∷ []) →
         utf8_error_len (take k (encode c)) ≡ None
     by_three e n m zero p q = absurd (omega arith)
     by_three e n m (suc zero) p q = ap (λ x. utf8_error_len (take 1 x)) e ∙ n
     by_three e n m (suc (suc zero)) p q = ap (λ x. utf8_error_len (take 2 x)) e ∙ m
     by_three e n m (suc (suc (suc k))) p q = absurd (omega arith)
 
-    by_four : {a b d f : ℕ} → encode c ≡ a ∷ b ∷ d ∷ f ∷ [] → utf8_error_len (a ∷ []) ≡ None → utf8_error_len (a ∷ b ∷ []) ≡ None → utf8_error_len (a ∷ b ∷ d ∷ []) ≡ None → (k : ℕ) → 0 < k →
+    by_four : {a b d f : ℕ} → encode c ≡ a ∷ b ∷ d ∷ f ∷ [] → utf8_error_len (a ∷ []) ≡ None → utf8_error_len (a ∷ b ∷ []) ≡ None →
+        utf8_error_len (a ∷ b ∷ d ∷ []) ≡ None → (k : ℕ) → 0 < k →
         k < length (a ∷ b ∷ d ∷ f ∷ []) → utf8_error_len (take k (encode c)) ≡ None
     by_four e n m o zero p q = absurd (omega arith)
     by_four e n m o (suc zero) p q = ap (λ x. utf8_error_len (take 1 x)) e ∙ n
@@ -212,7 +216,8 @@ no_char bs more c r e s h =
 
 -- Where the bytes after the good text cannot begin a character, no more bytes lengthen it.
 pub valid_broken : (bs more : List ℕ) → is_some (utf8_error_len (drop (utf8_valid_len bs) bs)) ≡ true → utf8_valid_len (bs ++ more) ≡ utf8_valid_len bs
-valid_broken bs more e = ⊎_elim (λ l. absurd (longer l)) (λ l. let k = valid_more bs more in omega arith) (cases_lt (utf8_valid_len bs) (utf8_valid_len (bs ++ more)))
+valid_broken bs more e = ⊎_elim (λ l. absurd (longer l)) (λ l. let k = valid_more bs more in omega arith)
+    (cases_lt (utf8_valid_len bs) (utf8_valid_len (bs ++ more)))
   where
     first : (cs rest tail all : List ℕ) → scalars cs ≡ true → encodes cs ≡ rest → rest ++ tail ≡ drop (utf8_valid_len bs) bs ++ more → 0 < length rest → ⊥
     first [] rest tail all s u h l = let z : length rest ≡ 0 = ap length (sym u) in absurd (omega arith)
@@ -229,10 +234,12 @@ valid_broken bs more e = ⊎_elim (λ l. absurd (longer l)) (λ l. let k = valid
         let front : IsUtf8 (take (utf8_valid_len bs) t) =
         subst IsUtf8 (sym (take-take (utf8_valid_len bs) m (bs ++ more) (omega arith) ∙ take-append-le (utf8_valid_len bs) bs more ln)) (good_front bs) in
         let size : length t ≡ m = length-take-le m (bs ++ more) lm in
-        let rest : IsUtf8 (drop (utf8_valid_len bs) t) = IsUtf8-drop t (utf8_valid_len bs) (good_front (bs ++ more)) (IsCharBoundary-from_take t (utf8_valid_len bs) (good_front (bs ++ more)) (omega arith) front) in
+        let rest : IsUtf8 (drop (utf8_valid_len bs) t) = IsUtf8-drop t (utf8_valid_len bs) (good_front (bs ++ more))
+        (IsCharBoundary-from_take t (utf8_valid_len bs) (good_front (bs ++ more)) (omega arith) front) in
         let tail = drop m (bs ++ more) in
         let all : drop (utf8_valid_len bs) t ++ tail ≡ drop (utf8_valid_len bs) bs ++ more =
-        sym (drop-append-le (utf8_valid_len bs) t tail (omega arith)) ∙ (ap (drop (utf8_valid_len bs)) (take-append-drop m (bs ++ more)) ∙ drop-append-le (utf8_valid_len bs) bs more ln) in
+        sym (drop-append-le (utf8_valid_len bs) t tail (omega arith))
+        ∙ (ap (drop (utf8_valid_len bs)) (take-append-drop m (bs ++ more)) ∙ drop-append-le (utf8_valid_len bs) bs more ln) in
         first rest.0 (drop (utf8_valid_len bs) t) tail [] rest.1.0 rest.1.1 all (omega (arith, length-drop (utf8_valid_len bs) t))
 
 -- what cannot begin a character still cannot when more bytes come

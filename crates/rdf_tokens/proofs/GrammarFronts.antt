@@ -7,7 +7,8 @@ use Rattle.rdf_tokens.specs.Tokens.{Token}
 use Rattle.rdf_tokens.specs.Grammars.{MarkedItem, Viable, PassesNone, IsFront}
 
 -- of two beginnings of a list the longer begins with the other
-longer_begins : (all us after longer rest : List Token) → all ≡ us ++ after → all ≡ longer ++ rest → length us ≤ length longer → (more : List Token) × (longer ≡ us ++ more)
+longer_begins : (all us after longer rest : List Token) → all ≡ us ++ after → all ≡ longer ++ rest → length us ≤ length longer →
+    (more : List Token) × (longer ≡ us ++ more)
 longer_begins all us after longer rest e l size =
     let j = length longer - length us in
     let n : length longer ≡ length us + j = omega arith in (
@@ -49,7 +50,8 @@ module _ {I : Type 0} (documents : List Token → List (MarkedItem I) → Type 0
           ends (viable_front us b.0 (subst (Viable documents) b.1 w)) (none_front us b.0 (subst (PassesNone passes) b.1 m))
 
   -- A front that is not all of the tokens: the next token begins no document, or passes a limit.
-  pub not_whole : (all ahead after : List Token) (t : Token) → all ≡ ahead ++ t ∷ after → (Viable documents (ahead ++ t ∷ []) → PassesNone passes (ahead ++ t ∷ []) → ⊥) →
+  pub not_whole : (all ahead after : List Token) (t : Token) → all ≡ ahead ++ t ∷ after →
+      (Viable documents (ahead ++ t ∷ []) → PassesNone passes (ahead ++ t ∷ []) → ⊥) →
       IsFront documents passes all all → ⊥
   not_whole all ahead after t e ends f =
       let us = ahead ++ t ∷ [] in

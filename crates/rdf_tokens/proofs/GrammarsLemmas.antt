@@ -36,7 +36,8 @@ tokens_count d limit t b p w = by_steps d limit t (λ p w r. counted r.tokens �
     at_end complete q n = omega arith
     at_end o q n = omega arith
 
-    takes : (b : Bool) (p : Place) (w : List ℕ) (n : ℕ) (k : Kind) (r : Reading) → step d limit t (rest_of d b w) ≡ token n k → counted r.tokens ≤ length (drop n (rest_of d b w)) →
+    takes : (b : Bool) (p : Place) (w : List ℕ) (n : ℕ) (k : Kind) (r : Reading) → step d limit t (rest_of d b w) ≡ token n k →
+        counted r.tokens ≤ length (drop n (rest_of d b w)) →
         counted (with_token (record { kind = k; text = take n (rest_of d b w); at = place_of d b p w }) r).tokens ≤ length w
     takes b p w n k r e h =
         let u = rest_of d b w in
@@ -136,7 +137,8 @@ step_complete d limit t w e =
 -- before the end of the input is told, it has not ended
 tail_of-open : (bytes : List ℕ) → tail_of bytes false ≢ ended
 tail_of-open bytes =
-    cond_both (utf8_valid_len bytes == length bytes) goes_on (cond (is_some (utf8_error_len (drop (utf8_valid_len bytes) bytes))) broken goes_on) (λ t. t ≢ ended) (λ h e. cc)
+    cond_both (utf8_valid_len bytes == length bytes) goes_on
+    (cond (is_some (utf8_error_len (drop (utf8_valid_len bytes) bytes))) broken goes_on) (λ t. t ≢ ended) (λ h e. cc)
     (λ h. cond_both (is_some (utf8_error_len (drop (utf8_valid_len bytes) bytes))) broken goes_on (λ t. t ≢ ended) (λ h e. cc) (λ h e. cc))
 
 -- no reading is complete before the end is told

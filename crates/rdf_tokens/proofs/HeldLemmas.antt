@@ -74,7 +74,8 @@ held_grown text new start pending kept piece place taken h m u e k =
     let l = count_by-le-length (λ b. b == 10) piece in
     let w = h.within in
     let a = h.last in
-    let n : length new ≡ length (drop start text) + length (good_bytes (pending ++ piece)) = ap length e ∙ length-append (drop start text) (good_bytes (pending ++ piece)) in
+    let n : length new ≡ length (drop start text) + length (good_bytes (pending ++ piece)) =
+    ap length e ∙ length-append (drop start text) (good_bytes (pending ++ piece)) in
     let g = kept_within (pending ++ piece) kept k in
     record {
       boundary = IsCharBoundary-start new u;
@@ -96,7 +97,8 @@ pub bounded_grown : (text new : List ℕ) (start : ℕ) (pending kept piece : Li
     kept ≡ cond (is_broken (pending ++ piece)) [] (rest_of_bytes (pending ++ piece)) → length text - start + length pending + length piece ≤ most →
     all_bytes new kept ≤ most
 bounded_grown text new start pending kept piece most e k l =
-    let n : length new ≡ length (drop start text) + length (good_bytes (pending ++ piece)) = ap length e ∙ length-append (drop start text) (good_bytes (pending ++ piece)) in
+    let n : length new ≡ length (drop start text) + length (good_bytes (pending ++ piece)) =
+    ap length e ∙ length-append (drop start text) (good_bytes (pending ++ piece)) in
     let g = kept_within (pending ++ piece) kept k in
     omega (arith, n, length-drop start text, length-append pending piece)
 
@@ -123,18 +125,22 @@ module _ (text : List ℕ) (start n len : ℕ) (pending : List ℕ) (place taken
 
   -- the line feeds among the characters are those among the bytes
   pub feeds_advanced : count_by (λ b. b == 10) (take (start + len - start) (drop start text)) ≡ count_by (λ c. c == 10) (take n (chars (drop start text)))
-  feeds_advanced = let c = the_cut in ap (count_by (λ b. b == 10)) front ∙ (feeds-chars (take len (drop start text)) c.front_utf8 ∙ ap (count_by (λ b. b == 10)) c.front)
+  feeds_advanced = let c = the_cut in
+      ap (count_by (λ b. b == 10)) front ∙ (feeds-chars (take len (drop start text)) c.front_utf8 ∙ ap (count_by (λ b. b == 10)) c.front)
 
   module _ (feeds : ℕ) (f : feeds ≡ count_by (λ b. b == 10) (take (start + len - start) (drop start text))) where
-    pub place_advanced : (let q : Place = record { offset = place.offset + len; line = place.line + feeds } in q) ≡ past place (take n (chars (drop start text)))
+    pub place_advanced : (let q : Place = record { offset = place.offset + len; line = place.line + feeds } in q) ≡ past place
+        (take n (chars (drop start text)))
     place_advanced =
         let c = the_cut in
         let size : length (take len (drop start text)) ≡ len = length-take-le len (drop start text) c.within in
         let lines : feeds ≡ count_by (λ b. b == 10) (take len (drop start text)) = f ∙ ap (count_by (λ b. b == 10)) front in
-        let same : (let q : Place = record { offset = place.offset + len; line = place.line + feeds } in q) ≡ beyond place (take len (drop start text)) = at_place (sym size) lines in
+        let same : (let q : Place = record { offset = place.offset + len; line = place.line + feeds } in q) ≡ beyond place
+        (take len (drop start text)) = at_place (sym size) lines in
         same ∙ (sym (past-chars place (take len (drop start text)) c.front_utf8) ∙ ap (past place) c.front)
       where
-        at_place : {m k l : ℕ} → len ≡ m → k ≡ l → (let q : Place = record { offset = place.offset + len; line = place.line + k } in q) ≡ record { offset = place.offset + m; line = place.line + l }
+        at_place : {m k l : ℕ} → len ≡ m → k ≡ l → (let q : Place = record { offset = place.offset + len; line = place.line + k } in q)
+            ≡ record { offset = place.offset + m; line = place.line + l }
         at_place a b = cc
 
     pub held_advanced : Held text (start + len) pending (record { offset = place.offset + len; line = place.line + feeds }) taken
@@ -168,7 +174,8 @@ pub place_after : (text : List ℕ) (start : ℕ) (pending : List ℕ) (place ta
 place_after text start pending place taken h u = sym (past-chars place (drop start text) (IsUtf8-drop text start u h.boundary))
 
 -- how many bytes the rest of the text has, by its characters
-pub size_of_rest : (text : List ℕ) (start : ℕ) → IsCharBoundary text start → IsUtf8 text → length text - start ≡ length (encode_utf8_all (chars (drop start text)))
+pub size_of_rest : (text : List ℕ) (start : ℕ) → IsCharBoundary text start → IsUtf8 text →
+    length text - start ≡ length (encode_utf8_all (chars (drop start text)))
 size_of_rest text start b u = sym (ap length (encodes-chars (drop start text) (IsUtf8-drop text start u b)) ∙ length-drop start text)
 
 pub unread_size : (text : List ℕ) (start : ℕ) (pending : List ℕ) → IsCharBoundary text start → IsUtf8 text →

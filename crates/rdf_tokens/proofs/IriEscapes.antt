@@ -28,18 +28,21 @@ scalar-most : (n : ℕ) → scalar n ≡ true → n ≤ 0x10FFFF
 scalar-most n s = grind (arith)
 
 -- by four digits at a place a character of IRIs is written
-four_allowed : (bs : List ℕ) (from end : ℕ) → IsNumber bs from 4 end → is_iri_four bs (end - 4) ≡ true → has iri_char (hex_number (take 4 (drop from bs))) ≡ true
+four_allowed : (bs : List ℕ) (from end : ℕ) → IsNumber bs from 4 end → is_iri_four bs (end - 4) ≡ true →
+    has iri_char (hex_number (take 4 (drop from bs))) ≡ true
 four_allowed bs from end n t =
     let e = n.hexes.ends in
     let l = n.hexes.within in
     let hex = n.hexes.hexes in
     let at : end - 4 ≡ from = omega arith in
     allowed (hex_number (take 4 (drop from bs))) (get_or bs from 0) (get_or bs (from + 1) 0) (get_or bs (from + 2) 0) (get_or bs (from + 3) 0)
-    (hex from (omega arith) (omega arith)) (hex (from + 1) (omega arith) (omega arith)) n.character (four-at bs from (omega arith)) (subst (λ k. is_iri_four bs k ≡ true) at t)
+    (hex from (omega arith) (omega arith)) (hex (from + 1) (omega arith) (omega arith)) n.character (four-at bs from (omega arith))
+    (subst (λ k. is_iri_four bs k ≡ true) at t)
 
 -- and by eight
 eight_allowed : (bs : List ℕ) (from end : ℕ) → IsNumber bs from 8 end →
-    ((not (get_or bs (from + 2) 0 == 48) || not (get_or bs (from + 3) 0 == 48)) || is_iri_four bs (end - 4)) ≡ true → has iri_char (hex_number (take 8 (drop from bs))) ≡ true
+    ((not (get_or bs (from + 2) 0 == 48) || not (get_or bs (from + 3) 0 == 48)) || is_iri_four bs (end - 4)) ≡ true →
+    has iri_char (hex_number (take 8 (drop from bs))) ≡ true
 eight_allowed bs from end n t =
     let e = n.hexes.ends in
     let l = n.hexes.within in

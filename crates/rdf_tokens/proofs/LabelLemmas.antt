@@ -85,7 +85,17 @@ sorts Turtle = refl
 
 -- all of this together, as the general lemmas on families take it
 abbrev family : Dialect → Family Label Sort
-family d = record { ascii = ascii; high = high; rep = rep; move = move d; meaning = meaning d; classes = classes d; sorts = sorts d; covered = covered d; moves = moves d }
+family d = record {
+  ascii = ascii;
+  high = high;
+  rep = rep;
+  move = move d;
+  meaning = meaning d;
+  classes = classes d;
+  sorts = sorts d;
+  covered = covered d;
+  moves = moves d;
+}
 
 -- a state has a kind exactly where nothing is left to match of the expression of that kind
 kind_of_state : (d : Dialect) (s : Label) → kind_in (LabelNode ∷ []) (meaning d s) ≡ cond (accepts s) (Some LabelNode) None

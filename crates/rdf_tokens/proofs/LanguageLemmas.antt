@@ -12,7 +12,8 @@ use Rattle.rdf_tokens.proofs.GrammarFronts.{viable_front, none_front, front_whol
 
 -- No document within the limits goes on with a token that is refused.
 abbrev pub EndsAtBlame : {I : Type 0} → LanguageOf I → Type 0
-EndsAtBlame l = (reason : Reason) (ts : List Token) (t : Token) → l.blames reason ts t → Viable l.documents (ts ++ t ∷ []) → PassesNone l.passes (ts ++ t ∷ []) → ⊥
+EndsAtBlame l = (reason : Reason) (ts : List Token) (t : Token) → l.blames reason ts t → Viable l.documents (ts ++ t ∷ []) →
+    PassesNone l.passes (ts ++ t ∷ []) → ⊥
 
 -- a beginning of what is read to its end goes on
 front_goes_on : {I : Type 0} (l : LanguageOf I) (front rest : List ℕ) → IsWhole l (front ++ rest) → GoesOn l front
@@ -41,7 +42,8 @@ pub read_to_its_end : {I : Type 0} (l : LanguageOf I) (bytes : List ℕ) → IsW
 read_to_its_end l bytes w = record { whole = w; fronts = λ front rest e. front_goes_on l front rest (subst (IsWhole l) e w) }
 
 -- The tokens of a document of which none passes a limit are all in the front.
-pub document_whole : {I : Type 0} (l : LanguageOf I) (bytes : List ℕ) (qs : List I) → IsDocumentOf l bytes qs → PassesNone l.passes (reading_of l bytes true).tokens → IsWhole l bytes
+pub document_whole : {I : Type 0} (l : LanguageOf I) (bytes : List ℕ) (qs : List I) → IsDocumentOf l bytes qs →
+    PassesNone l.passes (reading_of l bytes true).tokens → IsWhole l bytes
 document_whole l bytes qs d k =
     let ts = (reading_of l bytes true).tokens in
     record { ends = d.0; front = front_whole l.documents l.passes ts ([], d.1, subst (λ us. l.documents us d.1) (sym (append-nil ts)) d.2) k }
@@ -53,26 +55,31 @@ document_read l bytes qs d w = read_to_its_end l bytes (document_whole l bytes q
 module _ {I : Type 0} (l : LanguageOf I) (ends : EndsAtBlame l) where
   module _ (bytes more : List ℕ) (e : Bool) where
     -- where a reading has stopped it stays so
-    stops_more : (why : Outcome) (at : Place) (ahead : List Token) → why ≢ undecided → StopsAt l (reading_of l bytes false) why at ahead → StopsAt l (reading_of l (bytes ++ more) e) why at ahead
+    stops_more : (why : Outcome) (at : Place) (ahead : List Token) → why ≢ undecided → StopsAt l (reading_of l bytes false) why at ahead →
+        StopsAt l (reading_of l (bytes ++ more) e) why at ahead
     stops_more why at ahead d s = subst (λ r. StopsAt l r why at ahead) (sym ((lengthens l.dialect l.limit bytes more e).1 (λ z. d (sym s.outcome ∙ z)))) s
 
     -- a token that was refused stays so
-    refuses_more : (reason : Reason) (at : Place) (ahead : List Token) → RefusesAt l (reading_of l bytes false) reason at ahead → RefusesAt l (reading_of l (bytes ++ more) e) reason at ahead
+    refuses_more : (reason : Reason) (at : Place) (ahead : List Token) → RefusesAt l (reading_of l bytes false) reason at ahead →
+        RefusesAt l (reading_of l (bytes ++ more) e) reason at ahead
     refuses_more reason at ahead y =
         let m = (lengthens l.dialect l.limit bytes more e).0 in
         let rest = y.after ++ m.0 in
-        let all : (reading_of l (bytes ++ more) e).tokens ≡ ahead ++ y.token ∷ rest = m.1 ∙ (ap (λ ts. ts ++ m.0) y.tokens ∙ append_assoc ahead (y.token ∷ y.after) m.0) in
+        let all : (reading_of l (bytes ++ more) e).tokens ≡ ahead ++ y.token ∷ rest =
+        m.1 ∙ (ap (λ ts. ts ++ m.0) y.tokens ∙ append_assoc ahead (y.token ∷ y.after) m.0) in
         record {
           token = y.token;
           after = rest;
           tokens = all;
           place = y.place;
-          front = front_before l.documents l.passes (reading_of l (bytes ++ more) e).tokens ahead rest y.token all y.front.viable y.front.kept (ends reason ahead y.token y.because);
+          front = front_before l.documents l.passes (reading_of l (bytes ++ more) e).tokens ahead rest y.token all y.front.viable
+              y.front.kept (ends reason ahead y.token y.because);
           because = y.because;
         }
 
     -- More bytes, or the end, change nothing of a refusal.
-    pub refused_in_more : (reason : Reason) (at : Place) (ahead : List Token) → RefusedIn l (reading_of l bytes false) reason at ahead → RefusedIn l (reading_of l (bytes ++ more) e) reason at ahead
+    pub refused_in_more : (reason : Reason) (at : Place) (ahead : List Token) → RefusedIn l (reading_of l bytes false) reason at ahead →
+        RefusedIn l (reading_of l (bytes ++ more) e) reason at ahead
     refused_in_more BadUtf8 at ahead s = stops_more bad_utf8 at ahead (λ x. cc) s
     refused_in_more NoToken at ahead s = stops_more no_token at ahead (λ x. cc) s
     refused_in_more BadEscape at ahead s = stops_more bad_escape at ahead (λ x. cc) s
@@ -84,7 +91,8 @@ module _ {I : Type 0} (l : LanguageOf I) (ends : EndsAtBlame l) where
     refused_in_more reason at ahead y = refuses_more reason at ahead y
 
     -- What begins what is due in the bytes does so in more.
-    pub due_more : (qs : List I) → BeginsDue l.documents l.passes (reading_of l bytes false).tokens qs → BeginsDue l.documents l.passes (reading_of l (bytes ++ more) e).tokens qs
+    pub due_more : (qs : List I) → BeginsDue l.documents l.passes (reading_of l bytes false).tokens qs →
+        BeginsDue l.documents l.passes (reading_of l (bytes ++ more) e).tokens qs
     due_more qs d =
         let m = (lengthens l.dialect l.limit bytes more e).0 in
         record {
@@ -97,7 +105,8 @@ module _ {I : Type 0} (l : LanguageOf I) (ends : EndsAtBlame l) where
         }
 
   -- Where all tokens are in the front, and the outcome is open or complete, nothing is refused.
-  pub none_refused : (r : Reading) (o : Outcome) (reason : Reason) (at : Place) (ahead : List Token) → (o ≡ undecided) ⊎ (o ≡ complete) → InFront l r o → RefusedIn l r reason at ahead → ⊥
+  pub none_refused : (r : Reading) (o : Outcome) (reason : Reason) (at : Place) (ahead : List Token) → (o ≡ undecided) ⊎ (o ≡ complete) →
+      InFront l r o → RefusedIn l r reason at ahead → ⊥
   none_refused r o reason at ahead k a y = by reason y
     where
       stopped : (why : Outcome) → why ≢ undecided → why ≢ complete → r.outcome ≡ why → ⊥
@@ -115,6 +124,7 @@ module _ {I : Type 0} (l : LanguageOf I) (ends : EndsAtBlame l) where
       by reason y = not_whole l.documents l.passes r.tokens ahead y.after y.token y.tokens (ends reason ahead y.token y.because) a.front
 
   -- What is refused is no document within the limits.
-  pub refused_no_document : (bytes : List ℕ) (qs : List I) (reason : Reason) (at : Place) → Refused l bytes true reason at → IsDocumentOf l bytes qs → IsWithin l bytes → ⊥
+  pub refused_no_document : (bytes : List ℕ) (qs : List I) (reason : Reason) (at : Place) → Refused l bytes true reason at →
+      IsDocumentOf l bytes qs → IsWithin l bytes → ⊥
   refused_no_document bytes qs reason at x d w =
       none_refused (reading_of l bytes true) complete reason at x.0 (inr refl) (document_whole l bytes qs d w.limits) x.1

@@ -91,7 +91,8 @@ has_given_end = record {
 -- after the end it reports that it has ended
 no_more : IsNext (tokens_of Turtle 8 (49 ∷ 32 ∷ 46 ∷ []) true) (one ∷ dot ∷ end ∷ []) (Err (record { reason = Ended; offset = 3; line = 1 }))
 unfolding given_end
-no_more = next_given given_end given_end (49 ∷ 32 ∷ 46 ∷ []) (one ∷ dot ∷ end ∷ []) (Err (record { reason = Ended; offset = 3; line = 1 })) has_given_end (refl, refl)
+no_more = next_given given_end given_end (49 ∷ 32 ∷ 46 ∷ []) (one ∷ dot ∷ end ∷ [])
+    (Err (record { reason = Ended; offset = 3; line = 1 })) has_given_end (refl, refl)
 
 -- the dot stands at its place, and has its shape
 dot_stands : StandsIn (49 ∷ 32 ∷ 46 ∷ []) dot
@@ -115,7 +116,8 @@ last_is_end =
 -- the integer keeps the limit
 one_is_short : length one.text ≤ 8
 one_is_short =
-    All-head (λ t. length t.text ≤ 8) one (dot ∷ end ∷ []) (subst (λ r. All (λ t. length t.text ≤ 8) r.tokens) read_whole (no_longer Turtle 8 (49 ∷ 32 ∷ 46 ∷ []) true))
+    All-head (λ t. length t.text ≤ 8) one (dot ∷ end ∷ [])
+    (subst (λ r. All (λ t. length t.text ≤ 8) r.tokens) read_whole (no_longer Turtle 8 (49 ∷ 32 ∷ 46 ∷ []) true))
 
 -- the longest front of `1` is the integer
 one_is_longest : IsLongest Turtle (49 ∷ []) 1 Integer

@@ -40,7 +40,8 @@ module _ (d : Dialect) (limit : ℕ) (t : Tail) (P : Place → List ℕ → Read
   by_fuel zero b p w l = absurd (omega arith)
   by_fuel (suc f) b p w l = at (step d limit t (rest_of d b w)) refl (λ p w l. by_fuel f false p w l)
     where
-      at : (s : Step) → step d limit t (rest_of d b w) ≡ s → ((p : Place) (w : List ℕ) → length w < f → P p w (tokens d limit t false p w)) → P p w (tokens d limit t b p w)
+      at : (s : Step) → step d limit t (rest_of d b w) ≡ s →
+          ((p : Place) (w : List ℕ) → length w < f → P p w (tokens d limit t false p w)) → P p w (tokens d limit t b p w)
       at (stop o) e h = subst (P p w) (sym (at_stop d limit t b p w o e)) (stops b p w o e)
       at (token n k) e h =
           let s = shorter d limit t b w n k e in
@@ -63,11 +64,13 @@ have_shapes d limit bytes e =
     subst (λ r. All (IsToken d) r.tokens) (sym (tokens_of-tokens d limit bytes e))
     (by_steps d limit (tail_of bytes e) (λ p w r. All (IsToken d) r.tokens) stops takes false _ _)
   where
-    stops : (b : Bool) (p : Place) (w : List ℕ) (o : Outcome) → step d limit (tail_of bytes e) (rest_of d b w) ≡ stop o → All (IsToken d) (end_tokens o (place_of d b p w))
+    stops : (b : Bool) (p : Place) (w : List ℕ) (o : Outcome) → step d limit (tail_of bytes e) (rest_of d b w) ≡ stop o →
+        All (IsToken d) (end_tokens o (place_of d b p w))
     stops b p w complete h = All-cons (IsToken d) (record { kind = End; text = []; at = place_of d b p w }) [] (inl (refl, refl)) (All-nil (IsToken d))
     stops b p w o h = All-nil (IsToken d)
 
-    takes : (b : Bool) (p : Place) (w : List ℕ) (n : ℕ) (k : Kind) (r : Reading) → step d limit (tail_of bytes e) (rest_of d b w) ≡ token n k → All (IsToken d) r.tokens →
+    takes : (b : Bool) (p : Place) (w : List ℕ) (n : ℕ) (k : Kind) (r : Reading) →
+        step d limit (tail_of bytes e) (rest_of d b w) ≡ token n k → All (IsToken d) r.tokens →
         All (IsToken d) (record { kind = k; text = take n (rest_of d b w); at = place_of d b p w } ∷ r.tokens)
     takes b p w n k r h a =
         let q = step-token d limit (tail_of bytes e) (rest_of d b w) n k h in
@@ -84,11 +87,16 @@ end_last d limit bytes e =
     stops : (b : Bool) (p : Place) (w : List ℕ) (o : Outcome) → step d limit (tail_of bytes e) (rest_of d b w) ≡ stop o →
         EndsWell (record { tokens = end_tokens o (place_of d b p w); outcome = o; at = stop_place o (place_of d b p w) (rest_of d b w) })
     stops b p w complete h = record { whole = λ h. ([], refl, All-nil NoEnd); part = λ h. absurd (h refl) }
-    stops b p w undecided h = none undecided (place_of d b p w) (stop_place undecided (place_of d b p w) (rest_of d b w)) refl (λ x. let h : undecided ≡ complete = x in cc)
-    stops b p w token_too_long h = none token_too_long (place_of d b p w) (stop_place token_too_long (place_of d b p w) (rest_of d b w)) refl (λ x. let h : token_too_long ≡ complete = x in cc)
-    stops b p w bad_utf8 h = none bad_utf8 (place_of d b p w) (stop_place bad_utf8 (place_of d b p w) (rest_of d b w)) refl (λ x. let h : bad_utf8 ≡ complete = x in cc)
-    stops b p w no_token h = none no_token (place_of d b p w) (stop_place no_token (place_of d b p w) (rest_of d b w)) refl (λ x. let h : no_token ≡ complete = x in cc)
-    stops b p w bad_escape h = none bad_escape (place_of d b p w) (stop_place bad_escape (place_of d b p w) (rest_of d b w)) refl (λ x. let h : bad_escape ≡ complete = x in cc)
+    stops b p w undecided h = none undecided (place_of d b p w) (stop_place undecided (place_of d b p w) (rest_of d b w)) refl
+        (λ x. let h : undecided ≡ complete = x in cc)
+    stops b p w token_too_long h = none token_too_long (place_of d b p w)
+        (stop_place token_too_long (place_of d b p w) (rest_of d b w)) refl (λ x. let h : token_too_long ≡ complete = x in cc)
+    stops b p w bad_utf8 h = none bad_utf8 (place_of d b p w) (stop_place bad_utf8 (place_of d b p w) (rest_of d b w)) refl
+        (λ x. let h : bad_utf8 ≡ complete = x in cc)
+    stops b p w no_token h = none no_token (place_of d b p w) (stop_place no_token (place_of d b p w) (rest_of d b w)) refl
+        (λ x. let h : no_token ≡ complete = x in cc)
+    stops b p w bad_escape h = none bad_escape (place_of d b p w) (stop_place bad_escape (place_of d b p w) (rest_of d b w)) refl
+        (λ x. let h : bad_escape ≡ complete = x in cc)
 
     takes : (b : Bool) (p : Place) (w : List ℕ) (n : ℕ) (k : Kind) (r : Reading) → step d limit (tail_of bytes e) (rest_of d b w) ≡ token n k → EndsWell r →
         EndsWell (with_token (record { kind = k; text = take n (rest_of d b w); at = place_of d b p w }) r)
@@ -255,13 +263,15 @@ places d limit bytes e =
     start = record {
       front = [];
       rest = drop (utf8_valid_len bytes) bytes;
-      whole = sym (ap (λ x. x ++ drop (utf8_valid_len bytes) bytes) (encodes-chars (take (utf8_valid_len bytes) bytes) (good_front bytes)) ∙ take-append-drop (utf8_valid_len bytes) bytes);
+      whole = sym (ap (λ x. x ++ drop (utf8_valid_len bytes) bytes) (encodes-chars (take (utf8_valid_len bytes) bytes) (good_front bytes))
+          ∙ take-append-drop (utf8_valid_len bytes) bytes);
       place = refl;
     }
 
     -- the outcome at a place
     at : (o : Outcome) (q : Place) (w : List ℕ) → Reaches bytes q w → All (StandsIn bytes) (end_tokens o q) × IsPlaceIn bytes (stop_place o q w)
-    at complete q w h = (All-cons (StandsIn bytes) (record { kind = End; text = []; at = q }) [] (stands bytes q w 0 End h) (All-nil (StandsIn bytes)), is_place bytes q w h)
+    at complete q w h =
+        (All-cons (StandsIn bytes) (record { kind = End; text = []; at = q }) [] (stands bytes q w 0 End h) (All-nil (StandsIn bytes)), is_place bytes q w h)
     at bad_utf8 q w h =
         let m = moves_on bytes q w (length w) h in
         let p : past q (take (length w) w) ≡ past q w = ap (past q) (take_all (length w) w (omega arith)) in
@@ -280,5 +290,8 @@ places d limit bytes e =
         Placed bytes p w (with_token (record { kind = k; text = take n (rest_of d b w); at = place_of d b p w }) r)
     takes b p w n k r s a = λ h.
         let m = moves_on bytes p w (blank d b w) h in
-        let x = a (moves_on bytes (place_of d b p w) (rest_of d b w) n m) in
-        (All-cons (StandsIn bytes) (record { kind = k; text = take n (rest_of d b w); at = place_of d b p w }) r.tokens (stands bytes (place_of d b p w) (rest_of d b w) n k m) x.0, x.1)
+        let x = a (moves_on bytes (place_of d b p w) (rest_of d b w) n m) in (
+          All-cons (StandsIn bytes) (record { kind = k; text = take n (rest_of d b w); at = place_of d b p w }) r.tokens
+              (stands bytes (place_of d b p w) (rest_of d b w) n k m) x.0,
+          x.1,
+        )

@@ -66,16 +66,19 @@ step_within d limit t w n k e = ⊎_elim (λ h. absurd (too_long h)) (λ h. h) (
 -- the law for all tokens of some bytes
 pub no_longer : (d : Dialect) (limit : ℕ) (bytes : List ℕ) (e : Bool) → All (λ t. length t.text ≤ limit) (tokens_of d limit bytes e).tokens
 no_longer d limit bytes e =
-    subst (λ r. All Short r.tokens) (sym (tokens_of-tokens d limit bytes e)) (by_steps d limit (tail_of bytes e) (λ p w r. All Short r.tokens) stops takes false _ _)
+    subst (λ r. All Short r.tokens) (sym (tokens_of-tokens d limit bytes e))
+    (by_steps d limit (tail_of bytes e) (λ p w r. All Short r.tokens) stops takes false _ _)
   where
     Short : Token → Type 0
     Short t = length t.text ≤ limit
 
-    stops : (b : Bool) (p : Place) (w : List ℕ) (o : Outcome) → step d limit (tail_of bytes e) (rest_of d b w) ≡ stop o → All Short (end_tokens o (place_of d b p w))
+    stops : (b : Bool) (p : Place) (w : List ℕ) (o : Outcome) → step d limit (tail_of bytes e) (rest_of d b w) ≡ stop o →
+        All Short (end_tokens o (place_of d b p w))
     stops b p w complete h = All-cons Short (record { kind = End; text = []; at = place_of d b p w }) [] (omega arith) (All-nil Short)
     stops b p w o h = All-nil Short
 
-    takes : (b : Bool) (p : Place) (w : List ℕ) (n : ℕ) (k : Kind) (r : Reading) → step d limit (tail_of bytes e) (rest_of d b w) ≡ token n k → All Short r.tokens →
+    takes : (b : Bool) (p : Place) (w : List ℕ) (n : ℕ) (k : Kind) (r : Reading) →
+        step d limit (tail_of bytes e) (rest_of d b w) ≡ token n k → All Short r.tokens →
         All Short (record { kind = k; text = take n (rest_of d b w); at = place_of d b p w } ∷ r.tokens)
     takes b p w n k r h a =
         let s = step_token d limit (tail_of bytes e) (rest_of d b w) n k h in

@@ -49,7 +49,8 @@ rests_in bs at end l = record {
 }
 
 -- one byte of ASCII on
-low_on : (d : Dialect) (bs : List ℕ) (at x : ℕ) (s t : State) (b : Option (ℕ × Kind)) → at < length bs → get_or bs at 0 ≡ x → x < 128 → step d s x ≡ t → Reached d bs at s b →
+low_on : (d : Dialect) (bs : List ℕ) (at x : ℕ) (s t : State) (b : Option (ℕ × Kind)) → at < length bs → get_or bs at 0 ≡ x → x < 128 →
+    step d s x ≡ t → Reached d bs at s b →
     Reached d bs (at + 1) t (with_length (at + 1) (kind_here d bs t) b)
 low_on d bs at x s t b i e a es r =
     let c = get_or bs at 0 in
@@ -58,7 +59,8 @@ low_on d bs at x s t b i e a es r =
     (omega (arith, ap length (encode_ascii c l), length-encode c)) (omega arith) (sym (ap (step d s) e ∙ es)) refl refl
 
 -- the same to a state without a kind
-low_past : (d : Dialect) (bs : List ℕ) (at x : ℕ) (s t : State) (b : Option (ℕ × Kind)) → at < length bs → get_or bs at 0 ≡ x → x < 128 → step d s x ≡ t → kind_at t ≡ None →
+low_past : (d : Dialect) (bs : List ℕ) (at x : ℕ) (s t : State) (b : Option (ℕ × Kind)) → at < length bs → get_or bs at 0 ≡ x → x < 128 →
+    step d s x ≡ t → kind_at t ≡ None →
     Reached d bs at s b → Reached d bs (at + 1) t b
 low_past d bs at x s t b i e a es z r = byte_on d bs at s t b i (omega (arith, e, a)) (ap (step d s) e ∙ es) z r
 
@@ -126,12 +128,16 @@ run_in bs at end r l n =
       from = l;
       within = w;
       on = λ d b h.
-          let in_local = local-state _ (other (c == 45) _ (implied (is_name_byte c) _ (agree_below_at (colon_tests d) (λ c. true) 128 c (colon_all d) low) e) (no_hyphen c n)) in
-          (rests_local bs (at + 1) end (after_first bs at end r l)).on d b (low_on d bs at c (Name name.Colon) (Name name.Local) b (omega arith) refl low in_local h);
+          let in_local =
+          local-state _ (other (c == 45) _
+          (implied (is_name_byte c) _ (agree_below_at (colon_tests d) (λ c. true) 128 c (colon_all d) low) e) (no_hyphen c n)) in
+          (rests_local bs (at + 1) end (after_first bs at end r l)).on d b
+          (low_on d bs at c (Name name.Colon) (Name name.Local) b (omega arith) refl low in_local h);
     }
 
 -- a name whose local part is such a run
-pub quick_local : (bs : List ℕ) (colon end : ℕ) → IsUtf8 bs → IsPrefix bs colon → is_colon bs colon ≡ true → IsRun is_name_byte bs (colon + 1) end → is_name_end bs end ≡ true →
+pub quick_local : (bs : List ℕ) (colon end : ℕ) → IsUtf8 bs → IsPrefix bs colon → is_colon bs colon ≡ true →
+    IsRun is_name_byte bs (colon + 1) end → is_name_end bs end ≡ true →
     (end ≡ colon + 1 → ⊥) → (get_or bs (colon + 1) 0 ≡ 45 → ⊥) → IsToken Turtle bs end PnameLn
 quick_local bs colon end u p m q z n h =
     let from = q.from in
@@ -148,7 +154,12 @@ colon_in bs at z = (from name.Colon (λ d. refl), from name.Local (λ d. refl))
     from : (n : _) → ((d : Dialect) → step d (Name n) 58 ≡ Name name.Local) → LeadsIn (Name n) bs at (at + 1)
     from n e =
         let t = there 58 bs at z in
-        record { from = omega arith; within = let i = t.0 in omega arith; on = λ d b h. low_on d bs at 58 (Name n) (Name name.Local) b t.0 t.1 (omega arith) (e d) h }
+        record {
+          from = omega arith;
+          within = let i = t.0 in
+              omega arith;
+          on = λ d b h. low_on d bs at 58 (Name n) (Name name.Local) b t.0 t.1 (omega arith) (e d) h;
+        }
 
 -- the state between the two digits of a PERCENT
 abbrev at_second : State → Bool
@@ -167,7 +178,8 @@ hex_all : (d : Dialect) → agree_below (hex_tests d) (λ c. true) 128 ≡ true
 hex_all Lines = refl
 hex_all Turtle = refl
 
-hex_steps : (d : Dialect) (c : ℕ) → is_hex c ≡ true → (c < 128) × (step d (Name (name.Hex 1)) c ≡ Name (name.Hex 0)) × (step d (Name (name.Hex 0)) c ≡ Name name.Local)
+hex_steps : (d : Dialect) (c : ℕ) → is_hex c ≡ true → (c < 128) × (step d (Name (name.Hex 1)) c ≡ Name (name.Hex 0))
+    × (step d (Name (name.Hex 0)) c ≡ Name name.Local)
 hex_steps d c e =
     let low : c < 128 = grind (arith, nat_tests) in
     let p = and_parts _ _ (implied (is_hex c) _ (agree_below_at (hex_tests d) (λ c. true) 128 c (hex_all d) low) e) in
@@ -198,7 +210,8 @@ percent_in bs at z = (from name.Colon (λ d. refl), from name.Local (λ d. refl)
               let hy = hex_steps d y two.1 in
               let first = low_past d bs at 37 (Name n) (Name (name.Hex 1)) b t.0 t.1 (omega arith) (e d) refl h in
               let second = low_past d bs (at + 1) x (Name (name.Hex 1)) (Name (name.Hex 0)) b i refl hx.0 hx.1 refl first in
-              let third = low_on d bs (at + 2) y (Name (name.Hex 0)) (Name name.Local) b j refl hy.0 hy.2 (subst (λ m. Reached d bs m (Name (name.Hex 0)) b) next second) in
+              let third = low_on d bs (at + 2) y (Name (name.Hex 0)) (Name name.Local) b j refl hy.0 hy.2
+              (subst (λ m. Reached d bs m (Name (name.Hex 0)) b) next second) in
               subst (λ m. Reached d bs m (Name name.Local) (with_length m (kind_here d bs (Name name.Local)) b)) last third;
         }
 
@@ -233,7 +246,8 @@ escape_in bs at z = (from name.Colon (λ d. refl), from name.Local (λ d. refl))
           on = λ d b h.
               let c = get_or bs (at + 1) 0 in
               let low = low_escape c q.1 in
-              let back : step d (Name name.Escape) c ≡ Name name.Local = local-state _ (implied (has local_escape c) _ (agree_below_at (escape_tests d) (λ c. true) 128 c (escape_all d) low) q.1) in
+              let back : step d (Name name.Escape) c ≡ Name name.Local = local-state _
+              (implied (has local_escape c) _ (agree_below_at (escape_tests d) (λ c. true) 128 c (escape_all d) low) q.1) in
               let first = low_past d bs at 92 (Name n) (Name name.Escape) b t.0 t.1 (omega arith) (e d) refl h in
               subst (λ m. Reached d bs m (Name name.Local) (with_length m (kind_here d bs (Name name.Local)) b)) last
               (low_on d bs (at + 1) c (Name name.Escape) (Name name.Local) b i refl low back first);
@@ -242,7 +256,8 @@ escape_in bs at z = (from name.Colon (λ d. refl), from name.Local (λ d. refl))
 -- a letter from U+0080 on leads there from the colon on and from within
 base_sort : (c : ℕ) → 128 ≤ c → is_base c ≡ true → cond (nat_lt c 128) (ascii c) (high (wide_of c)) ≡ sort.Letter
 unfolding wide_of
-base_sort c l e = cond-false (nat_lt c 128) (ascii c) (high (wide_of c)) (le-ltb c 128 l) ∙ ap high (cond-true (is_base c) Letter (cond (is_mark c) Mark Other) e)
+base_sort c l e = cond-false (nat_lt c 128) (ascii c) (high (wide_of c)) (le-ltb c 128 l)
+    ∙ ap high (cond-true (is_base c) Letter (cond (is_mark c) Mark Other) e)
 
 base_colon : (d : Dialect) (c : ℕ) → 128 ≤ c → is_base c ≡ true → step d (Name name.Colon) c ≡ Name name.Local
 base_colon d c l e = ap (λ x. Name (move d name.Colon x)) (base_sort c l e)
@@ -289,7 +304,8 @@ letter bs at n u e l = (c, by_sizes sizes.1)
     b : ℕ
     b = get_or bs (at + 1) 0
 
-    sizes : (nat_lt (at + 1) (length bs) ≡ true) × (((begins_two a b ≡ true) × (n ≡ 2)) ⊎ (((nat_lt (at + 2) (length bs) && begins_three a b) ≡ true) × (n ≡ 3)))
+    sizes : (nat_lt (at + 1) (length bs) ≡ true)
+        × (((begins_two a b ≡ true) × (n ≡ 2)) ⊎ (((nat_lt (at + 2) (length bs) && begins_three a b) ≡ true) × (n ≡ 3)))
     sizes = lens _ (begins_two a b) (nat_lt (at + 2) (length bs) && begins_three a b) n e l
 
     inside : at + 1 < length bs
@@ -338,7 +354,8 @@ letter bs at n u e l = (c, by_sizes sizes.1)
         (λ m. ⊎_elim
         (λ (o : c < 65536).
         let is = encode_three c m o in
-        told 3 s (ap length is) w (three_base c m o (sym (ap (λ x. begins_three x b) (lead _ _ is) ∙ ap (begins_three (224 + c / 4096)) (second _ _ _ is)) ∙ k)))
+        told 3 s (ap length is) w
+        (three_base c m o (sym (ap (λ x. begins_three x b) (lead _ _ is) ∙ ap (begins_three (224 + c / 4096)) (second _ _ _ is)) ∙ k)))
         (λ o. absurd (let first = three_first a b k in omega (arith, first, lead _ _ (encode_four c o))))
         (cases_lt c 65536))
         (cases_lt c 2048)
@@ -355,7 +372,8 @@ letter_within bs at n e l = ⊎_elim some (λ (z : n ≤ 0). omega arith) (cases
   where
     some : 0 < n → at + n ≤ length bs
     some o =
-        let s = lens _ (begins_two (get_or bs at 0) (get_or bs (at + 1) 0)) (nat_lt (at + 2) (length bs) && begins_three (get_or bs at 0) (get_or bs (at + 1) 0)) n e o in
+        let s = lens _ (begins_two (get_or bs at 0) (get_or bs (at + 1) 0))
+        (nat_lt (at + 2) (length bs) && begins_three (get_or bs at 0) (get_or bs (at + 1) 0)) n e o in
         let i = ltb-true (at + 1) (length bs) s.0 in
         ⊎_elim
         (λ h. let z = h.1 in omega arith)
@@ -376,5 +394,6 @@ letter_in bs at n e i l = (from name.Colon base_colon, from name.Local base_loca
       on = λ d b r.
           let x = letter bs at n r.here.utf8 e l in
           let k = kind_here d bs (Name name.Local) in
-          reached-step d bs at (at + n) x.0 (Name s) (Name name.Local) k b (with_length (at + n) k b) r x.1.is x.1.width within (sym (to d x.0 x.1.wide x.1.base)) refl refl;
+          reached-step d bs at (at + n) x.0 (Name s) (Name name.Local) k b (with_length (at + n) k b) r x.1.is x.1.width within
+          (sym (to d x.0 x.1.wide x.1.base)) refl refl;
     }

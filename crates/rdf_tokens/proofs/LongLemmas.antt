@@ -61,12 +61,14 @@ high-step d q c l =
     plain Single = refl
 
 -- so a character that begins with a byte that the run goes over does
-inner-step : (d : Dialect) (q : Quote) (c b : ℕ) → get_or (encode_utf8 c) 0 0 ≡ b → goes_over (long_run q) b ≡ true → step d (Text (text.LongOneQuote q)) c ≡ Text (text.Long q)
+inner-step : (d : Dialect) (q : Quote) (c b : ℕ) → get_or (encode_utf8 c) 0 0 ≡ b → goes_over (long_run q) b ≡ true →
+    step d (Text (text.LongOneQuote q)) c ≡ Text (text.Long q)
 inner-step d q c b e p =
     ⊎_elim
     (λ (l : c < 128).
     let same : b ≡ c = sym e ∙ ap (λ w. get_or w 0 0) (encode_ascii c l) in
-    long-state q _ (implied (goes_over (long_run q) c) _ (agree_below_at (inner_tests d q) (λ c. true) 128 c (inner_all d q) l) (ap (goes_over (long_run q)) (sym same) ∙ p)))
+    long-state q _ (implied (goes_over (long_run q) c) _ (agree_below_at (inner_tests d q) (λ c. true) 128 c (inner_all d q) l)
+    (ap (goes_over (long_run q)) (sym same) ∙ p)))
     (λ l. high-step d q c l)
     (cases_lt c 128)
 
@@ -90,13 +92,15 @@ ends_low Double x e = long_below 34 x (omega arith) e
 ends_low Single x e = long_below 39 x (omega arith) e
 
 -- A quote, and a run of some bytes after it.
-module _ (q : Quote) (bs : List ℕ) (at end : ℕ) (z : stands_at (quote_byte q) bs at ≡ true) (r : IsRun (goes_over (long_run q)) bs (at + 1) end) (some : at + 1 < end) where
+module _ (q : Quote) (bs : List ℕ) (at end : ℕ) (z : stands_at (quote_byte q) bs at ≡ true)
+    (r : IsRun (goes_over (long_run q)) bs (at + 1) end) (some : at + 1 < end) where
   -- the states over them
   quoted_on : (d : Dialect) (b : Option (ℕ × Kind)) → Reached d bs at (Text (text.Long q)) b → Reached d bs end (Text (text.Long q)) b
   quoted_on d b x =
       let s = Text (text.Long q) in
       let t = there (quote_byte q) bs at z in
-      let one = byte_on d bs at s (Text (text.LongOneQuote q)) b t.0 (subst (λ c. c < 128) (sym t.1) (low_quote q)) (ap (step d s) t.1 ∙ quote-step d q) refl x in
+      let one = byte_on d bs at s (Text (text.LongOneQuote q)) b t.0 (subst (λ c. c < 128) (sym t.1) (low_quote q))
+      (ap (step d s) t.1 ∙ quote-step d q) refl x in
       let low = λ (a : 128 ≤ get_or bs (at + 1) 0) (inside : end < length bs). ends_low q (get_or bs end 0) (r.stops inside) in
       let u = one.here.utf8 in
       let c = the_char bs (at + 1) end r.within low some u in
@@ -105,7 +109,8 @@ module _ (q : Quote) (bs : List ℕ) (at end : ℕ) (z : stands_at (quote_byte q
       let none = sym (no_long (three_quotes d (chars bs))) in
       let rest : IsRun (goes_over (long_run q)) bs next end =
       record { from = whole; within = r.within; pass = λ k from to. r.pass k (omega arith) to; stops = r.stops } in
-      let after = reached-step d bs (at + 1) next c (Text (text.LongOneQuote q)) s None b b one (char_is bs (at + 1) end r.within low some u) refl (omega (arith, whole, r.within))
+      let after = reached-step d bs (at + 1) next c (Text (text.LongOneQuote q)) s None b b one
+      (char_is bs (at + 1) end r.within low some u) refl (omega (arith, whole, r.within))
       (sym (inner-step d q c (get_or bs (at + 1) 0) (char_lead bs (at + 1) end r.within low some u) (r.pass (at + 1) (omega arith) some))) none refl in
       reached-run d bs next end s None b none (rests_long q bs next end rest) after
 

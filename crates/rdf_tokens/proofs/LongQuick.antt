@@ -37,22 +37,26 @@ three_ascii q l (suc (suc zero)) = l
 three_ascii q l (suc (suc (suc i))) = omega arith
 
 -- three bytes after a place, one by one
-take-three : (t : List ℕ) (n q : ℕ) → n + 3 ≤ length t → get_or t n 0 ≡ q → get_or t (n + 1) 0 ≡ q → get_or t (n + 2) 0 ≡ q → take (n + 3) t ≡ take n t ++ (q ∷ q ∷ q ∷ [])
+take-three : (t : List ℕ) (n q : ℕ) → n + 3 ≤ length t → get_or t n 0 ≡ q → get_or t (n + 1) 0 ≡ q → get_or t (n + 2) 0 ≡ q →
+    take (n + 3) t ≡ take n t ++ (q ∷ q ∷ q ∷ [])
 take-three t n q l a b c =
     let e1 : n + 1 ≡ suc n = omega arith in
     let e2 : n + 2 ≡ suc (n + 1) = omega arith in
     let e3 : n + 3 ≡ suc (n + 2) = omega arith in
     let one : take (n + 1) t ≡ take n t ++ (q ∷ []) = ap (λ k. take k t) e1 ∙ (take-suc t n 0 (omega arith) ∙ ap (λ c. take n t ++ (c ∷ [])) a) in
     let two : take (n + 2) t ≡ take n t ++ (q ∷ q ∷ []) =
-    ap (λ k. take k t) e2 ∙ (take-suc t (n + 1) 0 (omega arith) ∙ (ap (λ c. take (n + 1) t ++ (c ∷ [])) b ∙ (ap (λ w. w ++ (q ∷ [])) one ∙ append_assoc (take n t) (q ∷ []) (q ∷ [])))) in
-    ap (λ k. take k t) e3 ∙ (take-suc t (n + 2) 0 (omega arith) ∙ (ap (λ c. take (n + 2) t ++ (c ∷ [])) c ∙ (ap (λ w. w ++ (q ∷ [])) two ∙ append_assoc (take n t) (q ∷ q ∷ []) (q ∷ []))))
+    ap (λ k. take k t) e2 ∙ (take-suc t (n + 1) 0 (omega arith)
+    ∙ (ap (λ c. take (n + 1) t ++ (c ∷ [])) b ∙ (ap (λ w. w ++ (q ∷ [])) one ∙ append_assoc (take n t) (q ∷ []) (q ∷ [])))) in
+    ap (λ k. take k t) e3 ∙ (take-suc t (n + 2) 0 (omega arith)
+    ∙ (ap (λ c. take (n + 2) t ++ (c ∷ [])) c ∙ (ap (λ w. w ++ (q ∷ [])) two ∙ append_assoc (take n t) (q ∷ q ∷ []) (q ∷ []))))
 
 -- what stands between three bytes of ASCII and three of them: as bytes it is UTF-8, and as characters it is the inside of the token
 record Between (q : ℕ) (t : List ℕ) (n : ℕ) : Type 0 where
   utf8 : IsUtf8 (take n t)
   inside : inside 3 (chars (take (n + 6) (q ∷ q ∷ q ∷ t))) ≡ chars (take n t)
 
-between : (q : ℕ) (t : List ℕ) (n : ℕ) → q < 128 → IsUtf8 t → n + 3 ≤ length t → get_or t n 0 ≡ q → get_or t (n + 1) 0 ≡ q → get_or t (n + 2) 0 ≡ q → Between q t n
+between : (q : ℕ) (t : List ℕ) (n : ℕ) → q < 128 → IsUtf8 t → n + 3 ≤ length t → get_or t n 0 ≡ q → get_or t (n + 1) 0 ≡ q →
+    get_or t (n + 2) 0 ≡ q → Between q t n
 between q t n a u l x y z =
     let r = take n t in
     let m = q ∷ q ∷ q ∷ [] in
@@ -152,10 +156,12 @@ module _ (q : Quote) (bs : List ℕ) (u : IsUtf8 bs) (o : opens_with Turtle q bs
       let last : get_or bs (end + 1 + 1) 0 ≡ quote_byte q = subst (λ k. get_or bs k 0 ≡ quote_byte q) e closing.third in
       let first = byte_on Turtle bs end (Text (text.Long q)) (Text (text.LongOneQuote q)) None (omega arith) (low (get_or bs end 0) closing.first)
       (ap (step Turtle (Text (text.Long q))) closing.first ∙ quote-step Turtle q) refl inside_on in
-      let second = byte_on Turtle bs (end + 1) (Text (text.LongOneQuote q)) (Text (text.LongTwoQuotes q)) None (omega arith) (low (get_or bs (end + 1) 0) closing.second)
+      let second = byte_on Turtle bs (end + 1) (Text (text.LongOneQuote q)) (Text (text.LongTwoQuotes q)) None (omega arith)
+      (low (get_or bs (end + 1) 0) closing.second)
       (ap (step Turtle (Text (text.LongOneQuote q))) closing.second ∙ two-step q) refl first in
       let x = get_or bs (end + 1 + 1) 0 in
-      reached-step Turtle bs (end + 1 + 1) (end + 1 + 1 + 1) x (Text (text.LongTwoQuotes q)) (Text text.LongWhole) (Some LongString) None (Some (end + 1 + 1 + 1, LongString)) second
+      reached-step Turtle bs (end + 1 + 1) (end + 1 + 1 + 1) x (Text (text.LongTwoQuotes q)) (Text text.LongWhole) (Some LongString) None
+      (Some (end + 1 + 1 + 1, LongString)) second
       (ascii_first bs (end + 1 + 1) (omega arith) (low x last)) (omega (arith, ap length (encode_ascii x (low x last)), length-encode x)) (omega arith)
       (sym (ap (step Turtle (Text (text.LongTwoQuotes q))) last ∙ whole-step q)) (sym (ap (λ t. only_long t (Some LongString)) three)) refl
 
@@ -168,8 +174,10 @@ module _ (q : Quote) (bs : List ℕ) (u : IsUtf8 bs) (o : opens_with Turtle q bs
       let size = length-drop 3 bs in
       let at : (k : ℕ) → get_or t (end - 3 + k) 0 ≡ get_or bs (end + k) 0 =
       λ k. get_or-drop 3 bs (end - 3 + k) 0 ∙ ap (λ j. get_or bs j 0) (let e : 3 + (end - 3 + k) ≡ end + k = omega arith in e) in
-      let zero : get_or t (end - 3) 0 ≡ quote_byte q = get_or-drop 3 bs (end - 3) 0 ∙ (ap (λ j. get_or bs j 0) (let e : 3 + (end - 3) ≡ end = omega arith in e) ∙ closing.first) in
-      let utf8 : IsUtf8 t = IsUtf8-drop bs 3 u (IsCharBoundary-after_ascii bs 2 u (let w = opening.within in omega arith) (low (get_or bs 2 0) opening.third)) in
+      let zero : get_or t (end - 3) 0 ≡ quote_byte q =
+      get_or-drop 3 bs (end - 3) 0 ∙ (ap (λ j. get_or bs j 0) (let e : 3 + (end - 3) ≡ end = omega arith in e) ∙ closing.first) in
+      let utf8 : IsUtf8 t = IsUtf8-drop bs 3 u
+      (IsCharBoundary-after_ascii bs 2 u (let w = opening.within in omega arith) (low (get_or bs 2 0) opening.third)) in
       let p = between (quote_byte q) t (end - 3) (low_quote q) utf8 (omega arith) zero (at 1 ∙ closing.second) (at 2 ∙ closing.third) in
       let long : end + 3 ≡ end - 3 + 6 = omega arith in
       ap (λ k. is_some (string_value (inside 3 (chars (take k bs))))) long

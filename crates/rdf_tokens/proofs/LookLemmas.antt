@@ -23,7 +23,8 @@ use Rattle.rdf_tokens.proofs.TokensLemmas.{longest_fits}
 -- a text is empty by its bytes or its characters
 empty-encodes : (w : List ℕ) → is_empty (encode_utf8_all w) ≡ is_empty w
 empty-encodes [] = refl
-empty-encodes (c ∷ w) = go (encode_utf8 c ++ encode_utf8_all w) (omega (arith, length-append (encode_utf8 c) (encode_utf8_all w), length-encode c, len_utf8_bounds c))
+empty-encodes (c ∷ w) = go (encode_utf8 c ++ encode_utf8_all w)
+    (omega (arith, length-append (encode_utf8 c) (encode_utf8_all w), length-encode c, len_utf8_bounds c))
   where
     go : (v : List ℕ) → 1 ≤ length v → is_empty v ≡ false
     go [] l = absurd (omega arith)
@@ -39,12 +40,14 @@ unfolding step
 step-over d limit t w o = cond-true _ _ _ o
 
 -- where no token is too long, the step is decided by what comes next
-pub step-open : (d : Dialect) (limit : ℕ) (t : Tail) (w : List ℕ) (b : Bool) → over d limit w ≡ false → b ≡ (is_empty w || is_live d w) → step d limit t w ≡ by_tail d t w b
+pub step-open : (d : Dialect) (limit : ℕ) (t : Tail) (w : List ℕ) (b : Bool) → over d limit w ≡ false → b ≡ (is_empty w || is_live d w) →
+    step d limit t w ≡ by_tail d t w b
 unfolding step
 step-open d limit t w b o e = cond-false _ _ _ o ∙ ap (by_tail d t w) (sym e)
 
 -- where nothing more can change it, the step is decided by the longest front
-pub step-done : (d : Dialect) (limit : ℕ) (t : Tail) (w : List ℕ) (b : Bool) → over d limit w ≡ false → b ≡ (is_empty w || is_live d w) → (t ≡ ended) ⊎ (b ≡ false) →
+pub step-done : (d : Dialect) (limit : ℕ) (t : Tail) (w : List ℕ) (b : Bool) → over d limit w ≡ false → b ≡ (is_empty w || is_live d w) →
+    (t ≡ ended) ⊎ (b ≡ false) →
     step d limit t w ≡ decided d w
 step-done d limit t w b o e h =
     step-open d limit t w b o e ∙ ⊎_elim (λ x. ap (λ t. by_tail d t w b) x ∙ at_end b) (λ x. ap (by_tail d t w) x ∙ at_false t) h
@@ -88,7 +91,8 @@ decided-look d bs best u e =
     (decided-front d bs w (empty-bytes bs u) (λ n k l. ((longest_fits d w (length w) n k l).1, (cut bs (bytes_of n w) n u refl).front)))
 
 -- the front that was found ends between two characters, so the text can be cut there
-pub cuts-front : (d : Dialect) (bs : List ℕ) (best : Option (ℕ × Kind)) → IsUtf8 bs → best ≡ in_bytes (chars bs) (longest d (chars bs) (length (chars bs))) → CutsAt bs best
+pub cuts-front : (d : Dialect) (bs : List ℕ) (best : Option (ℕ × Kind)) → IsUtf8 bs →
+    best ≡ in_bytes (chars bs) (longest d (chars bs) (length (chars bs))) → CutsAt bs best
 cuts-front d bs best u e = subst (CutsAt bs) (sym e) (go (longest d (chars bs) (length (chars bs))))
   where
     go : (o : Option (ℕ × Kind)) → CutsAt bs (in_bytes (chars bs) o)

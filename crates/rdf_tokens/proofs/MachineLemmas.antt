@@ -45,7 +45,8 @@ use Rattle.rdf_tokens.specs.Name as name
 use Rattle.rdf_tokens.proofs.NameLemmas.{name-kind, name-live, names}
 
 -- a test of two sorts of one character holds, if it does below 128 and at each width
-both_sorts : {X Y : Type 0} → (a : ℕ → X) (h : Wide → X) (b : ℕ → Y) (k : Wide → Y) (test : X → Y → Bool) → agree_below (λ c. test (a c) (b c)) (λ c. true) 128 ≡ true →
+both_sorts : {X Y : Type 0} → (a : ℕ → X) (h : Wide → X) (b : ℕ → Y) (k : Wide → Y) (test : X → Y → Bool) →
+    agree_below (λ c. test (a c) (b c)) (λ c. true) 128 ≡ true →
     ((v : Wide) → test (h v) (k v) ≡ true) → (c : ℕ) → test (sort_by a h c) (sort_by b k c) ≡ true
 both_sorts a h b k test low widths c =
     ⊎_elim
@@ -59,7 +60,8 @@ both_sorts a h b k test low widths c =
     go false e x y = rw e (y refl)
 
 -- a part of a state that moves by itself can be run by itself
-project : {S T : Type 0} → (p : S → T) (f : S → ℕ → S) (g : T → ℕ → T) → ((s : S) (c : ℕ) → p (f s c) ≡ g (p s) c) → (s : S) (w : List ℕ) → p (run f s w) ≡ run g (p s) w
+project : {S T : Type 0} → (p : S → T) (f : S → ℕ → S) (g : T → ℕ → T) → ((s : S) (c : ℕ) → p (f s c) ≡ g (p s) c) → (s : S) (w : List ℕ) →
+    p (run f s w) ≡ run g (p s) w
 project p f g h s [] = refl
 project p f g h s (c ∷ w) = project p f g h (f s c) w ∙ ap (λ t. run g t w) (h s c)
 
@@ -86,8 +88,13 @@ no_iri-dead s e = absurd (false≢true e)
 
 -- a first character that is not of the family can begin no token of it
 only_iri : (d : Dialect) (c : ℕ) → (is_iri (sort_by ascii high c) || no_iri (iri.step iri_state.Start c)) ≡ true
-only_iri Lines c = both_sorts ascii high iri.ascii iri.high (λ f x. is_iri f || no_iri (iri.move iri_state.Start x)) refl (λ v. elim v as (λ v. (is_iri (high v) || no_iri (iri.move iri_state.Start (iri.high v))) ≡ true) [ wide.Letter ↦ refl | wide.Mark ↦ refl | wide.Other ↦ refl ]) c
-only_iri Turtle c = both_sorts ascii high iri.ascii iri.high (λ f x. is_iri f || no_iri (iri.move iri_state.Start x)) refl (λ v. elim v as (λ v. (is_iri (high v) || no_iri (iri.move iri_state.Start (iri.high v))) ≡ true) [ wide.Letter ↦ refl | wide.Mark ↦ refl | wide.Other ↦ refl ]) c
+only_iri Lines c =
+    both_sorts ascii high iri.ascii iri.high (λ f x. is_iri f || no_iri (iri.move iri_state.Start x)) refl
+    (λ v. elim v as (λ v. (is_iri (high v) || no_iri (iri.move iri_state.Start (iri.high v))) ≡ true)
+    [ wide.Letter ↦ refl | wide.Mark ↦ refl | wide.Other ↦ refl ]) c
+only_iri Turtle c = both_sorts ascii high iri.ascii iri.high (λ f x. is_iri f || no_iri (iri.move iri_state.Start x)) refl
+    (λ v. elim v as (λ v. (is_iri (high v) || no_iri (iri.move iri_state.Start (iri.high v))) ≡ true)
+    [ wide.Letter ↦ refl | wide.Mark ↦ refl | wide.Other ↦ refl ]) c
 
 -- the part of an IRIREF moves as its family does, whichever token has begun
 iri_step : (d : Dialect) (s : State) (c : ℕ) → iri_part (step d s c) ≡ iri.step (iri_part s) c
@@ -125,8 +132,12 @@ no_label-dead s e = absurd (false≢true e)
 
 -- a first character that is not of the family can begin no token of it
 only_label : (d : Dialect) (c : ℕ) → (is_label (sort_by ascii high c) || no_label (label.step d label_state.Start c)) ≡ true
-only_label Lines c = both_sorts ascii high label.ascii label.high (λ f x. is_label f || no_label (label.move Lines label_state.Start x)) refl (λ v. elim v as (λ v. (is_label (high v) || no_label (label.move Lines label_state.Start (label.high v))) ≡ true) [ wide.Letter ↦ refl | wide.Mark ↦ refl | wide.Other ↦ refl ]) c
-only_label Turtle c = both_sorts ascii high label.ascii label.high (λ f x. is_label f || no_label (label.move Turtle label_state.Start x)) refl (λ v. elim v as (λ v. (is_label (high v) || no_label (label.move Turtle label_state.Start (label.high v))) ≡ true) [ wide.Letter ↦ refl | wide.Mark ↦ refl | wide.Other ↦ refl ]) c
+only_label Lines c = both_sorts ascii high label.ascii label.high (λ f x. is_label f || no_label (label.move Lines label_state.Start x))
+    refl (λ v. elim v as (λ v. (is_label (high v) || no_label (label.move Lines label_state.Start (label.high v))) ≡ true)
+    [ wide.Letter ↦ refl | wide.Mark ↦ refl | wide.Other ↦ refl ]) c
+only_label Turtle c = both_sorts ascii high label.ascii label.high (λ f x. is_label f || no_label (label.move Turtle label_state.Start x))
+    refl (λ v. elim v as (λ v. (is_label (high v) || no_label (label.move Turtle label_state.Start (label.high v))) ≡ true)
+    [ wide.Letter ↦ refl | wide.Mark ↦ refl | wide.Other ↦ refl ]) c
 
 -- the part of a label moves as its family does, whichever token has begun
 label_step : (d : Dialect) (s : State) (c : ℕ) → label_part (step d s c) ≡ label.step d (label_part s) c
@@ -164,8 +175,12 @@ no_text-dead s e = absurd (false≢true e)
 
 -- a first character that is not of the family can begin no token of it
 only_text : (d : Dialect) (c : ℕ) → (is_text (sort_by ascii high c) || no_text (text.step d text_state.Start c)) ≡ true
-only_text Lines c = both_sorts ascii high text.ascii text.high (λ f x. is_text f || no_text (text.move Lines text_state.Start x)) refl (λ v. elim v as (λ v. (is_text (high v) || no_text (text.move Lines text_state.Start (text.high v))) ≡ true) [ wide.Letter ↦ refl | wide.Mark ↦ refl | wide.Other ↦ refl ]) c
-only_text Turtle c = both_sorts ascii high text.ascii text.high (λ f x. is_text f || no_text (text.move Turtle text_state.Start x)) refl (λ v. elim v as (λ v. (is_text (high v) || no_text (text.move Turtle text_state.Start (text.high v))) ≡ true) [ wide.Letter ↦ refl | wide.Mark ↦ refl | wide.Other ↦ refl ]) c
+only_text Lines c = both_sorts ascii high text.ascii text.high (λ f x. is_text f || no_text (text.move Lines text_state.Start x)) refl
+    (λ v. elim v as (λ v. (is_text (high v) || no_text (text.move Lines text_state.Start (text.high v))) ≡ true)
+    [ wide.Letter ↦ refl | wide.Mark ↦ refl | wide.Other ↦ refl ]) c
+only_text Turtle c = both_sorts ascii high text.ascii text.high (λ f x. is_text f || no_text (text.move Turtle text_state.Start x)) refl
+    (λ v. elim v as (λ v. (is_text (high v) || no_text (text.move Turtle text_state.Start (text.high v))) ≡ true)
+    [ wide.Letter ↦ refl | wide.Mark ↦ refl | wide.Other ↦ refl ]) c
 
 -- the part of a string moves as its family does, whichever token has begun
 text_step : (d : Dialect) (s : State) (c : ℕ) → text_part (step d s c) ≡ text.step d (text_part s) c
@@ -203,8 +218,13 @@ no_tag-dead s e = absurd (false≢true e)
 
 -- a first character that is not of the family can begin no token of it
 only_tag : (d : Dialect) (c : ℕ) → (is_tag (sort_by ascii high c) || no_tag (tag.step tag_state.Start c)) ≡ true
-only_tag Lines c = both_sorts ascii high tag.ascii tag.high (λ f x. is_tag f || no_tag (tag.move tag_state.Start x)) refl (λ v. elim v as (λ v. (is_tag (high v) || no_tag (tag.move tag_state.Start (tag.high v))) ≡ true) [ wide.Letter ↦ refl | wide.Mark ↦ refl | wide.Other ↦ refl ]) c
-only_tag Turtle c = both_sorts ascii high tag.ascii tag.high (λ f x. is_tag f || no_tag (tag.move tag_state.Start x)) refl (λ v. elim v as (λ v. (is_tag (high v) || no_tag (tag.move tag_state.Start (tag.high v))) ≡ true) [ wide.Letter ↦ refl | wide.Mark ↦ refl | wide.Other ↦ refl ]) c
+only_tag Lines c =
+    both_sorts ascii high tag.ascii tag.high (λ f x. is_tag f || no_tag (tag.move tag_state.Start x)) refl
+    (λ v. elim v as (λ v. (is_tag (high v) || no_tag (tag.move tag_state.Start (tag.high v))) ≡ true)
+    [ wide.Letter ↦ refl | wide.Mark ↦ refl | wide.Other ↦ refl ]) c
+only_tag Turtle c = both_sorts ascii high tag.ascii tag.high (λ f x. is_tag f || no_tag (tag.move tag_state.Start x)) refl
+    (λ v. elim v as (λ v. (is_tag (high v) || no_tag (tag.move tag_state.Start (tag.high v))) ≡ true)
+    [ wide.Letter ↦ refl | wide.Mark ↦ refl | wide.Other ↦ refl ]) c
 
 -- the part of a language tag moves as its family does, whichever token has begun
 tag_step : (d : Dialect) (s : State) (c : ℕ) → tag_part (step d s c) ≡ tag.step (tag_part s) c
@@ -242,8 +262,14 @@ no_number-dead s e = absurd (false≢true e)
 
 -- a first character that is not of the family can begin no token of it
 only_number : (d : Dialect) (c : ℕ) → (is_number (sort_by ascii high c) || no_number (number.step d number_state.Start c)) ≡ true
-only_number Lines c = both_sorts ascii high number.ascii number.high (λ f x. is_number f || no_number (number.move Lines number_state.Start x)) refl (λ v. elim v as (λ v. (is_number (high v) || no_number (number.move Lines number_state.Start (number.high v))) ≡ true) [ wide.Letter ↦ refl | wide.Mark ↦ refl | wide.Other ↦ refl ]) c
-only_number Turtle c = both_sorts ascii high number.ascii number.high (λ f x. is_number f || no_number (number.move Turtle number_state.Start x)) refl (λ v. elim v as (λ v. (is_number (high v) || no_number (number.move Turtle number_state.Start (number.high v))) ≡ true) [ wide.Letter ↦ refl | wide.Mark ↦ refl | wide.Other ↦ refl ]) c
+only_number Lines c = both_sorts ascii high number.ascii number.high
+    (λ f x. is_number f || no_number (number.move Lines number_state.Start x)) refl
+    (λ v. elim v as (λ v. (is_number (high v) || no_number (number.move Lines number_state.Start (number.high v))) ≡ true)
+    [ wide.Letter ↦ refl | wide.Mark ↦ refl | wide.Other ↦ refl ]) c
+only_number Turtle c = both_sorts ascii high number.ascii number.high
+    (λ f x. is_number f || no_number (number.move Turtle number_state.Start x)) refl
+    (λ v. elim v as (λ v. (is_number (high v) || no_number (number.move Turtle number_state.Start (number.high v))) ≡ true)
+    [ wide.Letter ↦ refl | wide.Mark ↦ refl | wide.Other ↦ refl ]) c
 
 -- the part of a number moves as its family does, whichever token has begun
 number_step : (d : Dialect) (s : State) (c : ℕ) → number_part (step d s c) ≡ number.step d (number_part s) c
@@ -281,8 +307,12 @@ no_name-dead s e = absurd (false≢true e)
 
 -- a first character that is not of the family can begin no token of it
 only_name : (d : Dialect) (c : ℕ) → (is_name (sort_by ascii high c) || no_name (name.step d name_state.Start c)) ≡ true
-only_name Lines c = both_sorts ascii high name.ascii name.high (λ f x. is_name f || no_name (name.move Lines name_state.Start x)) refl (λ v. elim v as (λ v. (is_name (high v) || no_name (name.move Lines name_state.Start (name.high v))) ≡ true) [ wide.Letter ↦ refl | wide.Mark ↦ refl | wide.Other ↦ refl ]) c
-only_name Turtle c = both_sorts ascii high name.ascii name.high (λ f x. is_name f || no_name (name.move Turtle name_state.Start x)) refl (λ v. elim v as (λ v. (is_name (high v) || no_name (name.move Turtle name_state.Start (name.high v))) ≡ true) [ wide.Letter ↦ refl | wide.Mark ↦ refl | wide.Other ↦ refl ]) c
+only_name Lines c = both_sorts ascii high name.ascii name.high (λ f x. is_name f || no_name (name.move Lines name_state.Start x)) refl
+    (λ v. elim v as (λ v. (is_name (high v) || no_name (name.move Lines name_state.Start (name.high v))) ≡ true)
+    [ wide.Letter ↦ refl | wide.Mark ↦ refl | wide.Other ↦ refl ]) c
+only_name Turtle c = both_sorts ascii high name.ascii name.high (λ f x. is_name f || no_name (name.move Turtle name_state.Start x)) refl
+    (λ v. elim v as (λ v. (is_name (high v) || no_name (name.move Turtle name_state.Start (name.high v))) ≡ true)
+    [ wide.Letter ↦ refl | wide.Mark ↦ refl | wide.Other ↦ refl ]) c
 
 -- the part of a prefixed name moves as its family does, whichever token has begun
 name_step : (d : Dialect) (s : State) (c : ℕ) → name_part (step d s c) ≡ name.step d (name_part s) c
@@ -307,14 +337,16 @@ first_kind-append d (k ∷ a) b w = ap (cond (nullable (after_all (shape d k) w)
     go false = refl
 
 -- a longer shape of two lists is one of either
-live-append : (d : Dialect) (a b : List Kind) (w : List ℕ) → longer (after_all (any_shape d (a ++ b)) w) ≡ (longer (after_all (any_shape d a) w) || longer (after_all (any_shape d b) w))
+live-append : (d : Dialect) (a b : List Kind) (w : List ℕ) → longer (after_all (any_shape d (a ++ b)) w)
+    ≡ (longer (after_all (any_shape d a) w) || longer (after_all (any_shape d b) w))
 live-append d [] b w = sym (ap (λ r. longer r || longer (after_all (any_shape d b) w)) (after_nothing w))
 live-append d (k ∷ a) b w =
     ap longer (after_or (shape d k) (any_shape d (a ++ b)) w)
     ∙ (ap (λ t. longer (after_all (shape d k) w) || t) (live-append d a b w)
     ∙ (go (longer (after_all (shape d k) w)) ∙ sym (ap (λ r. longer r || longer (after_all (any_shape d b) w)) (after_or (shape d k) (any_shape d a) w))))
   where
-    go : (t : Bool) → (t || (longer (after_all (any_shape d a) w) || longer (after_all (any_shape d b) w))) ≡ ((t || longer (after_all (any_shape d a) w)) || longer (after_all (any_shape d b) w))
+    go : (t : Bool) → (t || (longer (after_all (any_shape d a) w) || longer (after_all (any_shape d b) w)))
+        ≡ ((t || longer (after_all (any_shape d a) w)) || longer (after_all (any_shape d b) w))
     go true = refl
     go false = refl
 
@@ -330,11 +362,16 @@ or_false false = refl
 
 -- the parts together
 abbrev kind_by_parts : State → Option Kind
-kind_by_parts s = (or_else (cond (iri.accepts (iri_part s)) (Some IriRef) None) (or_else (cond (label.accepts (label_part s)) (Some LabelNode) None) (or_else (text.kind_at (text_part s)) (or_else (cond (tag.accepts (tag_part s)) (Some LangTag) None) (or_else (number.kind_at (number_part s)) (name.kind_at (name_part s)))))))
+kind_by_parts s =
+    (or_else (cond (iri.accepts (iri_part s)) (Some IriRef) None) (or_else (cond (label.accepts (label_part s)) (Some LabelNode) None)
+    (or_else (text.kind_at (text_part s)) (or_else (cond (tag.accepts (tag_part s)) (Some LangTag) None)
+    (or_else (number.kind_at (number_part s)) (name.kind_at (name_part s)))))))
 
 -- whether one of the six parts goes on
 abbrev live_by_parts : Dialect → State → Bool
-live_by_parts d s = (iri.goes_on (iri_part s) || (label.goes_on (label_part s) || (text.goes_on d (text_part s) || (tag.goes_on (tag_part s) || (number.goes_on d (number_part s) || (name.goes_on d (name_part s)))))))
+live_by_parts d s =
+    (iri.goes_on (iri_part s) || (label.goes_on (label_part s) || (text.goes_on d (text_part s)
+    || (tag.goes_on (tag_part s) || (number.goes_on d (number_part s) || (name.goes_on d (name_part s)))))))
 
 -- the kind of a state is that of the part that has one
 parts-kind : (s : State) → kind_by_parts s ≡ kind_at s
@@ -359,19 +396,23 @@ parts-live d (Number s) = or_false _
 parts-live d (Name s) = refl
 
 -- the kind that the family finds, by the part of the common state
-iri_kind : (d : Dialect) (w : List ℕ) → IsChars w → first_kind d (IriRef ∷ []) w ≡ (let s : State = run (step d) Start w in cond (iri.accepts (iri_part s)) (Some IriRef) None)
+iri_kind : (d : Dialect) (w : List ℕ) → IsChars w → first_kind d (IriRef ∷ []) w
+    ≡ (let s : State = run (step d) Start w in cond (iri.accepts (iri_part s)) (Some IriRef) None)
 iri_kind d w h = iri-kind d w h ∙ ap (λ x. cond (iri.accepts x) (Some IriRef) None) (sym (iri_run d w))
 
 -- whether a longer one begins so, by the part of the common state
-iri_live : (d : Dialect) (w : List ℕ) → IsChars w → longer (after_all (any_shape d (IriRef ∷ [])) w) ≡ (let s : State = run (step d) Start w in iri.goes_on (iri_part s))
+iri_live : (d : Dialect) (w : List ℕ) → IsChars w → longer (after_all (any_shape d (IriRef ∷ [])) w)
+    ≡ (let s : State = run (step d) Start w in iri.goes_on (iri_part s))
 iri_live d w h = iri-live d w h ∙ ap (λ x. iri.goes_on x) (sym (iri_run d w))
 
 -- the kind that the family finds, by the part of the common state
-label_kind : (d : Dialect) (w : List ℕ) → IsChars w → first_kind d (LabelNode ∷ []) w ≡ (let s : State = run (step d) Start w in cond (label.accepts (label_part s)) (Some LabelNode) None)
+label_kind : (d : Dialect) (w : List ℕ) → IsChars w → first_kind d (LabelNode ∷ []) w
+    ≡ (let s : State = run (step d) Start w in cond (label.accepts (label_part s)) (Some LabelNode) None)
 label_kind d w h = label-kind d w h ∙ ap (λ x. cond (label.accepts x) (Some LabelNode) None) (sym (label_run d w))
 
 -- whether a longer one begins so, by the part of the common state
-label_live : (d : Dialect) (w : List ℕ) → IsChars w → longer (after_all (any_shape d (LabelNode ∷ [])) w) ≡ (let s : State = run (step d) Start w in label.goes_on (label_part s))
+label_live : (d : Dialect) (w : List ℕ) → IsChars w → longer (after_all (any_shape d (LabelNode ∷ [])) w)
+    ≡ (let s : State = run (step d) Start w in label.goes_on (label_part s))
 label_live d w h = label-live d w h ∙ ap (λ x. label.goes_on x) (sym (label_run d w))
 
 -- the kind that the family finds, by the part of the common state
@@ -379,15 +420,18 @@ text_kind : (d : Dialect) (w : List ℕ) → IsChars w → first_kind d (strings
 text_kind d w h = text-kind d w h ∙ ap (λ x. text.kind_at x) (sym (text_run d w))
 
 -- whether a longer one begins so, by the part of the common state
-text_live : (d : Dialect) (w : List ℕ) → IsChars w → longer (after_all (any_shape d (strings)) w) ≡ (let s : State = run (step d) Start w in text.goes_on d (text_part s))
+text_live : (d : Dialect) (w : List ℕ) → IsChars w → longer (after_all (any_shape d (strings)) w)
+    ≡ (let s : State = run (step d) Start w in text.goes_on d (text_part s))
 text_live d w h = text-live d w h ∙ ap (λ x. text.goes_on d x) (sym (text_run d w))
 
 -- the kind that the family finds, by the part of the common state
-tag_kind : (d : Dialect) (w : List ℕ) → IsChars w → first_kind d (LangTag ∷ []) w ≡ (let s : State = run (step d) Start w in cond (tag.accepts (tag_part s)) (Some LangTag) None)
+tag_kind : (d : Dialect) (w : List ℕ) → IsChars w → first_kind d (LangTag ∷ []) w
+    ≡ (let s : State = run (step d) Start w in cond (tag.accepts (tag_part s)) (Some LangTag) None)
 tag_kind d w h = tag-kind d w h ∙ ap (λ x. cond (tag.accepts x) (Some LangTag) None) (sym (tag_run d w))
 
 -- whether a longer one begins so, by the part of the common state
-tag_live : (d : Dialect) (w : List ℕ) → IsChars w → longer (after_all (any_shape d (LangTag ∷ [])) w) ≡ (let s : State = run (step d) Start w in tag.goes_on (tag_part s))
+tag_live : (d : Dialect) (w : List ℕ) → IsChars w → longer (after_all (any_shape d (LangTag ∷ [])) w)
+    ≡ (let s : State = run (step d) Start w in tag.goes_on (tag_part s))
 tag_live d w h = tag-live d w h ∙ ap (λ x. tag.goes_on x) (sym (tag_run d w))
 
 -- the kind that the family finds, by the part of the common state
@@ -395,7 +439,8 @@ number_kind : (d : Dialect) (w : List ℕ) → IsChars w → first_kind d (numbe
 number_kind d w h = number-kind d w h ∙ ap (λ x. number.kind_at x) (sym (number_run d w))
 
 -- whether a longer one begins so, by the part of the common state
-number_live : (d : Dialect) (w : List ℕ) → IsChars w → longer (after_all (any_shape d (numbers)) w) ≡ (let s : State = run (step d) Start w in number.goes_on d (number_part s))
+number_live : (d : Dialect) (w : List ℕ) → IsChars w → longer (after_all (any_shape d (numbers)) w)
+    ≡ (let s : State = run (step d) Start w in number.goes_on d (number_part s))
 number_live d w h = number-live d w h ∙ ap (λ x. number.goes_on d x) (sym (number_run d w))
 
 -- the kind that the family finds, by the part of the common state
@@ -403,17 +448,21 @@ name_kind : (d : Dialect) (w : List ℕ) → IsChars w → first_kind d (names) 
 name_kind d w h = name-kind d w h ∙ ap (λ x. name.kind_at x) (sym (name_run d w))
 
 -- whether a longer one begins so, by the part of the common state
-name_live : (d : Dialect) (w : List ℕ) → IsChars w → longer (after_all (any_shape d (names)) w) ≡ (let s : State = run (step d) Start w in name.goes_on d (name_part s))
+name_live : (d : Dialect) (w : List ℕ) → IsChars w → longer (after_all (any_shape d (names)) w)
+    ≡ (let s : State = run (step d) Start w in name.goes_on d (name_part s))
 name_live d w h = name-live d w h ∙ ap (λ x. name.goes_on d x) (sym (name_run d w))
 
 -- the shapes that have states
 pub shaped-kind : (d : Dialect) (w : List ℕ) → IsChars w → first_kind d shaped w ≡ kind_at (run (step d) Start w)
 shaped-kind d w h =
-    first_kind-append d (IriRef ∷ []) (LabelNode ∷ [] ++ (strings ++ (LangTag ∷ [] ++ (numbers ++ (names))))) w ∙ (ap (λ o. or_else o (first_kind d (LabelNode ∷ [] ++ (strings ++ (LangTag ∷ [] ++ (numbers ++ (names))))) w)) (iri_kind d w h)
+    first_kind-append d (IriRef ∷ []) (LabelNode ∷ [] ++ (strings ++ (LangTag ∷ [] ++ (numbers ++ (names))))) w
+    ∙ (ap (λ o. or_else o (first_kind d (LabelNode ∷ [] ++ (strings ++ (LangTag ∷ [] ++ (numbers ++ (names))))) w)) (iri_kind d w h)
     ∙ (ap (or_else (let s : State = run (step d) Start w in cond (iri.accepts (iri_part s)) (Some IriRef) None))
-    (first_kind-append d (LabelNode ∷ []) (strings ++ (LangTag ∷ [] ++ (numbers ++ (names)))) w ∙ (ap (λ o. or_else o (first_kind d (strings ++ (LangTag ∷ [] ++ (numbers ++ (names)))) w)) (label_kind d w h)
+    (first_kind-append d (LabelNode ∷ []) (strings ++ (LangTag ∷ [] ++ (numbers ++ (names)))) w
+    ∙ (ap (λ o. or_else o (first_kind d (strings ++ (LangTag ∷ [] ++ (numbers ++ (names)))) w)) (label_kind d w h)
     ∙ (ap (or_else (let s : State = run (step d) Start w in cond (label.accepts (label_part s)) (Some LabelNode) None))
-    (first_kind-append d (strings) (LangTag ∷ [] ++ (numbers ++ (names))) w ∙ (ap (λ o. or_else o (first_kind d (LangTag ∷ [] ++ (numbers ++ (names))) w)) (text_kind d w h)
+    (first_kind-append d (strings) (LangTag ∷ [] ++ (numbers ++ (names))) w
+    ∙ (ap (λ o. or_else o (first_kind d (LangTag ∷ [] ++ (numbers ++ (names))) w)) (text_kind d w h)
     ∙ (ap (or_else (let s : State = run (step d) Start w in text.kind_at (text_part s)))
     (first_kind-append d (LangTag ∷ []) (numbers ++ (names)) w ∙ (ap (λ o. or_else o (first_kind d (numbers ++ (names)) w)) (tag_kind d w h)
     ∙ (ap (or_else (let s : State = run (step d) Start w in cond (tag.accepts (tag_part s)) (Some LangTag) None))
@@ -425,11 +474,14 @@ shaped-kind d w h =
 -- the states tell whether a longer token begins so, for all kinds that have no fixed spelling
 pub shaped-live : (d : Dialect) (w : List ℕ) → IsChars w → longer (after_all (any_shape d shaped) w) ≡ goes_on d (run (step d) Start w)
 shaped-live d w h =
-    live-append d (IriRef ∷ []) (LabelNode ∷ [] ++ (strings ++ (LangTag ∷ [] ++ (numbers ++ (names))))) w ∙ (ap (λ o. o || longer (after_all (any_shape d (LabelNode ∷ [] ++ (strings ++ (LangTag ∷ [] ++ (numbers ++ (names)))))) w)) (iri_live d w h)
+    live-append d (IriRef ∷ []) (LabelNode ∷ [] ++ (strings ++ (LangTag ∷ [] ++ (numbers ++ (names))))) w
+    ∙ (ap (λ o. o || longer (after_all (any_shape d (LabelNode ∷ [] ++ (strings ++ (LangTag ∷ [] ++ (numbers ++ (names)))))) w)) (iri_live d w h)
     ∙ (ap (λ o. (let s : State = run (step d) Start w in iri.goes_on (iri_part s)) || o)
-    (live-append d (LabelNode ∷ []) (strings ++ (LangTag ∷ [] ++ (numbers ++ (names)))) w ∙ (ap (λ o. o || longer (after_all (any_shape d (strings ++ (LangTag ∷ [] ++ (numbers ++ (names))))) w)) (label_live d w h)
+    (live-append d (LabelNode ∷ []) (strings ++ (LangTag ∷ [] ++ (numbers ++ (names)))) w
+    ∙ (ap (λ o. o || longer (after_all (any_shape d (strings ++ (LangTag ∷ [] ++ (numbers ++ (names))))) w)) (label_live d w h)
     ∙ (ap (λ o. (let s : State = run (step d) Start w in label.goes_on (label_part s)) || o)
-    (live-append d (strings) (LangTag ∷ [] ++ (numbers ++ (names))) w ∙ (ap (λ o. o || longer (after_all (any_shape d (LangTag ∷ [] ++ (numbers ++ (names)))) w)) (text_live d w h)
+    (live-append d (strings) (LangTag ∷ [] ++ (numbers ++ (names))) w
+    ∙ (ap (λ o. o || longer (after_all (any_shape d (LangTag ∷ [] ++ (numbers ++ (names)))) w)) (text_live d w h)
     ∙ (ap (λ o. (let s : State = run (step d) Start w in text.goes_on d (text_part s)) || o)
     (live-append d (LangTag ∷ []) (numbers ++ (names)) w ∙ (ap (λ o. o || longer (after_all (any_shape d (numbers ++ (names))) w)) (tag_live d w h)
     ∙ (ap (λ o. (let s : State = run (step d) Start w in tag.goes_on (tag_part s)) || o)

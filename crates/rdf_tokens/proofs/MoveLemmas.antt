@@ -23,13 +23,18 @@ use Rattle.rdf_tokens.proofs.ReadLemmas.{read_now}
 pub moves_both : (a b c : Unread) (ts us : List Token) → Moves a ts b → Moves b us c → Moves a (ts ++ us) c
 moves_both a b c ts us m n = joined b.place b.begun b.comment b.text (subst (Moves a ts) m.same m) (subst (λ b. Moves b us c) m.same n)
   where
-    joined : (p : Place) (begun comment : Bool) (text : List ℕ) → Moves a ts (moved a p begun comment text) → Moves (moved a p begun comment text) us c → Moves a (ts ++ us) c
+    joined : (p : Place) (begun comment : Bool) (text : List ℕ) → Moves a ts (moved a p begun comment text) →
+        Moves (moved a p begun comment text) us c → Moves a (ts ++ us) c
     joined p begun comment text m n = record {
       same = n.same;
       less = let x = m.less in let y = n.less in omega arith;
       on = λ t x may. m.on t x may
           ∙ (ap (with_tokens ts) (n.on t x may)
-          ∙ ap (λ us. record { tokens = us; outcome = (tokens_at a.dialect a.limit t c.begun c.comment c.place (c.text ++ x)).outcome; at = (tokens_at a.dialect a.limit t c.begun c.comment c.place (c.text ++ x)).at })
+          ∙ ap (λ us. record {
+            tokens = us;
+            outcome = (tokens_at a.dialect a.limit t c.begun c.comment c.place (c.text ++ x)).outcome;
+            at = (tokens_at a.dialect a.limit t c.begun c.comment c.place (c.text ++ x)).at;
+          })
           (sym (append_assoc ts us (tokens_at a.dialect a.limit t c.begun c.comment c.place (c.text ++ x)).tokens)));
     }
 
@@ -58,15 +63,18 @@ blank_within d b (c ∷ w) = subst (λ n. n ≤ length (c ∷ w)) (sym (blank-st
 -- where something is left after white space and comments, no comment is open
 comment-rest : (d : Dialect) (b : Bool) (w : List ℕ) → is_empty (rest_of d b w) ≡ false → comment_after d b w ≡ false
 comment-rest d b [] e = let h : true ≡ false = e in cc
-comment-rest d b (c ∷ w) e = comment-step d b c w ∙ go (comment_step d b c) (subst (λ n. is_empty (drop n (c ∷ w)) ≡ false) (blank-step d b c w) e) (λ b h. comment-rest d b w h)
+comment-rest d b (c ∷ w) e = comment-step d b c w ∙ go (comment_step d b c)
+    (subst (λ n. is_empty (drop n (c ∷ w)) ≡ false) (blank-step d b c w) e) (λ b h. comment-rest d b w h)
   where
-    go : (o : Option Bool) → is_empty (drop (blank_by d o w) (c ∷ w)) ≡ false → ((b : Bool) → is_empty (rest_of d b w) ≡ false → comment_after d b w ≡ false) → comment_by d o w ≡ false
+    go : (o : Option Bool) → is_empty (drop (blank_by d o w) (c ∷ w)) ≡ false →
+        ((b : Bool) → is_empty (rest_of d b w) ≡ false → comment_after d b w ≡ false) → comment_by d o w ≡ false
     go None e h = refl
     go (Some b) e h = h b e
 
 -- the reader stands after them
 abbrev pub bared : Unread → Unread
-bared v = moved v (past v.place (take (blank v.dialect v.comment v.text) v.text)) true (comment_after v.dialect v.comment v.text) (rest_of v.dialect v.comment v.text)
+bared v = moved v (past v.place (take (blank v.dialect v.comment v.text) v.text)) true (comment_after v.dialect v.comment v.text)
+    (rest_of v.dialect v.comment v.text)
 
 -- a text that tests as empty is empty
 empty_is : (w : List ℕ) → is_empty w ≡ true → w ≡ []
@@ -99,7 +107,11 @@ module _ (v : Unread) where
 
   pub moves_bared : v.begun ≡ true → Moves v [] (bared v)
   unfolding n
-  moves_bared b = record { same = refl; less = omega (arith, length-drop n v.text); on = λ t x m. ap (λ b. tokens_at v.dialect v.limit t b v.comment v.place (v.text ++ x)) b ∙ at (is_empty rest) refl t x }
+  moves_bared b = record {
+    same = refl;
+    less = omega (arith, length-drop n v.text);
+    on = λ t x m. ap (λ b. tokens_at v.dialect v.limit t b v.comment v.place (v.text ++ x)) b ∙ at (is_empty rest) refl t x;
+  }
     where
       rest : List ℕ
       rest = rest_of v.dialect v.comment v.text
@@ -129,7 +141,8 @@ bared_is v new rest len comment h r b l k =
 pub one_bared : {len : ℕ} {open_as : Bool} (v new : Unread) (rest : List ℕ) → MovesBytes v len new → rest ≡ v.text →
     v.begun ≡ true → v.comment ≡ open_as → bytes_of (blank v.dialect open_as rest) rest ≡ len → comment_after v.dialect open_as rest ≡ open_as → new ≡ bared v
 one_bared {len} v new rest h r b c l k =
-    bared_is v new rest len v.comment h r b (sym l ∙ ap (λ k. bytes_of (blank v.dialect k rest) rest) (sym c)) (c ∙ (sym k ∙ ap (λ k. comment_after v.dialect k rest) (sym c)))
+    bared_is v new rest len v.comment h r b (sym l ∙ ap (λ k. bytes_of (blank v.dialect k rest) rest) (sym c))
+    (c ∙ (sym k ∙ ap (λ k. comment_after v.dialect k rest) (sym c)))
 
 -- where no white space comes first
 module _ (v : Unread) (s : Stands v) where
@@ -161,7 +174,8 @@ module _ (v : Unread) (s : Stands v) where
           ∙ there t x
       read t x (inl m) =
           ap (tokens v.dialect v.limit t v.comment v.place) (ap (λ x. v.text ++ x) m.1 ∙ append-nil v.text)
-          ∙ (at_token v.dialect v.limit t v.comment v.place v.text n k (ap (step v.dialect v.limit t) rest ∙ (ap (λ t. step v.dialect v.limit t v.text) m.0 ∙ e))
+          ∙ (at_token v.dialect v.limit t v.comment v.place v.text n k
+          (ap (step v.dialect v.limit t) rest ∙ (ap (λ t. step v.dialect v.limit t v.text) m.0 ∙ e))
           ∙ (ap (λ w. with_token (record { kind = k; text = take n (rest_of v.dialect v.comment v.text); at = place_of v.dialect v.comment v.place v.text })
           (tokens v.dialect v.limit t false (past (place_of v.dialect v.comment v.place v.text) (take n (rest_of v.dialect v.comment v.text))) w))
           (sym (ap (λ x. drop n (rest_of v.dialect v.comment v.text) ++ x) m.1 ∙ append-nil (drop n (rest_of v.dialect v.comment v.text))))

@@ -110,7 +110,17 @@ sorts = refl
 
 -- all of this together, as the general lemmas on families take it
 abbrev family : Dialect → Family Name Sort
-family d = record { ascii = ascii; high = high; rep = rep; move = move d; meaning = meaning d; classes = classes; sorts = sorts; covered = covered d; moves = moves d }
+family d = record {
+  ascii = ascii;
+  high = high;
+  rep = rep;
+  move = move d;
+  meaning = meaning d;
+  classes = classes;
+  sorts = sorts;
+  covered = covered d;
+  moves = moves d;
+}
 
 -- a state has a kind exactly where nothing is left to match of the expression of that kind
 kind_of_state : (d : Dialect) (s : Name) → kind_in names (meaning d s) ≡ kind_at s

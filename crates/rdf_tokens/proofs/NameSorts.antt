@@ -7,7 +7,8 @@ use Rattle.rdf_tokens.specs.declared.states.name.TheConstants.{SORTS}
 use Rattle.rdf_tokens.specs.Name.{ascii}
 
 abbrev all : List Sort
-all = sort.Colon ∷ sort.Dot ∷ sort.Digit ∷ sort.HexLetter ∷ sort.Letter ∷ sort.Underscore ∷ sort.Hyphen ∷ sort.Mark ∷ sort.Percent ∷ sort.Backslash ∷ sort.Escapable ∷ sort.Other ∷ []
+all = sort.Colon ∷ sort.Dot ∷ sort.Digit ∷ sort.HexLetter ∷ sort.Letter ∷ sort.Underscore ∷ sort.Hyphen ∷ sort.Mark ∷ sort.Percent
+    ∷ sort.Backslash ∷ sort.Escapable ∷ sort.Other ∷ []
 
 abbrev place : Sort → ℕ
 place sort.Colon = 0

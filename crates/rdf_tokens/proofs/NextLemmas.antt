@@ -191,7 +191,8 @@ module _ (old mid : Unread) (m : Moves old [] mid) (p : old.stopped ≡ false) (
 
   pub ends_at : {t : Token} {new : Unread} → IsEndGiven mid t new →
       step mid.dialect mid.limit (tail_now mid) mid.text ≡ stop complete → GivesToken old t new
-  ends_at {t} {new} h e = subst (λ n. GivesToken old t n) (sym h.stopped) (subst (λ t. GivesToken old t (record mid { stopped = true })) (sym h.token) (gives_end e))
+  ends_at {t} {new} h e = subst (λ n. GivesToken old t n) (sym h.stopped)
+      (subst (λ t. GivesToken old t (record mid { stopped = true })) (sym h.token) (gives_end e))
 
   -- a token of some bytes
   pub gives_look : (len : ℕ) (k : Kind) (t : Token) (new : Unread) → IsLook (Look.Token len k) (step mid.dialect mid.limit (tail_now mid) mid.text) mid.text →
@@ -204,14 +205,16 @@ module _ (old mid : Unread) (m : Moves old [] mid) (p : old.stopped ≡ false) (
       let is : IsToken old.dialect (record { kind = k; text = take n mid.text; at = mid.place }) = inr (subst (λ d. Shape d k (take n mid.text)) d q.0, q.1) in
       let new_is : new ≡ moved mid (past mid.place (take n mid.text)) true false (drop n mid.text) =
       g.moved_on ∙ ap (λ b. moved mid (past mid.place (take n mid.text)) b false (drop n mid.text)) s.begun in
-      subst (λ n. GivesToken old t n) (sym new_is) (subst (λ t. GivesToken old t (moved mid (past mid.place (take n mid.text)) true false (drop n mid.text))) (sym g.token)
+      subst (λ n. GivesToken old t n) (sym new_is)
+      (subst (λ t. GivesToken old t (moved mid (past mid.place (take n mid.text)) true false (drop n mid.text))) (sym g.token)
       (gives_token n k l.1 is (not_end k q.2)))
 
 -- at the end of the text that has come
 pub open_step : (d : Dialect) (limit : ℕ) → step d limit goes_on [] ≡ stop undecided
 unfolding step
 open_step d limit =
-    let none : over d limit [] ≡ false = ap (λ b. b && (is_some (kind_of d (take (limit + 1) [])) || is_live d (take (limit + 1) []))) (le-ltb limit 0 (omega arith)) in
+    let none : over d limit [] ≡ false =
+    ap (λ b. b && (is_some (kind_of d (take (limit + 1) [])) || is_live d (take (limit + 1) []))) (le-ltb limit 0 (omega arith)) in
     cond-false _ _ _ none
 
 -- nothing to look at
@@ -238,6 +241,7 @@ dry v d s b =
     none [] e = refl
     none (c ∷ w) e = let h : true ≡ false = e in cc
 
-    nothing : (d : Dialect) (limit : ℕ) (begun comment : Bool) (p : Place) → tokens_at d limit goes_on begun comment p [] ≡ record { tokens = []; outcome = undecided; at = place_of d comment p [] }
+    nothing : (d : Dialect) (limit : ℕ) (begun comment : Bool) (p : Place) →
+        tokens_at d limit goes_on begun comment p [] ≡ record { tokens = []; outcome = undecided; at = place_of d comment p [] }
     nothing d limit true comment p = at_stop d limit goes_on comment p [] undecided (open_step d limit)
     nothing d limit false comment p = at_stop d limit goes_on comment p [] undecided (open_step d limit)

@@ -41,7 +41,8 @@ letter_state s e = absurd (true≢false (sym e))
 
 -- each byte of ASCII: a letter leads to that state from the start and from within a prefix
 abbrev letter_tests : ℕ → Bool
-letter_tests c = not (is_letter c) || (at_letter (step Turtle Start c) && (at_letter (step Turtle (Name name.Prefix) c) && at_letter (step Turtle (Name name.PrefixDots) c)))
+letter_tests c =
+    not (is_letter c) || (at_letter (step Turtle Start c) && (at_letter (step Turtle (Name name.Prefix) c) && at_letter (step Turtle (Name name.PrefixDots) c)))
 
 -- and a byte of a prefix leads from within one into it again
 abbrev prefix_tests : ℕ → Bool
@@ -62,7 +63,8 @@ low-prefix c e = grind (arith, nat_tests)
 
 -- a letter leads into a prefix from the start, within a prefix and after its dots
 pub letter_steps : (c : ℕ) → is_letter c ≡ true →
-    (step Turtle Start c ≡ Name name.Prefix) × ((step Turtle (Name name.Prefix) c ≡ Name name.Prefix) × (step Turtle (Name name.PrefixDots) c ≡ Name name.Prefix))
+    (step Turtle Start c ≡ Name name.Prefix)
+    × ((step Turtle (Name name.Prefix) c ≡ Name name.Prefix) × (step Turtle (Name name.PrefixDots) c ≡ Name name.Prefix))
 letter_steps c e =
     let all = implied (is_letter c) _ (agree_below_at letter_tests (λ c. true) 128 c refl (low-letter c e)) e in
     let p = and_parts _ _ all in
@@ -139,7 +141,8 @@ none_after u v c s t h e b = record {
         let w = u ++ c ∷ v in
         let n : suc (length u + m) ≡ length u + suc m = omega arith in
         let front : take (suc (length u + m)) w ≡ u ++ c ∷ take m v = ap (λ k. take k w) n ∙ take_over u (c ∷ v) (suc m) in
-        let same : state_of Turtle (take (suc (length u + m)) w) ≡ state_of Turtle (c ∷ take m v) = ap (state_of Turtle) front ∙ same_state u (take m v) c h e in
+        let same : state_of Turtle (take (suc (length u + m)) w) ≡ state_of Turtle (c ∷ take m v) =
+        ap (state_of Turtle) front ∙ same_state u (take m v) c h e in
         let none = none_each (kind_by_states Turtle w) w (length w) (length u + m) b.none (omega (arith, length-append u (c ∷ v))) in
         let kind : kind_at (state_of Turtle (c ∷ take m v)) ≡ None =
         ap kind_at (sym same) ∙ (ap (λ x. only_long x (kind_at (state_of Turtle (take (suc (length u + m)) w)))) (sym t) ∙ none) in
@@ -163,17 +166,20 @@ ends_more d w m n l e = ⊎_elim
     go (suc k) f i x = subst (λ j. goes_on d (state_of d (take j w)) ≡ false) x (longer_state d w m k (omega arith) f).0
 
 -- the states end at the same place from a later letter on
-ends_after : (u v : List ℕ) (c n : ℕ) → in_prefix (state_of Turtle u) ≡ true → is_letter c ≡ true → Ends Turtle (u ++ c ∷ v) (length u + n) → Ends Turtle (c ∷ v) n
+ends_after : (u v : List ℕ) (c n : ℕ) → in_prefix (state_of Turtle u) ≡ true → is_letter c ≡ true →
+    Ends Turtle (u ++ c ∷ v) (length u + n) → Ends Turtle (c ∷ v) n
 ends_after u v c n h e x = ⊎_elim (λ (a : length (u ++ c ∷ v) ≤ length u + n). inl (omega (arith, length-append u (c ∷ v)))) (λ f. inr (go n f)) x
   where
     go : (n : ℕ) → goes_on Turtle (state_of Turtle (take (length u + n) (u ++ c ∷ v))) ≡ false → goes_on Turtle (state_of Turtle (take n (c ∷ v))) ≡ false
     go zero f =
-        let same : state_of Turtle (take (length u + 0) (u ++ c ∷ v)) ≡ state_of Turtle u = ap (state_of Turtle) (take_over u (c ∷ v) 0) ∙ run-append (step Turtle) Start u [] in
+        let same : state_of Turtle (take (length u + 0) (u ++ c ∷ v)) ≡ state_of Turtle u =
+        ap (state_of Turtle) (take_over u (c ∷ v) 0) ∙ run-append (step Turtle) Start u [] in
         absurd (true≢false (sym (prefix_live (state_of Turtle u) h) ∙ (sym (ap (goes_on Turtle) same) ∙ f)))
     go (suc n) f = ap (goes_on Turtle) (sym (ap (state_of Turtle) (take_over u (c ∷ v) (suc n)) ∙ same_state u (take n v) c h e)) ∙ f
 
 -- one byte of ASCII on
-pub one_on : (bs : List ℕ) (p : ℕ) → IsAt bs p p → p < length bs → get_or bs p 0 < 128 → (drop p (chars bs) ≡ get_or bs p 0 ∷ drop (p + 1) (chars bs)) × IsAt bs (suc p) (suc p)
+pub one_on : (bs : List ℕ) (p : ℕ) → IsAt bs p p → p < length bs → get_or bs p 0 < 128 →
+    (drop p (chars bs) ≡ get_or bs p 0 ∷ drop (p + 1) (chars bs)) × IsAt bs (suc p) (suc p)
 one_on bs p h l a =
     let c = get_or bs p 0 in
     let next : p + 1 ≡ p + len_utf8 c = omega (arith, ap length (encode_ascii c a), length-encode c) in
@@ -187,7 +193,8 @@ prefixed : (bs : List ℕ) (end : ℕ) → IsUtf8 bs → IsRun is_prefix_byte bs
 prefixed bs end u r e zero l =
     let c = get_or bs 0 0 in
     let x = one_on bs 0 (at-start bs u) (omega (arith, r.within)) (low-letter c e) in
-    let state : state_of Turtle (take 1 (chars bs)) ≡ Name name.Prefix = sym (run-more (step Turtle) Start Start (chars bs) _ 0 c x.0 refl) ∙ (letter_steps c e).0 in
+    let state : state_of Turtle (take 1 (chars bs)) ≡ Name name.Prefix =
+    sym (run-more (step Turtle) Start Start (chars bs) _ 0 c x.0 refl) ∙ (letter_steps c e).0 in
     (x.1, ap in_prefix state)
 prefixed bs end u r e (suc p) l =
     let h = prefixed bs end u r e p (omega arith) in
@@ -201,11 +208,14 @@ prefixed bs end u r e (suc p) l =
     (x.1, ap in_prefix (sym state) ∙ prefix_within (state_of Turtle (take (suc p) w)) c h.1 no_names)
 
 -- what is known from a letter on is so up to the end of its run
-pub none_in : (bs : List ℕ) (end left states out : ℕ) (s : Option State) → IsUtf8 bs → is_letter (get_or bs 0 0) ≡ true → IsRun is_prefix_byte bs 0 end → BeginsNoName Turtle (chars bs) s →
-    Ends Turtle (chars bs) states → left ≡ length bs - end → out + states ≡ length bs → HasNoNames Turtle bs (Some (record { left = left; state = s; out = out }))
+pub none_in : (bs : List ℕ) (end left states out : ℕ) (s : Option State) → IsUtf8 bs → is_letter (get_or bs 0 0) ≡ true →
+    IsRun is_prefix_byte bs 0 end → BeginsNoName Turtle (chars bs) s →
+    Ends Turtle (chars bs) states → left ≡ length bs - end → out + states ≡ length bs →
+    HasNoNames Turtle bs (Some (record { left = left; state = s; out = out }))
 none_in bs end left states out s u e r b x k o = at
   where
-    at : (p : ℕ) → p + left < length bs → is_letter (get_or bs p 0) ≡ true → BeginsNoName Turtle (chars (drop p bs)) s × ((n : ℕ) → length bs ≤ n + (p + out) → Ends Turtle (chars (drop p bs)) n)
+    at : (p : ℕ) → p + left < length bs → is_letter (get_or bs p 0) ≡ true →
+        BeginsNoName Turtle (chars (drop p bs)) s × ((n : ℕ) → length bs ≤ n + (p + out) → Ends Turtle (chars (drop p bs)) n)
     at zero l f = (b, λ n m. ends_more Turtle (chars bs) states n (omega arith) x)
     at (suc p) l f =
         let w = chars bs in
@@ -220,9 +230,11 @@ none_in bs end left states out s u e r b x k o = at
         let quotes : three_quotes Turtle (take (suc p) w ++ c ∷ v) ≡ false =
         ap (three_quotes Turtle) (sym whole ∙ first.0) ∙ no_quotes (get_or bs 0 0) (drop 1 w) e in
         let size = length-take-le (suc p) w h.0.count in (
-          subst (λ y. BeginsNoName Turtle y s) (sym on.0 ∙ h.0.left) (none_after (take (suc p) w) v c s quotes h.1 f (subst (λ y. BeginsNoName Turtle y s) whole b)),
+          subst (λ y. BeginsNoName Turtle y s) (sym on.0 ∙ h.0.left)
+              (none_after (take (suc p) w) v c s quotes h.1 f (subst (λ y. BeginsNoName Turtle y s) whole b)),
           λ n m. subst (λ y. Ends Turtle y n) (sym on.0 ∙ h.0.left)
-              (ends_after (take (suc p) w) v c n h.1 f (subst (λ y. Ends Turtle y (length (take (suc p) w) + n)) whole (ends_more Turtle w states (length (take (suc p) w) + n) (omega (arith, size)) x))),
+              (ends_after (take (suc p) w) v c n h.1 f (subst (λ y. Ends Turtle y (length (take (suc p) w) + n)) whole
+              (ends_more Turtle w states (length (take (suc p) w) + n) (omega (arith, size)) x))),
         )
 
 -- no front in bytes is no front
@@ -240,5 +252,6 @@ none_dropped d bs n (Some b) h = λ p l e.
     )
 
 -- what is known of a text is known of what is left of it when a token was given
-pub none_advanced : (d : Dialect) (text : List ℕ) (start len : ℕ) (b : Option NoNames) → HasNoNames d (drop start text) b → HasNoNames d (drop (start + len) text) b
+pub none_advanced : (d : Dialect) (text : List ℕ) (start len : ℕ) (b : Option NoNames) → HasNoNames d (drop start text) b →
+    HasNoNames d (drop (start + len) text) b
 none_advanced d text start len b h = subst (λ y. HasNoNames d y b) (drop-drop len start text) (none_dropped d (drop start text) len b h)

@@ -80,10 +80,12 @@ abbrev ends : (ℕ → Bool) → State → ℕ → Bool
 ends f s c = not (f c) || (is_digit c || at_ended (step Turtle s c))
 
 -- each byte of ASCII is tried
-step_is : (f : ℕ → Bool) (s : State) (n : numbers.Number) → agree_below (leads f s n) (λ c. true) 128 ≡ true → (c : ℕ) → f c ≡ true → c < 128 → step Turtle s c ≡ Number n
+step_is : (f : ℕ → Bool) (s : State) (n : numbers.Number) → agree_below (leads f s n) (λ c. true) 128 ≡ true → (c : ℕ) → f c ≡ true →
+    c < 128 → step Turtle s c ≡ Number n
 step_is f s n t c e l = is-at n (step Turtle s c) (implied (f c) _ (agree_below_at (leads f s n) (λ c. true) 128 c t l) e)
 
-step_ends : (f : ℕ → Bool) (s : State) → agree_below (ends f s) (λ c. true) 128 ≡ true → (c : ℕ) → f c ≡ true → c < 128 → is_digit c ≡ false → at_ended (step Turtle s c) ≡ true
+step_ends : (f : ℕ → Bool) (s : State) → agree_below (ends f s) (λ c. true) 128 ≡ true → (c : ℕ) → f c ≡ true → c < 128 →
+    is_digit c ≡ false → at_ended (step Turtle s c) ≡ true
 step_ends f s t c e l d = other (is_digit c) _ (implied (f c) _ (agree_below_at (ends f s) (λ c. true) 128 c t l) e) d
 
 -- a digit begins no spelling, nor does a sign
@@ -149,7 +151,8 @@ module _ (bs : List ℕ) (start end : ℕ) (u : IsUtf8 bs) (n : BeginsNumber bs 
       t ≡ step Turtle s (get_or bs at 0) → k ≡ kind_at t → Reached Turtle bs (at + 1) t (with_length (at + 1) k b)
   byte_on at s t k b i a h es ek =
       let c = get_or bs at 0 in
-      reached-step Turtle bs at (at + 1) c s t k b (with_length (at + 1) k b) h (ascii_first bs at i a) (omega (arith, ap length (encode_ascii c a), length-encode c)) (omega arith) es
+      reached-step Turtle bs at (at + 1) c s t k b (with_length (at + 1) k b) h (ascii_first bs at i a)
+      (omega (arith, ap length (encode_ascii c a), length-encode c)) (omega arith) es
       (ek ∙ sym (ap (λ x. only_long x (kind_at t)) quotes)) refl
 
   -- a digit on
@@ -158,7 +161,8 @@ module _ (bs : List ℕ) (start end : ℕ) (u : IsUtf8 bs) (n : BeginsNumber bs 
   digit_on at s t k b i d h e ek = byte_on at s t k b i (low-digit (get_or bs at 0) d) h (sym e) ek
 
   -- over so many digits that leave a state as it is
-  digits_on : (s : State) (k : Kind) (at n : ℕ) → Some k ≡ kind_at s → ((c : ℕ) → is_digit c ≡ true → step Turtle s c ≡ s) → PassBetween is_digit bs at (at + n) → at + n ≤ length bs →
+  digits_on : (s : State) (k : Kind) (at n : ℕ) → Some k ≡ kind_at s → ((c : ℕ) → is_digit c ≡ true → step Turtle s c ≡ s) →
+      PassBetween is_digit bs at (at + n) → at + n ≤ length bs →
       Reached Turtle bs at s (Some (at, k)) → Reached Turtle bs (at + n) s (Some (at + n, k))
   digits_on s k at zero ek f p w h = let x : at ≡ at + 0 = omega arith in subst (λ m. Reached Turtle bs m s (Some (m, k))) x h
   digits_on s k at (suc n) ek f p w h =
@@ -180,7 +184,8 @@ module _ (bs : List ℕ) (start end : ℕ) (u : IsUtf8 bs) (n : BeginsNumber bs 
   -- the states after the digits in front
   whole : Reached Turtle bs end (Number number.Digits) (Some (end, Integer))
   whole =
-      digits_to (Number number.Digits) Integer (start + 1) end refl (λ c d. step_is is_digit (Number number.Digits) number.Digits refl c d (low-digit c d)) r (by n.sign)
+      digits_to (Number number.Digits) Integer (start + 1) end refl
+      (λ c d. step_is is_digit (Number number.Digits) number.Digits refl c d (low-digit c d)) r (by n.sign)
     where
       one : (k : Option Kind) (s : State) → s ≡ step Turtle Start (get_or bs 0 0) → k ≡ kind_at s → Reached Turtle bs 1 s (with_length 1 k None)
       one k s es ek =
@@ -204,12 +209,15 @@ module _ (bs : List ℕ) (start end : ℕ) (u : IsUtf8 bs) (n : BeginsNumber bs 
           (step_is is_digit (Number number.Sign) number.Digits refl (get_or bs 1 0) d (low-digit (get_or bs 1 0) d)) refl)
 
   -- no spelling begins so
-  unspelled : (v : List ℕ) → 0 < length v → begins_number (get_or v 0 0) ≡ true → (front_by (rows_of Turtle fixed) v ≡ None) × (live_by (rows_of Turtle fixed) v ≡ false)
+  unspelled : (v : List ℕ) → 0 < length v → begins_number (get_or v 0 0) ≡ true →
+      (front_by (rows_of Turtle fixed) v ≡ None) × (live_by (rows_of Turtle fixed) v ≡ false)
   unspelled [] l e = absurd (omega arith)
-  unspelled (c ∷ t) l e = first_rows (rows_of Turtle fixed) c t (implied (begins_number c) _ (agree_below_at first_tests (λ c. true) 128 c refl (low-first c e)) e)
+  unspelled (c ∷ t) l e = first_rows (rows_of Turtle fixed) c t
+      (implied (begins_number c) _ (agree_below_at first_tests (λ c. true) 128 c refl (low-first c e)) e)
 
   -- the token ends before a byte after which the states have ended
-  ended_at : (s : State) (k : Kind) (to : ℕ) → Reached Turtle bs to s (Some (to, k)) → to < length bs → get_or bs to 0 < 128 → at_ended (step Turtle s (get_or bs to 0)) ≡ true →
+  ended_at : (s : State) (k : Kind) (to : ℕ) → Reached Turtle bs to s (Some (to, k)) → to < length bs → get_or bs to 0 < 128 →
+      at_ended (step Turtle s (get_or bs to 0)) ≡ true →
       ((w : List ℕ) → is_fit k w ≡ true) → IsToken Turtle bs to k
   ended_at s k to h i a x t =
       let s' = step Turtle s (get_or bs to 0) in
@@ -231,21 +239,26 @@ module _ (bs : List ℕ) (start end : ℕ) (u : IsUtf8 bs) (n : BeginsNumber bs 
   dot m =
       let p = and_parts (nat_lt end (length bs)) (get_or bs end 0 == 46) m in
       let is_46 : get_or bs end 0 ≡ 46 = eqb-true (get_or bs end 0) 46 p.1 in
-      byte_on end (Number number.Digits) (Number number.DigitsDot) None (Some (end, Integer)) (ltb-true end (length bs) p.0) (omega (arith, is_46)) whole (ap (step Turtle (Number number.Digits)) (sym is_46)) refl
+      byte_on end (Number number.Digits) (Number number.DigitsDot) None (Some (end, Integer)) (ltb-true end (length bs) p.0)
+      (omega (arith, is_46)) whole (ap (step Turtle (Number number.Digits)) (sym is_46)) refl
 
   -- the states after a dot and the digits after it
-  fraction : (last : ℕ) → is_point bs end ≡ true → IsRun is_digit bs (end + 1) last → end + 1 < last → Reached Turtle bs last (Number number.Fraction) (Some (last, Decimal))
+  fraction : (last : ℕ) → is_point bs end ≡ true → IsRun is_digit bs (end + 1) last → end + 1 < last →
+      Reached Turtle bs last (Number number.Fraction) (Some (last, Decimal))
   fraction last m q more =
       let c = get_or bs (end + 1) 0 in
       let d : is_digit c ≡ true = q.pass (end + 1) (omega arith) more in
       let within = q.within in
-      let rest : IsRun is_digit bs (end + 1 + 1) last = record { from = omega arith; within = within; pass = λ k a b. q.pass k (omega arith) b; stops = q.stops } in
-      digits_to (Number number.Fraction) Decimal (end + 1 + 1) last refl (λ c d. step_is is_digit (Number number.Fraction) number.Fraction refl c d (low-digit c d)) rest
+      let rest : IsRun is_digit bs (end + 1 + 1) last =
+      record { from = omega arith; within = within; pass = λ k a b. q.pass k (omega arith) b; stops = q.stops } in
+      digits_to (Number number.Fraction) Decimal (end + 1 + 1) last refl
+      (λ c d. step_is is_digit (Number number.Fraction) number.Fraction refl c d (low-digit c d)) rest
       (digit_on (end + 1) (Number number.DigitsDot) (Number number.Fraction) (Some Decimal) (Some (end, Integer)) (omega arith) d (dot m)
       (step_is is_digit (Number number.DigitsDot) number.Fraction refl c d (low-digit c d)) refl)
 
   -- a decimal
-  pub quick_decimal : (last : ℕ) → is_point bs end ≡ true → IsRun is_digit bs (end + 1) last → is_decimal_end bs end last ≡ true → IsToken Turtle bs last Decimal
+  pub quick_decimal : (last : ℕ) → is_point bs end ≡ true → IsRun is_digit bs (end + 1) last → is_decimal_end bs end last ≡ true →
+      IsToken Turtle bs last Decimal
   quick_decimal last m q z =
       let x = get_or bs last 0 in
       let p = and_parts _ _ z in
@@ -264,7 +277,12 @@ module _ (bs : List ℕ) (start end : ℕ) (u : IsUtf8 bs) (n : BeginsNumber bs 
 
   -- they have at the end of the digits
   takes : (at : ℕ) → (at ≡ end) ⊎ ((is_point bs end ≡ true) × IsRun is_digit bs (end + 1) at) → TakesExponent at
-  takes at (inl e) = record { s = Number number.Digits; b = Some (end, Integer); reached = subst (λ k. Reached Turtle bs k (Number number.Digits) (Some (end, Integer))) (sym e) whole; leads_on = refl }
+  takes at (inl e) = record {
+    s = Number number.Digits;
+    b = Some (end, Integer);
+    reached = subst (λ k. Reached Turtle bs k (Number number.Digits) (Some (end, Integer))) (sym e) whole;
+    leads_on = refl;
+  }
   takes at (inr p) = by (nat_lt (end + 1) at) refl
     where
       by : (t : Bool) → nat_lt (end + 1) at ≡ t → TakesExponent at
@@ -272,16 +290,24 @@ module _ (bs : List ℕ) (start end : ℕ) (u : IsUtf8 bs) (n : BeginsNumber bs 
       by false e =
           let from = p.1.from in
           let x : at ≡ end + 1 = omega (arith, ltb-false (end + 1) at e) in
-          record { s = Number number.DigitsDot; b = Some (end, Integer); reached = subst (λ k. Reached Turtle bs k (Number number.DigitsDot) (Some (end, Integer))) (sym x) (dot p.0); leads_on = refl }
+          record {
+            s = Number number.DigitsDot;
+            b = Some (end, Integer);
+            reached = subst
+                (λ k. Reached Turtle bs k (Number number.DigitsDot) (Some (end, Integer))) (sym x) (dot p.0);
+            leads_on = refl;
+          }
 
   -- the states after the letter of an exponent, its sign if it has one, and a digit
-  exponent : (at : ℕ) → TakesExponent at → is_exponent bs at ≡ true → after_sign bs (at + 1) < length bs → is_digit (get_or bs (after_sign bs (at + 1)) 0) ≡ true →
+  exponent : (at : ℕ) → TakesExponent at → is_exponent bs at ≡ true → after_sign bs (at + 1) < length bs →
+      is_digit (get_or bs (after_sign bs (at + 1)) 0) ≡ true →
       Reached Turtle bs (after_sign bs (at + 1) + 1) (Number number.ExponentDigits) (Some (after_sign bs (at + 1) + 1, Double))
   exponent at h e l d =
       let p = and_parts (nat_lt at (length bs)) (is_e (get_or bs at 0)) e in
       let low = low-e (get_or bs at 0) p.1 in
       let here : Reached Turtle bs (at + 1) (Number number.Exponent) h.b =
-      byte_on at h.s (Number number.Exponent) None h.b (ltb-true at (length bs) p.0) low h.reached (sym (step_is is_e h.s number.Exponent h.leads_on (get_or bs at 0) p.1 low)) refl in
+      byte_on at h.s (Number number.Exponent) None h.b (ltb-true at (length bs) p.0) low h.reached
+      (sym (step_is is_e h.s number.Exponent h.leads_on (get_or bs at 0) p.1 low)) refl in
       by here (nat_lt (at + 1) (length bs) && is_sign (get_or bs (at + 1) 0)) refl l d
     where
       by : Reached Turtle bs (at + 1) (Number number.Exponent) h.b → (t : Bool) → (nat_lt (at + 1) (length bs) && is_sign (get_or bs (at + 1) 0)) ≡ t →
@@ -299,7 +325,8 @@ module _ (bs : List ℕ) (start end : ℕ) (u : IsUtf8 bs) (n : BeginsNumber bs 
           (step_is is_digit (Number number.Exponent) number.ExponentDigits refl (get_or bs (at + 1) 0) d (low-digit (get_or bs (at + 1) 0) d)) refl
 
   -- a double
-  double_from : (at first last : ℕ) → first ≡ after_sign bs (at + 1) → TakesExponent at → is_exponent bs at ≡ true → IsRun is_digit bs first last → is_double_end bs first last ≡ true →
+  double_from : (at first last : ℕ) → first ≡ after_sign bs (at + 1) → TakesExponent at → is_exponent bs at ≡ true →
+      IsRun is_digit bs first last → is_double_end bs first last ≡ true →
       IsToken Turtle bs last Double
   double_from at first last f h e q z =
       let x = get_or bs last 0 in
@@ -312,12 +339,15 @@ module _ (bs : List ℕ) (start end : ℕ) (u : IsUtf8 bs) (n : BeginsNumber bs 
       subst (λ k. Reached Turtle bs (k + 1) (Number number.ExponentDigits) (Some (k + 1, Double))) (sym f)
       (exponent at h e (subst (λ k. k < length bs) f (omega arith)) (subst (λ k. is_digit (get_or bs k 0) ≡ true) f d)) in
       let within = q.within in
-      let rest : IsRun is_digit bs (first + 1) last = record { from = omega arith; within = within; pass = λ k a b. q.pass k (omega arith) b; stops = q.stops } in
+      let rest : IsRun is_digit bs (first + 1) last =
+      record { from = omega arith; within = within; pass = λ k a b. q.pass k (omega arith) b; stops = q.stops } in
       ended_at (Number number.ExponentDigits) Double last
-      (digits_to (Number number.ExponentDigits) Double (first + 1) last refl (λ c d. step_is is_digit (Number number.ExponentDigits) number.ExponentDigits refl c d (low-digit c d)) rest one) i
+      (digits_to (Number number.ExponentDigits) Double (first + 1) last refl
+      (λ c d. step_is is_digit (Number number.ExponentDigits) number.ExponentDigits refl c d (low-digit c d)) rest one) i
       (ltb-true x 128 o.1) (step_ends (λ c. nat_lt c 128) (Number number.ExponentDigits) refl x o.1 (ltb-true x 128 o.1) (q.stops i)) (λ w. (number-fit w).1.1)
 
 -- the same by the place where its digits end
-pub quick_double : (bs : List ℕ) (start at first last : ℕ) → IsUtf8 bs → BeginsNumber bs start → IsMantissa bs start at → first ≡ after_sign bs (at + 1) → is_exponent bs at ≡ true →
+pub quick_double : (bs : List ℕ) (start at first last : ℕ) → IsUtf8 bs → BeginsNumber bs start → IsMantissa bs start at →
+    first ≡ after_sign bs (at + 1) → is_exponent bs at ≡ true →
     IsRun is_digit bs first last → is_double_end bs first last ≡ true → IsToken Turtle bs last Double
 quick_double bs start at first last u n m f e q z = double_from bs start m.end u n m.run at first last f (takes bs start m.end u n m.run at m.rest) e q z

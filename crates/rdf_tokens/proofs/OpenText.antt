@@ -50,7 +50,8 @@ ends_bad zero d limit b p w l e = absurd (omega arith)
 ends_bad (suc f) d limit b p w l e = at (step d limit goes_on (rest_of d b w)) refl (λ q v m h. ends_bad f d limit false q v m h)
   where
     at : (s : Step) → step d limit goes_on (rest_of d b w) ≡ s →
-        ((q : Place) (v : List ℕ) → length v < f → (tokens d limit goes_on false q v).outcome ≡ undecided → (tokens d limit broken false q v).outcome ≡ bad_utf8) →
+        ((q : Place) (v : List ℕ) → length v < f → (tokens d limit goes_on false q v).outcome ≡ undecided →
+        (tokens d limit broken false q v).outcome ≡ bad_utf8) →
         (tokens d limit broken b p w).outcome ≡ bad_utf8
     at (token n k) s ih =
         let r = rest_of d b w in
@@ -134,7 +135,8 @@ before_it x = ⊎_elim (λ l. absurd (beyond l)) (λ l. l) (cases_lt (length x) 
     beyond l =
         let m = utf8_valid_len_le (x ++ no_byte) in
         let s = length-append x no_byte in
-        let e : take (utf8_valid_len (x ++ no_byte)) (x ++ no_byte) ≡ x ++ no_byte = take_all (utf8_valid_len (x ++ no_byte)) (x ++ no_byte) (omega (arith, m, s, l)) in
+        let e : take (utf8_valid_len (x ++ no_byte)) (x ++ no_byte) ≡ x ++ no_byte =
+        take_all (utf8_valid_len (x ++ no_byte)) (x ++ no_byte) (omega (arith, m, s, l)) in
         let b = utf8_bytes (x ++ no_byte) (subst IsUtf8 e (good_front (x ++ no_byte))) (length x) in
         let g = get_or-append_seam x 256 [] 0 in
         omega (arith, b, g)
@@ -174,14 +176,16 @@ module _ (d : Dialect) (limit : ℕ) (bytes : List ℕ) where
   waits : (tokens_of d limit bytes false).outcome ≡ undecided → tail_of bytes false ≡ goes_on
   waits o = ⊎_elim (λ b. absurd (bad b)) (λ b. whole b (utf8_valid_len bytes == length bytes)) (cases_Bool (is_broken bytes))
     where
-      whole : is_broken bytes ≡ false → (k : Bool) → cond k goes_on (cond (is_some (utf8_error_len (drop (utf8_valid_len bytes) bytes))) broken goes_on) ≡ goes_on
+      whole : is_broken bytes ≡ false → (k : Bool) →
+          cond k goes_on (cond (is_some (utf8_error_len (drop (utf8_valid_len bytes) bytes))) broken goes_on) ≡ goes_on
       whole b true = refl
       whole b false = cond-false _ _ _ b
 
       bad : is_broken bytes ≡ true → ⊥
       bad b =
           let same : tokens_of d limit bytes true ≡ tokens_of d limit bytes false =
-          tokens_of-tokens d limit bytes true ∙ (ap before (tail_broken bytes true b ∙ sym (tail_broken bytes false b)) ∙ sym (tokens_of-tokens d limit bytes false)) in
+          tokens_of-tokens d limit bytes true
+          ∙ (ap before (tail_broken bytes true b ∙ sym (tail_broken bytes false b)) ∙ sym (tokens_of-tokens d limit bytes false)) in
           let r = reasons d limit bytes true in
           false≢true (sym (subst (λ x. EndsFor d limit bytes true x (tokens_of d limit bytes true).at) (ap (λ x. x.outcome) same ∙ o) r).0)
 
@@ -193,10 +197,12 @@ module _ (d : Dialect) (limit : ℕ) (bytes : List ℕ) where
       let bad = ends_bad (suc (length (drop (mark (good bytes)) (good bytes)))) d limit false _ (drop (mark (good bytes)) (good bytes)) (omega arith) waiting in
       let same : tokens_of d limit (bytes ++ no_byte) true ≡ before broken =
       tokens_of-tokens d limit (bytes ++ no_byte) true
-      ∙ (ap (λ t. tokens d limit t false (past first_place (take (mark (good (bytes ++ no_byte))) (good (bytes ++ no_byte)))) (drop (mark (good (bytes ++ no_byte))) (good (bytes ++ no_byte)))) (bad_tail bytes)
+      ∙ (ap (λ t. tokens d limit t false (past first_place (take (mark (good (bytes ++ no_byte))) (good (bytes ++ no_byte))))
+      (drop (mark (good (bytes ++ no_byte))) (good (bytes ++ no_byte)))) (bad_tail bytes)
       ∙ ap (λ g. tokens d limit broken false (past first_place (take (mark g) g)) (drop (mark g) g)) (same_good bytes)) in
       let r = reasons d limit (bytes ++ no_byte) true in
-      (subst (λ x. EndsFor d limit (bytes ++ no_byte) true x (tokens_of d limit (bytes ++ no_byte) true).at) (ap (λ x. x.outcome) same ∙ bad) r).0 ∙ same_front bytes
+      (subst (λ x. EndsFor d limit (bytes ++ no_byte) true x (tokens_of d limit (bytes ++ no_byte) true).at)
+      (ap (λ x. x.outcome) same ∙ bad) r).0 ∙ same_front bytes
 
 -- what a scanner reads lies between its place and the end of what it holds
 held_within : (v : Unread) → (reading_of v no_byte true).at.offset ≤ v.place.offset + unread_bytes v

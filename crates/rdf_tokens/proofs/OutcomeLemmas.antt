@@ -267,7 +267,8 @@ tail_is bytes e = by (utf8_valid_len bytes == length bytes) refl e (is_some (utf
     less : (utf8_valid_len bytes == length bytes) ≡ false → utf8_valid_len bytes < length bytes
     less f =
         let l = utf8_valid_len_le bytes in
-        ⊎_elim (λ h. h) (λ h. absurd (false≢true (sym f ∙ eq-eqb (utf8_valid_len bytes) (length bytes) (omega arith)))) (cases_lt (utf8_valid_len bytes) (length bytes))
+        ⊎_elim (λ h. h) (λ h. absurd (false≢true (sym f ∙ eq-eqb (utf8_valid_len bytes) (length bytes) (omega arith))))
+        (cases_lt (utf8_valid_len bytes) (length bytes))
 
     by : (a : Bool) → (utf8_valid_len bytes == length bytes) ≡ a → (e b : Bool) → TailIs bytes e (cond a (cond e ended goes_on) (cond (e || b) broken goes_on))
     by true h true b = (refl, eqb-true (utf8_valid_len bytes) (length bytes) h)
@@ -283,7 +284,8 @@ module _ (d : Dialect) (limit : ℕ) (bytes : List ℕ) (e : Bool) where
   size : length (take (utf8_valid_len bytes) bytes) ≡ utf8_valid_len bytes
   size = length-take-le (utf8_valid_len bytes) bytes (utf8_valid_len_le bytes)
 
-  reason : (o : Outcome) (p : Place) (w : List ℕ) → At (take (utf8_valid_len bytes) bytes) p w → Why d limit (tail_of bytes e) w o → EndsFor d limit bytes e o (stop_place o p w)
+  reason : (o : Outcome) (p : Place) (w : List ℕ) → At (take (utf8_valid_len bytes) bytes) p w → Why d limit (tail_of bytes e) w o →
+      EndsFor d limit bytes e o (stop_place o p w)
   reason undecided p w h y = (
     subst (TailIs bytes e) y.0 (tail_is bytes e),
     subst (λ v. (v ≡ []) ⊎ Live d v) (here p w h) (⊎_elim (λ x. inl x) (λ x. inr (live-shape d w x)) y.1),
@@ -307,10 +309,12 @@ module _ (d : Dialect) (limit : ℕ) (bytes : List ℕ) (e : Bool) where
   abbrev Reasons : Place → List ℕ → Reading → Type 0
   Reasons p w r = At (take (utf8_valid_len bytes) bytes) p w → EndsFor d limit bytes e r.outcome r.at × All (IsLongestIn d bytes) r.tokens
 
-  all_reasons : EndsFor d limit bytes e (tokens_of d limit bytes e).outcome (tokens_of d limit bytes e).at × All (IsLongestIn d bytes) (tokens_of d limit bytes e).tokens
+  all_reasons : EndsFor d limit bytes e (tokens_of d limit bytes e).outcome (tokens_of d limit bytes e).at × All (IsLongestIn d bytes)
+      (tokens_of d limit bytes e).tokens
   all_reasons =
       subst (λ r. EndsFor d limit bytes e r.outcome r.at × All (IsLongestIn d bytes) r.tokens) (sym (tokens_of-tokens d limit bytes e))
-      (by_steps d limit (tail_of bytes e) Reasons stops takes false _ _ (at-more (take (utf8_valid_len bytes) bytes) first_place (good bytes) (mark (good bytes)) start))
+      (by_steps d limit (tail_of bytes e) Reasons stops takes false _ _
+      (at-more (take (utf8_valid_len bytes) bytes) first_place (good bytes) (mark (good bytes)) start))
     where
       ends : (o : Outcome) (q : Place) → All (IsLongestIn d bytes) (end_tokens o q)
       ends complete q = All-cons (IsLongestIn d bytes) (record { kind = End; text = []; at = q }) [] (inl refl) (All-nil (IsLongestIn d bytes))
@@ -319,7 +323,8 @@ module _ (d : Dialect) (limit : ℕ) (bytes : List ℕ) (e : Bool) where
       stops : (b : Bool) (p : Place) (w : List ℕ) (o : Outcome) → step d limit (tail_of bytes e) (rest_of d b w) ≡ stop o →
           Reasons p w (record { tokens = end_tokens o (place_of d b p w); outcome = o; at = stop_place o (place_of d b p w) (rest_of d b w) })
       stops b p w o s = λ h. (
-        reason o (place_of d b p w) (rest_of d b w) (at-more (take (utf8_valid_len bytes) bytes) p w (blank d b w) h) (why d limit (tail_of bytes e) (rest_of d b w) o s),
+        reason o (place_of d b p w) (rest_of d b w) (at-more (take (utf8_valid_len bytes) bytes) p w (blank d b w) h)
+            (why d limit (tail_of bytes e) (rest_of d b w) o s),
         ends o (place_of d b p w),
       )
 

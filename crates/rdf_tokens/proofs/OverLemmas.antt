@@ -42,7 +42,8 @@ and_false true = refl
 and_false false = refl
 
 -- where the states end before the limit, nothing is over it
-none_over : (d : Dialect) (limit : ℕ) (w : List ℕ) → kind_at (state_of d (take (limit + 1) w)) ≡ None → goes_on d (state_of d (take (limit + 1) w)) ≡ false → shaped_over d limit w ≡ false
+none_over : (d : Dialect) (limit : ℕ) (w : List ℕ) → kind_at (state_of d (take (limit + 1) w)) ≡ None →
+    goes_on d (state_of d (take (limit + 1) w)) ≡ false → shaped_over d limit w ≡ false
 none_over d limit w k g =
     ap (λ o. nat_lt limit (length w) && (is_some o || goes_on d (state_of d (take (limit + 1) w)))) k
     ∙ (ap (λ b. nat_lt limit (length w) && b) g ∙ and_false (nat_lt limit (length w)))
@@ -64,7 +65,8 @@ ends-within d limit w e = ⊎_elim
     no_more m = ap (λ b. b && (is_some (kind_at (state_of d (take (limit + 1) w))) || goes_on d (state_of d (take (limit + 1) w)))) (le-ltb _ _ m)
 
 -- what is kept of a run without names tells that
-pub names-within : (d : Dialect) (limit : ℕ) (bs : List ℕ) (b : Option NoNames) → HasNoNames d bs b → ends_within limit bs b ≡ true → shaped_over d limit (chars bs) ≡ false
+pub names-within : (d : Dialect) (limit : ℕ) (bs : List ℕ) (b : Option NoNames) → HasNoNames d bs b → ends_within limit bs b ≡ true →
+    shaped_over d limit (chars bs) ≡ false
 names-within d limit bs None h e = absurd (false≢true e)
 names-within d limit bs (Some b) h e =
     let p = and_parts (nat_lt b.left (length bs)) (nat_le (length bs - limit) b.out && is_letter (get_or bs 0 0)) e in
@@ -77,7 +79,8 @@ names-within d limit bs (Some b) h e =
     le-true m n e = grind (arith, nat_tests)
 
 -- where the states stop, they have ended, or the text has
-pub come-end : (d : Dialect) (bs : List ℕ) (b : Begun) → HasCome d bs b → (length bs < b.count) ⊎ ((length bs ≤ b.at) ⊎ (goes_on d b.state ≡ false)) → Ends d (chars bs) b.count
+pub come-end : (d : Dialect) (bs : List ℕ) (b : Begun) → HasCome d bs b →
+    (length bs < b.count) ⊎ ((length bs ≤ b.at) ⊎ (goes_on d b.state ≡ false)) → Ends d (chars bs) b.count
 come-end d bs b h e =
     let i = h.here.inside in
     ⊎_elim
@@ -101,7 +104,8 @@ ends-early d bs at n limit s h es l e = ⊎_elim
     e
   where
     no_more : length (chars bs) ≤ limit → shaped_over d limit (chars bs) ≡ false
-    no_more m = ap (λ b. b && (is_some (kind_at (state_of d (take (limit + 1) (chars bs)))) || goes_on d (state_of d (take (limit + 1) (chars bs))))) (le-ltb _ _ m)
+    no_more m = ap (λ b. b && (is_some (kind_at (state_of d (take (limit + 1) (chars bs)))) || goes_on d
+        (state_of d (take (limit + 1) (chars bs))))) (le-ltb _ _ m)
 
 -- whether the limit is passed, by the state after one character more than it
 pub by_state : (d : Dialect) (limit n : ℕ) (w : List ℕ) (s : State) → n ≡ limit + 1 → n ≤ length w → s ≡ state_of d (take n w) →
@@ -152,7 +156,8 @@ row-over r limit w l =
         (cases_lt limit n)
 
 -- some spelling is too long exactly where the text begins one or is one, one character past the limit
-rows-over : (rs : List Row) (limit : ℕ) (w : List ℕ) → limit < length w → (is_some (kind_by rs (take (limit + 1) w)) || live_by rs (take (limit + 1) w)) ≡ fixed_over rs limit w
+rows-over : (rs : List Row) (limit : ℕ) (w : List ℕ) → limit < length w →
+    (is_some (kind_by rs (take (limit + 1) w)) || live_by rs (take (limit + 1) w)) ≡ fixed_over rs limit w
 rows-over [] limit w l = refl
 rows-over (r ∷ rs) limit w l =
     let o = left r.any_case r.text (take (limit + 1) w) in
@@ -170,7 +175,8 @@ rows-over (r ∷ rs) limit w l =
 -- a spelling of more characters than the text does not begin it
 row-short : (r : Row) (limit : ℕ) (w : List ℕ) → length w ≤ limit → row_over r limit w ≡ false
 row-short r limit w l = ⊎_elim
-    (λ h. ap (λ b. nat_lt limit (length r.text) && b) (short r.any_case (take (limit + 1) r.text) w (omega (arith, length-take-le (limit + 1) r.text (omega arith)))) ∙ and_false _)
+    (λ h. ap (λ b. nat_lt limit (length r.text) && b)
+    (short r.any_case (take (limit + 1) r.text) w (omega (arith, length-take-le (limit + 1) r.text (omega arith)))) ∙ and_false _)
     (λ h. ap (λ b. b && begins r.any_case (take (limit + 1) r.text) w) (le-ltb limit (length r.text) h))
     (cases_lt limit (length r.text))
 
@@ -197,7 +203,8 @@ over-split d limit w h = ⊎_elim
     let t = le-ltb limit (length w) l in
     ap (λ b. b && (is_some (kind_of d (take (limit + 1) w)) || is_live d (take (limit + 1) w))) t
     ∙ (sym (rows-short (rows_of d fixed) limit w l)
-    ∙ sym (ap (λ b. (b && (is_some (kind_at (state_of d (take (limit + 1) w))) || goes_on d (state_of d (take (limit + 1) w)))) || fixed_over (rows_of d fixed) limit w) t)))
+    ∙ sym (ap (λ b. (b && (is_some (kind_at (state_of d (take (limit + 1) w))) || goes_on d (state_of d (take (limit + 1) w))))
+    || fixed_over (rows_of d fixed) limit w) t)))
     (cases_lt limit (length w))
   where
     regroup : (a b : Option Kind) (g l : Bool) → (is_some (or_else a b) || (g || l)) ≡ ((is_some b || g) || (is_some a || l))
@@ -224,7 +231,8 @@ over-encodes (r ∷ rs) limit w e =
     ∙ ap (λ b. row_over r limit w || b) (over-encodes rs limit w p.1)
 
 -- the test of the limit may be made on the bytes of a text
-pub over-bytes : (d : Dialect) (limit : ℕ) (bs : List ℕ) → IsUtf8 bs → over d limit (chars bs) ≡ (shaped_over d limit (chars bs) || fixed_over (rows_of d fixed) limit bs)
+pub over-bytes : (d : Dialect) (limit : ℕ) (bs : List ℕ) → IsUtf8 bs →
+    over d limit (chars bs) ≡ (shaped_over d limit (chars bs) || fixed_over (rows_of d fixed) limit bs)
 over-bytes d limit bs u =
     over-split d limit (chars bs) (is-chars bs u)
     ∙ ap (λ b. shaped_over d limit (chars bs) || b)
@@ -233,4 +241,5 @@ over-bytes d limit bs u =
 -- no token of a text is too long if the text is within the limit
 pub over-short : (d : Dialect) (limit : ℕ) (bs : List ℕ) → IsUtf8 bs → length bs ≤ limit → over d limit (chars bs) ≡ false
 over-short d limit bs u l =
-    ap (λ b. b && (is_some (kind_of d (take (limit + 1) (chars bs))) || is_live d (take (limit + 1) (chars bs)))) (le-ltb limit (length (chars bs)) (omega (arith, fewer bs u)))
+    ap (λ b. b && (is_some (kind_of d (take (limit + 1) (chars bs))) || is_live d (take (limit + 1) (chars bs))))
+    (le-ltb limit (length (chars bs)) (omega (arith, fewer bs u)))

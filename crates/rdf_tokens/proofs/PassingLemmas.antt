@@ -21,7 +21,20 @@ use Rattle.rdf_tokens.proofs.LawLemmas.{nothing_yet}
 
 -- a scanner that has given all that came, by its parts
 abbrev idle : ℕ → Dialect → ℕ → Place → Place → List ℕ → Unread
-idle held d limit place taken w = record { dialect = d; limit = limit; place = place; begun = true; comment = false; text = w; pending = []; broken = false; taken = taken; ended = false; stopped = false; held = held }
+idle held d limit place taken w = record {
+  dialect = d;
+  limit = limit;
+  place = place;
+  begun = true;
+  comment = false;
+  text = w;
+  pending = [];
+  broken = false;
+  taken = taken;
+  ended = false;
+  stopped = false;
+  held = held;
+}
 
 -- neither of two
 none : (b c : Bool) → (b || c) ≡ false → (b ≡ false) × (c ≡ false)
@@ -47,18 +60,33 @@ is_idle-parts v e =
     let d = and_parts (not (v.stopped || v.ended || v.broken || v.comment)) v.begun b.0 in
     parts v d.0 d.1 (empty v.text b.1) (none_left v.pending a.1)
   where
-    parts : (v : Unread) → not (v.stopped || v.ended || v.broken || v.comment) ≡ true → v.begun ≡ true → v.text ≡ [] → v.pending ≡ [] → v ≡ idle v.held v.dialect v.limit v.place v.taken []
+    parts : (v : Unread) → not (v.stopped || v.ended || v.broken || v.comment) ≡ true → v.begun ≡ true → v.text ≡ [] → v.pending ≡ [] →
+        v ≡ idle v.held v.dialect v.limit v.place v.taken []
     parts v n g t p =
         let a = none (v.stopped || v.ended || v.broken) v.comment (is_not (v.stopped || v.ended || v.broken || v.comment) n) in
         let b = none (v.stopped || v.ended) v.broken a.0 in
         let d = none v.stopped v.ended b.0 in
         same v d.0 d.1 b.1 a.1 g t p
       where
-        same : (v : Unread) → v.stopped ≡ false → v.ended ≡ false → v.broken ≡ false → v.comment ≡ false → v.begun ≡ true → v.text ≡ [] → v.pending ≡ [] → v ≡ idle v.held v.dialect v.limit v.place v.taken []
+        same : (v : Unread) → v.stopped ≡ false → v.ended ≡ false → v.broken ≡ false → v.comment ≡ false → v.begun ≡ true → v.text ≡ [] →
+            v.pending ≡ [] → v ≡ idle v.held v.dialect v.limit v.place v.taken []
         same v a b c d e f g = fields a b c d e f g
           where
             fields : {s n k m h : Bool} {t q : List ℕ} → s ≡ false → n ≡ false → k ≡ false → m ≡ false → h ≡ true → t ≡ [] → q ≡ [] →
-                (let w : Unread = record { dialect = v.dialect; limit = v.limit; place = v.place; begun = h; comment = m; text = t; pending = q; broken = k; taken = v.taken; ended = n; stopped = s; held = v.held } in w)
+                (let w : Unread = record {
+                  dialect = v.dialect;
+                  limit = v.limit;
+                  place = v.place;
+                  begun = h;
+                  comment = m;
+                  text = t;
+                  pending = q;
+                  broken = k;
+                  taken = v.taken;
+                  ended = n;
+                  stopped = s;
+                  held = v.held;
+                } in w)
                 ≡ idle v.held v.dialect v.limit v.place v.taken []
             fields a b c d e f g = cc
 
@@ -79,18 +107,34 @@ module _ (piece : List ℕ) (u : IsUtf8 piece) where
   grown_idle held d limit p t = same_fields good_whole (cond-false (is_broken piece) [] (rest_of_bytes piece) unbroken ∙ rest_none) unbroken
     where
       same_fields : {x : List ℕ} {y : List ℕ} {b : Bool} → x ≡ chars piece → y ≡ [] → b ≡ false →
-          (let v : Unread = record { dialect = d; limit = limit; place = p; begun = true; comment = false; text = x; pending = y; broken = b; taken = beyond t piece; ended = false; stopped = false; held = held } in v)
+          (let v : Unread = record {
+            dialect = d;
+            limit = limit;
+            place = p;
+            begun = true;
+            comment = false;
+            text = x;
+            pending = y;
+            broken = b;
+            taken = beyond t piece;
+            ended = false;
+            stopped = false;
+            held = held;
+          } in v)
           ≡ idle held d limit p (beyond t piece) (chars piece)
       same_fields e f g = cc
 
-  idle_read : (held : ℕ) (d : Dialect) (limit : ℕ) (p t : Place) (bytes : List ℕ) (ts us : List Token) → HasScanned (idle held d limit p t []) bytes ts → Spells d limit p (chars piece) us →
+  idle_read : (held : ℕ) (d : Dialect) (limit : ℕ) (p t : Place) (bytes : List ℕ) (ts us : List Token) →
+      HasScanned (idle held d limit p t []) bytes ts → Spells d limit p (chars piece) us →
       HasScanned (idle held d limit (beyond p piece) (beyond t piece) []) (bytes ++ piece) (ts ++ us)
   idle_read held d limit p t bytes ts us r s =
       let v = idle held d limit p (beyond t piece) (chars piece) in
       let w = idle held d limit (past p (chars piece)) (beyond t piece) [] in
       let m : Moves v us w = record { same = refl; less = omega arith; on = λ tail x may. s tail x } in
-      let pushed = subst (λ x. HasScanned x (bytes ++ piece) ts) (grown_idle held d limit p t) (read_push (idle held d limit p t []) bytes piece ts refl refl r) in
-      subst (λ q. HasScanned (idle held d limit q (beyond t piece) []) (bytes ++ piece) (ts ++ us)) (past-chars p piece u) (read_on v w (bytes ++ piece) ts us refl begins_nil m pushed)
+      let pushed = subst (λ x. HasScanned x (bytes ++ piece) ts) (grown_idle held d limit p t)
+      (read_push (idle held d limit p t []) bytes piece ts refl refl r) in
+      subst (λ q. HasScanned (idle held d limit q (beyond t piece) []) (bytes ++ piece) (ts ++ us)) (past-chars p piece u)
+      (read_on v w (bytes ++ piece) ts us refl begins_nil m pushed)
 
 pub passed_read : PassedTokensAreRead
 passed_read v bytes piece ts us r e u s =

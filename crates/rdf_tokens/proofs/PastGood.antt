@@ -32,7 +32,8 @@ module _ (u y : List ℕ) (text : IsUtf8 u) where
       let front : IsUtf8 (take (length u) (u ++ take k y)) = subst IsUtf8 (sym (take_at u (take k y) (length u) refl)) text in
       let within : length u ≤ length (u ++ take k y) = omega (arith, length-append u (take k y)) in
       let rest : IsUtf8 (take k y) =
-      subst IsUtf8 (drop_at u (take k y) (length u) refl) (IsUtf8-drop (u ++ take k y) (length u) utf (IsCharBoundary-from_take (u ++ take k y) (length u) utf within front)) in
+      subst IsUtf8 (drop_at u (take k y) (length u) refl)
+      (IsUtf8-drop (u ++ take k y) (length u) utf (IsCharBoundary-from_take (u ++ take k y) (length u) utf within front)) in
       let a = at_least y (length y) k (omega (arith, length-append u y)) rest in
       omega arith
 
@@ -41,7 +42,8 @@ module _ (u y : List ℕ) (text : IsUtf8 u) where
 
   -- the good text after a text
   pub good_past : good (u ++ y) ≡ chars u ++ good y
-  good_past = ap (λ n. chars (take n (u ++ y))) valid_past ∙ (ap chars (take-append-add u y (utf8_valid_len y)) ∙ chars-append u (take (utf8_valid_len y) y) text)
+  good_past = ap (λ n. chars (take n (u ++ y))) valid_past
+      ∙ (ap chars (take-append-add u y (utf8_valid_len y)) ∙ chars-append u (take (utf8_valid_len y) y) text)
 
   pub rest_past : drop (utf8_valid_len (u ++ y)) (u ++ y) ≡ drop (utf8_valid_len y) y
   rest_past = ap (λ n. drop n (u ++ y)) valid_past ∙ drop-append-add u y (utf8_valid_len y)

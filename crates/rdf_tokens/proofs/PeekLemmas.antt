@@ -46,7 +46,12 @@ local_is bs from end e =
     let p = and_parts (is_name_end bs end) _ e in
     let q = and_parts (nat_lt from end) _ p.1 in
     let l = ltb-true from end q.0 in
-    record { ends = p.0; some = λ z. omega (arith, z, l); no_hyphen = λ z. let h : not (get_or bs from 0 == 45) ≡ false = ap (λ b. not (b == 45)) z in absurd (true≢false (sym q.1 ∙ h)) }
+    record {
+      ends = p.0;
+      some = λ z. omega (arith, z, l);
+      no_hyphen = λ z. let h : not (get_or bs from 0 == 45) ≡ false =
+          ap (λ b. not (b == 45)) z in absurd (true≢false (sym q.1 ∙ h));
+    }
 
 -- a byte of names is no backslash
 unescaped_byte : (b : ℕ) → is_name_byte b ≡ true → is_unescaped b ≡ true
@@ -124,7 +129,8 @@ seen_after bs n (Some p) e s b = by_space bs p (subst (λ n. Sees (drop n bs) n 
     by_space [] p s b = none [] p s b
     by_space (c ∷ w) p s b = go (stands_at 32 (c ∷ w) 0) refl s b
       where
-        go : (t : Bool) → stands_at 32 (c ∷ w) 0 ≡ t → Sees (drop (cond t 1 0) (c ∷ w)) (cond t 1 0) (Some p) → IsBare (drop (cond t 1 0) (c ∷ w)) → IsSeen (c ∷ w) p
+        go : (t : Bool) → stands_at 32 (c ∷ w) 0 ≡ t → Sees (drop (cond t 1 0) (c ∷ w)) (cond t 1 0) (Some p) →
+            IsBare (drop (cond t 1 0) (c ∷ w)) → IsSeen (c ∷ w) p
         go true e s b = subst (λ c. IsSeen (c ∷ w) p) (sym (eqb-true c 32 (and_parts (nat_lt 0 (length (c ∷ w))) _ e).1)) (one w p s b)
         go false e s b = none (c ∷ w) p s b
 
@@ -208,7 +214,8 @@ may_on : (v : Unread) (p : Place) (n : ℕ) → MayPeek v → MayPeek (moved v p
 may_on v p n m =
     let front = encode_utf8_all (take n v.text) in
     let rest = encode_utf8_all (drop n v.text) in
-    let whole : encode_utf8_all v.text ≡ front ++ rest = ap encode_utf8_all (sym (take-append-drop n v.text)) ∙ encodes-append (take n v.text) (drop n v.text) in
+    let whole : encode_utf8_all v.text ≡ front ++ rest =
+    ap encode_utf8_all (sym (take-append-drop n v.text)) ∙ encodes-append (take n v.text) (drop n v.text) in
     let short = m.short in
     record {
       plain = subst (λ b. is_turtle v.dialect && (v.begun && (not v.stopped && not b)) ≡ true) (plain_is v m.plain).outside m.plain;
@@ -221,7 +228,8 @@ pub may_bared : (v : Unread) → MayPeek v → comment_after v.dialect v.comment
 may_bared v m e =
     let n = blank v.dialect v.comment v.text in
     let p = past v.place (take n v.text) in
-    subst (λ c. MayPeek (moved v p true c (drop n v.text))) (sym e) (subst (λ b. MayPeek (moved v p b false (drop n v.text))) (plain_is v m.plain).begun (may_on v p n m))
+    subst (λ c. MayPeek (moved v p true c (drop n v.text))) (sym e)
+    (subst (λ b. MayPeek (moved v p b false (drop n v.text))) (plain_is v m.plain).begun (may_on v p n m))
 
 -- A token that is seen is taken: the scanner moves over the white space before it.
 module _ (v mid : Unread) (p : Peeked) (s : IsPeeked v p) (h : MovesBytes v p.blank mid) where
@@ -240,7 +248,8 @@ module _ (v mid : Unread) (p : Peeked) (s : IsPeeked v p) (h : MovesBytes v p.bl
   pub look_peeked : IsLook (IsAt p.len p.kind) (step mid.dialect mid.limit (tail_now mid) mid.text) mid.text
   look_peeked =
       subst (λ m. IsLook (IsAt p.len p.kind) (step m.dialect m.limit (tail_now m) m.text) m.text) (sym bared_peeked)
-      (subst (λ b. IsLook (IsAt p.len p.kind) (step v.dialect v.limit (tail_now v) (rest_of v.dialect b v.text)) (rest_of v.dialect b v.text)) (sym known.outside) (s.look (tail_now v)))
+      (subst (λ b. IsLook (IsAt p.len p.kind) (step v.dialect v.limit (tail_now v) (rest_of v.dialect b v.text))
+      (rest_of v.dialect b v.text)) (sym known.outside) (s.look (tail_now v)))
 
   -- whose colon is right
   pub colon_peeked : KnowsColon (take p.len (encode_utf8_all mid.text)) p.colon
@@ -255,7 +264,8 @@ module _ (v mid : Unread) (p : Peeked) (s : IsPeeked v p) (h : MovesBytes v p.bl
       let is = g.0 l.0 l.3 in
       let k = ap (λ t. t.kind) is.token in
       record {
-        given = gives_look v mid (subst (Moves v []) (sym bared_peeked) (moves_bared v known.begun)) known.running s.may.begins (subst Stands (sym bared_peeked) (stands_bared v)) p.len p.kind (token_of t) new l g.0;
+        given = gives_look v mid (subst (Moves v []) (sym bared_peeked) (moves_bared v known.begun)) known.running s.may.begins
+            (subst Stands (sym bared_peeked) (stands_bared v)) p.len p.kind (token_of t) new l g.0;
         colon = g.1;
         kind = k;
         goes_on = ap is_end k ∙ not_end p.kind (step-token mid.dialect mid.limit (tail_now mid) mid.text l.0 p.kind l.1).2;
@@ -269,7 +279,8 @@ plain_begun v p = (plain_is v p).begun
 
 -- what may be seen, by the bytes of the text
 pub may_see : (v : Unread) (bs : List ℕ) → IsUtf8 bs → chars bs ≡ v.text → BeginsChar v.pending → is_plain v ≡ true → length bs ≤ v.limit → MayPeek v
-may_see v bs u e b p l = record { plain = p; begins = b; short = subst (λ n. n ≤ v.limit) (ap length (sym (encodes-chars bs u)) ∙ ap (λ w. length (encode_utf8_all w)) e) l }
+may_see v bs u e b p l =
+    record { plain = p; begins = b; short = subst (λ n. n ≤ v.limit) (ap length (sym (encodes-chars bs u)) ∙ ap (λ w. length (encode_utf8_all w)) e) l }
 
 -- White space is passed before a token: what was read stays as it is.
 pub passes_bared : (v new : Unread) → MayPeek v → new ≡ bared v → PassesBlank v new
@@ -302,7 +313,8 @@ shorter [] w x e h = absurd (h refl)
 shorter (c ∷ u) w x e h = subst (λ x. length w < length x) e (let l = length-append (c ∷ u) w in omega (arith, l))
 
 -- Where it has some bytes, less is left.
-pub bared_less : (v : Unread) (rest : List ℕ) (len : ℕ) → rest ≡ v.text → len ≡ bytes_of (blank v.dialect v.comment rest) rest → (len ≡ 0 → ⊥) → left (bared v) < left v
+pub bared_less : (v : Unread) (rest : List ℕ) (len : ℕ) → rest ≡ v.text → len ≡ bytes_of (blank v.dialect v.comment rest) rest →
+    (len ≡ 0 → ⊥) → left (bared v) < left v
 bared_less v rest len r l some =
     let n = blank v.dialect v.comment v.text in
     let none : take n v.text ≡ [] → ⊥ = λ e. some (l ∙ (ap (λ w. bytes_of (blank v.dialect v.comment w) w) r ∙ ap (λ u. length (encode_utf8_all u)) e)) in

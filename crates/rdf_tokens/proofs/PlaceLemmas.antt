@@ -42,7 +42,8 @@ feeds-encode c =
     (λ b. ap feeds (encode_two c a b) ∙ many c a (two (192 + c / 64) (128 + c % 64) (omega arith) (omega arith)))
     (λ b. ⊎_elim
     (λ d. ap feeds (encode_three c b d) ∙ many c a (three (224 + c / 4096) (128 + (c / 64) % 64) (128 + c % 64) (omega arith) (omega arith) (omega arith)))
-    (λ d. ap feeds (encode_four c d) ∙ many c a (four (240 + c / 262144) (128 + (c / 4096) % 64) (128 + (c / 64) % 64) (128 + c % 64) (omega arith) (omega arith) (omega arith) (omega arith)))
+    (λ d. ap feeds (encode_four c d) ∙ many c a (four (240 + c / 262144) (128 + (c / 4096) % 64) (128 + (c / 64) % 64) (128 + c % 64)
+    (omega arith) (omega arith) (omega arith) (omega arith)))
     (cases_lt c 65536))
     (cases_lt c 2048))
     (cases_lt c 128)

@@ -38,11 +38,13 @@ use Rattle.rdf_tokens.proofs.SpellingLemmas.{quotes-bytes}
 use Rattle.rdf_tokens.proofs.StateLemmas.{reached-step}
 
 -- one byte of ASCII on, in a text that does not begin with three quotes
-pub byte_on : (d : Dialect) (bs : List ℕ) (at : ℕ) (s t : State) (k : Option Kind) (b : Option (ℕ × Kind)) → three_quotes d (chars bs) ≡ false → at < length bs → get_or bs at 0 < 128 →
+pub byte_on : (d : Dialect) (bs : List ℕ) (at : ℕ) (s t : State) (k : Option Kind) (b : Option (ℕ × Kind)) →
+    three_quotes d (chars bs) ≡ false → at < length bs → get_or bs at 0 < 128 →
     Reached d bs at s b → t ≡ step d s (get_or bs at 0) → k ≡ kind_at t → Reached d bs (at + 1) t (with_length (at + 1) k b)
 byte_on d bs at s t k b q i a h es ek =
     let c = get_or bs at 0 in
-    reached-step d bs at (at + 1) c s t k b (with_length (at + 1) k b) h (ascii_first bs at i a) (omega (arith, ap length (encode_ascii c a), length-encode c)) (omega arith) es
+    reached-step d bs at (at + 1) c s t k b (with_length (at + 1) k b) h (ascii_first bs at i a)
+    (omega (arith, ap length (encode_ascii c a), length-encode c)) (omega arith) es
     (ek ∙ sym (ap (λ x. only_long x (kind_at t)) q)) refl
 
 -- no spelling begins with such a byte
@@ -50,7 +52,8 @@ abbrev begins_none : ℕ → Type 0
 begins_none c = (d : Dialect) → no_first c (rows_of d fixed) ≡ true
 
 -- so none stands at the front, and none is begun
-unspelled : (d : Dialect) (c : ℕ) (bs : List ℕ) → begins_none c → 0 < length bs → get_or bs 0 0 ≡ c → (front_by (rows_of d fixed) bs ≡ None) × (live_by (rows_of d fixed) bs ≡ false)
+unspelled : (d : Dialect) (c : ℕ) (bs : List ℕ) → begins_none c → 0 < length bs → get_or bs 0 0 ≡ c →
+    (front_by (rows_of d fixed) bs ≡ None) × (live_by (rows_of d fixed) bs ≡ false)
 unspelled d c [] n l e = absurd (omega arith)
 unspelled d c (x ∷ t) n l e = first_rows (rows_of d fixed) x t (ap (λ x. no_first x (rows_of d fixed)) e ∙ n d)
 
@@ -77,7 +80,8 @@ no_quote_third Turtle Double b w p = ap (λ t. t || false) p
 no_quote_third Turtle Single b w p = p
 
 -- A text that begins with a byte of ASCII that is no quote.
-pub quotes_of : (d : Dialect) (bs : List ℕ) (c : ℕ) → IsUtf8 bs → 0 < length bs → c < 128 → get_or bs 0 0 ≡ c → (c == 34) ≡ false → (c == 39) ≡ false → three_quotes d (chars bs) ≡ false
+pub quotes_of : (d : Dialect) (bs : List ℕ) (c : ℕ) → IsUtf8 bs → 0 < length bs → c < 128 → get_or bs 0 0 ≡ c → (c == 34) ≡ false →
+    (c == 39) ≡ false → three_quotes d (chars bs) ≡ false
 quotes_of d bs c u l a e p q =
     let low : get_or bs 0 0 < 128 = omega (arith, e) in
     ap (three_quotes d) ((one_on bs 0 (at-start bs u) l low).0 ∙ ap (λ x. x ∷ drop 1 (chars bs)) e) ∙ no_quote_first d c (drop 1 (chars bs)) p q
@@ -105,7 +109,8 @@ module _ (d : Dialect) (bs : List ℕ) (u : IsUtf8 bs) (e : begins_iri bs ≡ tr
       let p = and_parts (nat_lt end (length bs)) (get_or bs end 0 == 62) z in
       let inside : end < length bs = ltb-true end (length bs) p.0 in
       let ends : get_or bs end 0 ≡ 62 = eqb-true (get_or bs end 0) 62 p.1 in
-      let closed = byte_on d bs end (Iri iri.Inside) (Iri iri.Whole) (Some IriRef) None q inside (omega (arith, ends)) (iri_reached end r) (sym (ap (step d (Iri iri.Inside)) ends)) refl in
+      let closed = byte_on d bs end (Iri iri.Inside) (Iri iri.Whole) (Some IriRef) None q inside (omega (arith, ends)) (iri_reached end r)
+      (sym (ap (step d (Iri iri.Inside)) ends)) refl in
       settled d bs (end + 1) (Iri iri.Whole) (Some (end + 1, IriRef)) None (end + 1) IriRef u closed refl (sym n.0) n.1 refl
       (valued_iri_fit bs end u (omega arith) inside (omega (arith, is_60)) (omega (arith, ends)) (fits-value bs 1 end f))
     where
@@ -254,7 +259,8 @@ module _ (d : Dialect) (q : Quote) (bs : List ℕ) (u : IsUtf8 bs) (o : opens_wi
       sym (quotes-bytes d bs u) ∙ (ap (three_quotes d) both ∙ no_quote_second d q (get_or bs 1 0) (drop 2 bs) n)
 
   -- the states within the string have come to the second quote
-  pub string_token : (end : ℕ) → three_quotes d (chars bs) ≡ false → FitsInString bs 1 end → stands_at (quote_byte q) bs end ≡ true → Reached d bs end (Text (text.Short q)) None →
+  pub string_token : (end : ℕ) → three_quotes d (chars bs) ≡ false → FitsInString bs 1 end → stands_at (quote_byte q) bs end ≡ true →
+      Reached d bs end (Text (text.Short q)) None →
       IsToken d bs (end + 1) ShortString
   string_token end one f z r =
       let from = f.from in
@@ -264,7 +270,8 @@ module _ (d : Dialect) (q : Quote) (bs : List ℕ) (u : IsUtf8 bs) (o : opens_wi
       let low : get_or bs end 0 < 128 = subst (λ n. n < 128) (sym ends) (low_quote q) in
       let closed = byte_on d bs end (Text (text.Short q)) (Text text.ShortWhole) (Some ShortString) None one inside low r
       (closed_string d q ∙ sym (ap (step d (Text (text.Short q))) ends)) refl in
-      settled d bs (end + 1) (Text text.ShortWhole) (Some (end + 1, ShortString)) None (end + 1) ShortString u closed refl (sym no_spelling.0) no_spelling.1 refl
+      settled d bs (end + 1) (Text text.ShortWhole) (Some (end + 1, ShortString)) None (end + 1) ShortString u closed refl
+      (sym no_spelling.0) no_spelling.1 refl
       (string_fit end (omega arith) inside low f)
 
   -- a byte of ASCII that stands in strings comes second
@@ -286,7 +293,8 @@ module _ (d : Dialect) (q : Quote) (bs : List ℕ) (u : IsUtf8 bs) (o : opens_wi
     plain_fits = fits_byte bs 1 two plain_second.1
 
   -- Bytes that stand in strings come between the quotes, and no escape.
-  pub quick_string : (end : ℕ) → begins_string q bs ≡ true → IsRun (goes_over (short_run q)) bs 2 end → stands_at (quote_byte q) bs end ≡ true → IsToken d bs (end + 1) ShortString
+  pub quick_string : (end : ℕ) → begins_string q bs ≡ true → IsRun (goes_over (short_run q)) bs 2 end →
+      stands_at (quote_byte q) bs end ≡ true → IsToken d bs (end + 1) ShortString
   quick_string end e r z =
       let none = sym (no_long (three_quotes d (chars bs))) in
       string_token end (one_quote (two e) (plain_second e).2) (fits-more bs 1 2 end (plain_fits e) (fits_run (short_run q) bs 2 end (short_slash q) r)) z
@@ -382,7 +390,8 @@ unfolding is_fit
 label-fit w = refl
 
 -- A label of ASCII before a byte with which no name goes on.
-module _ (d : Dialect) (bs : List ℕ) (end : ℕ) (u : IsUtf8 bs) (e : begins_label bs ≡ true) (r : IsRun is_name_byte bs 3 end) (z : is_name_end bs end ≡ true) where
+module _ (d : Dialect) (bs : List ℕ) (end : ℕ) (u : IsUtf8 bs) (e : begins_label bs ≡ true) (r : IsRun is_name_byte bs 3 end)
+    (z : is_name_end bs end ≡ true) where
   three : 2 < length bs
   three = ltb-true 2 (length bs) (and_parts (nat_lt 2 (length bs)) _ e).0
 
@@ -405,8 +414,10 @@ module _ (d : Dialect) (bs : List ℕ) (end : ℕ) (u : IsUtf8 bs) (e : begins_l
       let c = get_or bs 2 0 in
       let low : c < 128 = low-name c (and_parts (is_name_byte c) _ begun).0 in
       let first = first-none d bs (Label label.Underscore) u (omega arith) (omega (arith, a)) (underscore d ∙ sym (ap (step d Start) a)) refl in
-      let second = byte_on d bs 1 (Label label.Underscore) (Label label.Colon) None None q (omega arith) (omega (arith, b)) first (colon d ∙ sym (ap (step d (Label label.Underscore)) b)) refl in
-      let named : step d (Label label.Colon) c ≡ Label label.Name = label-state _ (implied (begins_label_name c) _ (agree_below_at (label_tests d) (λ c. true) 128 c (label_all d).0 low) begun) in
+      let second = byte_on d bs 1 (Label label.Underscore) (Label label.Colon) None None q (omega arith) (omega (arith, b)) first
+      (colon d ∙ sym (ap (step d (Label label.Underscore)) b)) refl in
+      let named : step d (Label label.Colon) c ≡ Label label.Name =
+      label-state _ (implied (begins_label_name c) _ (agree_below_at (label_tests d) (λ c. true) 128 c (label_all d).0 low) begun) in
       let third = byte_on d bs 2 (Label label.Colon) (Label label.Name) (Some LabelNode) None q l low second (sym named) refl in
       let kind : Some LabelNode ≡ only_long (three_quotes d (chars bs)) (Some LabelNode) = sym (ap (λ x. only_long x (Some LabelNode)) q) in
       let run = reached-run d bs 3 end (Label label.Name) (Some LabelNode) None kind (rests_label bs 3 end r) third in
@@ -415,7 +426,8 @@ module _ (d : Dialect) (bs : List ℕ) (end : ℕ) (u : IsUtf8 bs) (e : begins_l
       let x = get_or bs end 0 in
       let ascii : x < 128 = ltb-true x 128 (and_parts _ _ p.1).0 in
       let dead : step d (Label label.Name) x ≡ Label label.Dead =
-      no_label-state _ (other (is_name_byte x) _ (implied (ends_name x) _ (agree_below_at (over_tests d) (λ c. true) 128 x (label_all d).1 ascii) p.1) (r.stops i)) in
+      no_label-state _ (other (is_name_byte x) _
+      (implied (ends_name x) _ (agree_below_at (over_tests d) (λ c. true) 128 x (label_all d).1 ascii) p.1) (r.stops i)) in
       let over = byte_on d bs end (Label label.Name) (Label label.Dead) None (Some (end, LabelNode)) q i ascii run (sym dead) refl in
       settled d bs (end + 1) (Label label.Dead) (Some (end, LabelNode)) None end LabelNode u over refl (sym n.0) n.1 refl (label-fit _)
     where

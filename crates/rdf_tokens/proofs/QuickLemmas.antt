@@ -30,8 +30,10 @@ use Rattle.rdf_tokens.proofs.RestStates.{rests_prefix}
 use Rattle.rdf_tokens.proofs.StateLemmas.{front-bytes, live-bytes, reached-first, reached-step, reached-dead}
 
 -- where the states have ended and no spelling goes on, the longest front so far is the token
-pub settled : (d : Dialect) (bs : List ℕ) (at : ℕ) (s : State) (b f : Option (ℕ × Kind)) (n : ℕ) (k : Kind) → IsUtf8 bs → Reached d bs at s b → goes_on d s ≡ false →
-    f ≡ front_by (rows_of d fixed) bs → live_by (rows_of d fixed) bs ≡ false → longer_front f b ≡ Some (n, k) → is_fit k (chars (take n bs)) ≡ true → IsToken d bs n k
+pub settled : (d : Dialect) (bs : List ℕ) (at : ℕ) (s : State) (b f : Option (ℕ × Kind)) (n : ℕ) (k : Kind) → IsUtf8 bs →
+    Reached d bs at s b → goes_on d s ≡ false →
+    f ≡ front_by (rows_of d fixed) bs → live_by (rows_of d fixed) bs ≡ false → longer_front f b ≡ Some (n, k) →
+    is_fit k (chars (take n bs)) ≡ true → IsToken d bs n k
 settled d bs at s b f n k u r g ef l e t =
     let p = reached-dead d bs at s b r g in
     record {
@@ -74,11 +76,32 @@ single-lines : (c : ℕ) (k : Kind) → single Lines c ≡ Some k → IsSingle L
 unfolding is_fit
 single-lines c k e =
     by_row (IsSingle Lines) c 46 Dot k _
-    (record { low = omega arith; out = refl; none = refl; front = λ t. refl; closed = on_both (λ t. live_by (rows_of Lines fixed) (46 ∷ t)) refl (λ x t. refl); fit = λ w. refl }) (λ e.
+    (record {
+      low = omega arith;
+      out = refl;
+      none = refl;
+      front = λ t. refl;
+      closed = on_both (λ t. live_by (rows_of Lines fixed) (46 ∷ t)) refl (λ x t. refl);
+      fit = λ w. refl;
+    }) (λ e.
     by_row (IsSingle Lines) c 13 LineEnd k _
-    (record { low = omega arith; out = refl; none = refl; front = λ t. refl; closed = on_both (λ t. live_by (rows_of Lines fixed) (13 ∷ t)) refl (λ x t. refl); fit = λ w. refl }) (λ e.
+    (record {
+      low = omega arith;
+      out = refl;
+      none = refl;
+      front = λ t. refl;
+      closed = on_both (λ t. live_by (rows_of Lines fixed) (13 ∷ t)) refl (λ x t. refl);
+      fit = λ w. refl;
+    }) (λ e.
     by_row (IsSingle Lines) c 10 LineEnd k _
-    (record { low = omega arith; out = refl; none = refl; front = λ t. refl; closed = on_both (λ t. live_by (rows_of Lines fixed) (10 ∷ t)) refl (λ x t. refl); fit = λ w. refl })
+    (record {
+      low = omega arith;
+      out = refl;
+      none = refl;
+      front = λ t. refl;
+      closed = on_both (λ t. live_by (rows_of Lines fixed) (10 ∷ t)) refl (λ x t. refl);
+      fit = λ w. refl;
+    })
     (no_row _ k) e) e) e
 
 -- the single bytes of Turtle and TriG
@@ -86,21 +109,77 @@ single-turtle : (c : ℕ) (k : Kind) → single Turtle c ≡ Some k → IsSingle
 unfolding is_fit
 single-turtle c k e =
     by_row (IsSingle Turtle) c 59 Semicolon k _
-    (record { low = omega arith; out = refl; none = refl; front = λ t. refl; closed = on_both (λ t. live_by (rows_of Turtle fixed) (59 ∷ t)) refl (λ x t. refl); fit = λ w. refl }) (λ e.
+    (record {
+      low = omega arith;
+      out = refl;
+      none = refl;
+      front = λ t. refl;
+      closed = on_both (λ t. live_by (rows_of Turtle fixed) (59 ∷ t)) refl (λ x t. refl);
+      fit = λ w. refl;
+    }) (λ e.
     by_row (IsSingle Turtle) c 44 Comma k _
-    (record { low = omega arith; out = refl; none = refl; front = λ t. refl; closed = on_both (λ t. live_by (rows_of Turtle fixed) (44 ∷ t)) refl (λ x t. refl); fit = λ w. refl }) (λ e.
+    (record {
+      low = omega arith;
+      out = refl;
+      none = refl;
+      front = λ t. refl;
+      closed = on_both (λ t. live_by (rows_of Turtle fixed) (44 ∷ t)) refl (λ x t. refl);
+      fit = λ w. refl;
+    }) (λ e.
     by_row (IsSingle Turtle) c 91 OpenBracket k _
-    (record { low = omega arith; out = refl; none = refl; front = λ t. refl; closed = on_both (λ t. live_by (rows_of Turtle fixed) (91 ∷ t)) refl (λ x t. refl); fit = λ w. refl }) (λ e.
+    (record {
+      low = omega arith;
+      out = refl;
+      none = refl;
+      front = λ t. refl;
+      closed = on_both (λ t. live_by (rows_of Turtle fixed) (91 ∷ t)) refl (λ x t. refl);
+      fit = λ w. refl;
+    }) (λ e.
     by_row (IsSingle Turtle) c 93 CloseBracket k _
-    (record { low = omega arith; out = refl; none = refl; front = λ t. refl; closed = on_both (λ t. live_by (rows_of Turtle fixed) (93 ∷ t)) refl (λ x t. refl); fit = λ w. refl }) (λ e.
+    (record {
+      low = omega arith;
+      out = refl;
+      none = refl;
+      front = λ t. refl;
+      closed = on_both (λ t. live_by (rows_of Turtle fixed) (93 ∷ t)) refl (λ x t. refl);
+      fit = λ w. refl;
+    }) (λ e.
     by_row (IsSingle Turtle) c 40 OpenParen k _
-    (record { low = omega arith; out = refl; none = refl; front = λ t. refl; closed = on_both (λ t. live_by (rows_of Turtle fixed) (40 ∷ t)) refl (λ x t. refl); fit = λ w. refl }) (λ e.
+    (record {
+      low = omega arith;
+      out = refl;
+      none = refl;
+      front = λ t. refl;
+      closed = on_both (λ t. live_by (rows_of Turtle fixed) (40 ∷ t)) refl (λ x t. refl);
+      fit = λ w. refl;
+    }) (λ e.
     by_row (IsSingle Turtle) c 41 CloseParen k _
-    (record { low = omega arith; out = refl; none = refl; front = λ t. refl; closed = on_both (λ t. live_by (rows_of Turtle fixed) (41 ∷ t)) refl (λ x t. refl); fit = λ w. refl }) (λ e.
+    (record {
+      low = omega arith;
+      out = refl;
+      none = refl;
+      front = λ t. refl;
+      closed = on_both (λ t. live_by (rows_of Turtle fixed) (41 ∷ t)) refl (λ x t. refl);
+      fit = λ w. refl;
+    }) (λ e.
     by_row (IsSingle Turtle) c 123 OpenBrace k _
-    (record { low = omega arith; out = refl; none = refl; front = λ t. refl; closed = on_both (λ t. live_by (rows_of Turtle fixed) (123 ∷ t)) refl (λ x t. refl); fit = λ w. refl }) (λ e.
+    (record {
+      low = omega arith;
+      out = refl;
+      none = refl;
+      front = λ t. refl;
+      closed = on_both (λ t. live_by (rows_of Turtle fixed) (123 ∷ t)) refl (λ x t. refl);
+      fit = λ w. refl;
+    }) (λ e.
     by_row (IsSingle Turtle) c 125 CloseBrace k _
-    (record { low = omega arith; out = refl; none = refl; front = λ t. refl; closed = on_both (λ t. live_by (rows_of Turtle fixed) (125 ∷ t)) refl (λ x t. refl); fit = λ w. refl })
+    (record {
+      low = omega arith;
+      out = refl;
+      none = refl;
+      front = λ t. refl;
+      closed = on_both (λ t. live_by (rows_of Turtle fixed) (125 ∷ t)) refl (λ x t. refl);
+      fit = λ w. refl;
+    })
     (no_row _ k) e) e) e) e) e) e) e) e
 
 -- those of both
@@ -109,28 +188,34 @@ single-is Lines c k e = single-lines c k e
 single-is Turtle c k e = single-turtle c k e
 
 -- the states after the first byte of a text that does not begin with three quotes
-pub first-kind : (d : Dialect) (bs : List ℕ) (s : State) (k : Option Kind) → IsUtf8 bs → 0 < length bs → get_or bs 0 0 < 128 → s ≡ step d Start (get_or bs 0 0) →
+pub first-kind : (d : Dialect) (bs : List ℕ) (s : State) (k : Option Kind) → IsUtf8 bs → 0 < length bs → get_or bs 0 0 < 128 →
+    s ≡ step d Start (get_or bs 0 0) →
     three_quotes d (chars bs) ≡ false → k ≡ kind_at s → Reached d bs 1 s (with_length 1 k None)
 first-kind d bs s k u l a es q ek =
     let c = get_or bs 0 0 in
     let kind : with_length 1 (only_long (three_quotes d (chars bs)) (kind_at s)) None ≡ with_length 1 k None =
     ap (λ x. with_length 1 (only_long x (kind_at s)) None) q ∙ ap (λ k. with_length 1 k None) (sym ek) in
-    subst (Reached d bs 1 s) kind (reached-first d bs 1 c s u (ascii_first bs 0 l a) (omega (arith, ap length (encode_ascii c a), length-encode c)) (omega arith) es)
+    subst (Reached d bs 1 s) kind
+    (reached-first d bs 1 c s u (ascii_first bs 0 l a) (omega (arith, ap length (encode_ascii c a), length-encode c)) (omega arith) es)
 
 -- those that have no kind, whatever comes after
-pub first-none : (d : Dialect) (bs : List ℕ) (s : State) → IsUtf8 bs → 0 < length bs → get_or bs 0 0 < 128 → s ≡ step d Start (get_or bs 0 0) → kind_at s ≡ None → Reached d bs 1 s None
+pub first-none : (d : Dialect) (bs : List ℕ) (s : State) → IsUtf8 bs → 0 < length bs → get_or bs 0 0 < 128 →
+    s ≡ step d Start (get_or bs 0 0) → kind_at s ≡ None → Reached d bs 1 s None
 first-none d bs s u l a es k =
     let c = get_or bs 0 0 in
     let t = three_quotes d (chars bs) in
-    let none : with_length 1 (only_long t (kind_at s)) None ≡ None = ap (λ k. with_length 1 (only_long t k) None) k ∙ ap (λ k. with_length 1 k None) (no_long t) in
-    subst (Reached d bs 1 s) none (reached-first d bs 1 c s u (ascii_first bs 0 l a) (omega (arith, ap length (encode_ascii c a), length-encode c)) (omega arith) es)
+    let none : with_length 1 (only_long t (kind_at s)) None ≡ None =
+    ap (λ k. with_length 1 (only_long t k) None) k ∙ ap (λ k. with_length 1 k None) (no_long t) in
+    subst (Reached d bs 1 s) none
+    (reached-first d bs 1 c s u (ascii_first bs 0 l a) (omega (arith, ap length (encode_ascii c a), length-encode c)) (omega arith) es)
 
 -- a byte that is a token by itself is the token
 pub quick_single : (d : Dialect) (bs : List ℕ) (k : Kind) → IsUtf8 bs → 0 < length bs → single d (get_or bs 0 0) ≡ Some k → IsToken d bs 1 k
 quick_single d [] k u l e = absurd (omega arith)
 quick_single d (c ∷ t) k u l e =
     let p = single-is d c k e in
-    settled d (c ∷ t) 1 (step d Start c) None (Some (1, k)) 1 k u (first-none d (c ∷ t) (step d Start c) u l p.low refl p.none) p.out (sym (p.front t)) (p.closed t) refl (p.fit _)
+    settled d (c ∷ t) 1 (step d Start c) None (Some (1, k)) 1 k u (first-none d (c ∷ t) (step d Start c) u l p.low refl p.none) p.out
+    (sym (p.front t)) (p.closed t) refl (p.fit _)
 
 -- two carets are a token
 pub quick_carets : (d : Dialect) (bs : List ℕ) → IsUtf8 bs → are_carets bs ≡ true → IsToken d bs 2 Carets
@@ -177,7 +262,8 @@ begins-short b (c ∷ s) [] p n g e = absurd (false≢true e)
 begins-short b (c ∷ s) (x ∷ w) zero n g e =
     let f : fits b c 58 ≡ true = ap (fits b c) (sym g) ∙ (and_parts _ _ e).0 in
     absurd (false≢true (sym (not_true _ (and_parts _ _ n).0) ∙ f))
-begins-short b (c ∷ s) (x ∷ w) (suc p) n g e = let h = begins-short b s w p (and_parts (not (fits b c 58)) (no_colon b s) n).1 g (and_parts (fits b c x) (begins b s w) e).1 in omega arith
+begins-short b (c ∷ s) (x ∷ w) (suc p) n g e = let h =
+    begins-short b s w p (and_parts (not (fits b c 58)) (no_colon b s) n).1 g (and_parts (fits b c x) (begins b s w) e).1 in omega arith
 
 -- a text with a ':' begins no spelling
 left-none : (b : Bool) (s w : List ℕ) (p : ℕ) → no_colon b s ≡ true → p < length w → get_or w p 0 ≡ 58 → is_begun (left b s w) ≡ false
@@ -319,7 +405,8 @@ module _ (bs : List ℕ) (colon end : ℕ) (u : IsUtf8 bs) (p : IsPrefix bs colo
       by_prefix : IsPrefix bs colon → three_quotes Turtle (chars bs) ≡ false
       by_prefix (inl x) =
           let f = first_58 x in
-          ap (three_quotes Turtle) ((one_on bs 0 (at-start bs u) some (omega (arith, f))).0 ∙ ap (λ c. c ∷ drop 1 (chars bs)) f) ∙ colon-quotes (drop 1 (chars bs))
+          ap (three_quotes Turtle) ((one_on bs 0 (at-start bs u) some (omega (arith, f))).0 ∙ ap (λ c. c ∷ drop 1 (chars bs)) f)
+          ∙ colon-quotes (drop 1 (chars bs))
       by_prefix (inr h) =
           let c = get_or bs 0 0 in
           ap (three_quotes Turtle) (one_on bs 0 (at-start bs u) some (low-letter c h.0)).0 ∙ no_quotes c _ h.0
@@ -329,7 +416,8 @@ module _ (bs : List ℕ) (colon end : ℕ) (u : IsUtf8 bs) (p : IsPrefix bs colo
       t ≡ step Turtle s (get_or bs at 0) → k ≡ kind_at t → Reached Turtle bs (at + 1) t (with_length (at + 1) k b)
   byte_on at s t k b i a h es ek =
       let c = get_or bs at 0 in
-      reached-step Turtle bs at (at + 1) c s t k b (with_length (at + 1) k b) h (ascii_first bs at i a) (omega (arith, ap length (encode_ascii c a), length-encode c)) (omega arith) es
+      reached-step Turtle bs at (at + 1) c s t k b (with_length (at + 1) k b) h (ascii_first bs at i a)
+      (omega (arith, ap length (encode_ascii c a), length-encode c)) (omega arith) es
       (ek ∙ sym (ap (λ x. only_long x (kind_at t)) quotes)) refl
 
   -- the states after the colon
@@ -347,7 +435,8 @@ module _ (bs : List ℕ) (colon end : ℕ) (u : IsUtf8 bs) (p : IsPrefix bs colo
           let first = first-none Turtle bs (Name name.Prefix) u some (low-letter c h.0) (sym (letter_steps c h.0).0) refl in
           let prefix = reached-run Turtle bs 1 colon (Name name.Prefix) None None none (rests_prefix bs 1 colon h.1) first in
           let i = inside in
-          byte_on colon (Name name.Prefix) (Name name.Colon) (Some PnameNs) None i (omega (arith, is_58)) prefix (ap (step Turtle (Name name.Prefix)) (sym is_58)) refl
+          byte_on colon (Name name.Prefix) (Name name.Colon) (Some PnameNs) None i (omega (arith, is_58)) prefix
+          (ap (step Turtle (Name name.Prefix)) (sym is_58)) refl
 
   -- nothing stands after the colon, and the token is a namespace
   pub quick_namespace : is_name_end bs end ≡ true → end ≡ colon + 1 → IsToken Turtle bs end PnameNs
@@ -442,7 +531,8 @@ quick_first c x t k u p =
     let s = step Turtle Start c in
     let s' = step Turtle s x in
     let first = first-none Turtle bs s u (omega arith) p.low refl p.none in
-    let none : None ≡ only_long (three_quotes Turtle (chars bs)) (kind_at s') = sym (ap (only_long (three_quotes Turtle (chars bs))) p.none_next ∙ no_long (three_quotes Turtle (chars bs))) in
+    let none : None ≡ only_long (three_quotes Turtle (chars bs)) (kind_at s') =
+    sym (ap (only_long (three_quotes Turtle (chars bs))) p.none_next ∙ no_long (three_quotes Turtle (chars bs))) in
     let next = reached-step Turtle bs 1 2 x s s' None None None first (ascii_first bs 1 (omega arith) p.low_next)
     (omega (arith, ap length (encode_ascii x p.low_next), length-encode x)) (omega arith) refl none refl in
     settled Turtle bs 2 s' None (Some (1, k)) 1 k u next p.out (sym (p.front t)) (p.closed t) refl (p.fit _)
@@ -472,7 +562,8 @@ word-first : (x : ℕ) → ends_name x ≡ true → is_name_byte x ≡ false →
 unfolding is_fit
 word-first x e h =
     let low : x < 128 = ltb-true x 128 (and_parts _ _ e).0 in
-    let p = ended-state (step Turtle (step Turtle Start 97) x) (other (is_name_byte x) _ (implied (ends_name x) _ (agree_below_at word_tests (λ c. true) 128 x refl low) e) h) in
+    let p = ended-state (step Turtle (step Turtle Start 97) x)
+    (other (is_name_byte x) _ (implied (ends_name x) _ (agree_below_at word_tests (λ c. true) 128 x refl low) e) h) in
     record { low = omega arith; low_next = low; none = refl; none_next = p.0; out = p.1; front = λ t. refl; closed = λ t. refl; fit = λ w. refl }
 
 -- a dot before no digit
@@ -491,7 +582,8 @@ quick_a bs end u r e =
     let z : is_name_end bs 1 ≡ true = subst (λ n. is_name_end bs n ≡ true) one q.1 in
     go bs u (eqb-true (get_or bs 0 0) 97 q.0) z (λ l. subst (λ n. is_name_byte (get_or bs n 0) ≡ false) one (r.stops (subst (λ n. n < length bs) (sym one) l)))
   where
-    go : (bs : List ℕ) → IsUtf8 bs → get_or bs 0 0 ≡ 97 → is_name_end bs 1 ≡ true → (1 < length bs → is_name_byte (get_or bs 1 0) ≡ false) → IsToken Turtle bs 1 A
+    go : (bs : List ℕ) → IsUtf8 bs → get_or bs 0 0 ≡ 97 → is_name_end bs 1 ≡ true → (1 < length bs → is_name_byte (get_or bs 1 0) ≡ false) →
+        IsToken Turtle bs 1 A
     go [] u c z h = absurd (false≢true z)
     go (c ∷ []) u a z h = absurd (false≢true z)
     go (c ∷ x ∷ t) u a z h =

@@ -144,13 +144,15 @@ read_push v bytes piece ts s n r = by_broken v.broken refl
         at : (b : Bool) → is_broken all ≡ b → reading_by false v (piece ++ more) e ≡ reading_by b (lengthened v piece) more e
         at true bad =
             ap (λ x. tokens_at v.dialect v.limit (tail_of x e) v.begun v.comment v.place (v.text ++ good x)) (more_all more)
-            ∙ (ap (λ x. tokens_at v.dialect v.limit x v.begun v.comment v.place (v.text ++ good (all ++ more))) (tail_broken (all ++ more) e (still_broken all more bad))
+            ∙ (ap (λ x. tokens_at v.dialect v.limit x v.begun v.comment v.place (v.text ++ good (all ++ more)))
+            (tail_broken (all ++ more) e (still_broken all more bad))
             ∙ ap (λ x. tokens_at v.dialect v.limit broken v.begun v.comment v.place (v.text ++ x)) (good_broken all more bad))
         at false well =
             let y = rest_of_bytes all ++ more in
             let p : cond (is_broken all) [] (rest_of_bytes all) ≡ rest_of_bytes all = cond-false _ _ _ well in
             ap (λ x. tokens_at v.dialect v.limit (tail_of x e) v.begun v.comment v.place (v.text ++ good x)) (more_all more ∙ cut more)
-            ∙ (ap (λ x. tokens_at v.dialect v.limit x v.begun v.comment v.place (v.text ++ good (good_bytes all ++ y))) (tail_past (good_bytes all) y (good_front all) e)
+            ∙ (ap (λ x. tokens_at v.dialect v.limit x v.begun v.comment v.place (v.text ++ good (good_bytes all ++ y)))
+            (tail_past (good_bytes all) y (good_front all) e)
             ∙ (ap (λ x. tokens_at v.dialect v.limit (tail_of y e) v.begun v.comment v.place (v.text ++ x)) (good_past (good_bytes all) y (good_front all))
             ∙ (ap (tokens_at v.dialect v.limit (tail_of y e) v.begun v.comment v.place) (sym (append_assoc v.text (good all) (good y)))
             ∙ ap (λ x. tokens_at v.dialect v.limit (tail_of (x ++ more) e) v.begun v.comment v.place (v.text ++ good all ++ good (x ++ more))) (sym p))))
@@ -182,8 +184,10 @@ read_push v bytes piece ts s n r = by_broken v.broken refl
         (has_read (lengthened v piece) refl (reads (lengthened v piece) refl refl refl refl (grows v.broken x)))
 
 -- what a scanner has read where bytes were taken
-pub takes_bytes : (old new : Unread) (piece : List ℕ) (n : ℕ) → old.stopped ≡ false → old.ended ≡ false → n ≤ length piece → n ≡ fitting old (min (length piece) (at_once old.limit)) →
-    (unread_bytes old < most_unread old.limit → 0 < length piece → 0 < n) → old.taken.offset + n ≤ most_bytes → SameButHeld (grown old (take n piece)) new → TakesBytes old piece n new
+pub takes_bytes : (old new : Unread) (piece : List ℕ) (n : ℕ) → old.stopped ≡ false → old.ended ≡ false → n ≤ length piece →
+    n ≡ fitting old (min (length piece) (at_once old.limit)) →
+    (unread_bytes old < most_unread old.limit → 0 < length piece → 0 < n) → old.taken.offset + n ≤ most_bytes →
+    SameButHeld (grown old (take n piece)) new → TakesBytes old piece n new
 takes_bytes old new piece n s e within count progress most is =
     subst (TakesBytes old piece n) (sym is) (takes_same (by_broken old.broken refl))
   where

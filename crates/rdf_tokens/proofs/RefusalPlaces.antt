@@ -27,14 +27,16 @@ too_long_place bytes at x =
     subst (IsPlaceIn bytes) (sym x.1) (record { within = omega arith; line = ap (λ w. 1 + count_by (λ b. b == 10) w) (sym same) })
 
 -- And so has every other refusal.
-pub refused_place : {I : Type 0} (l : LanguageOf I) (bytes : List ℕ) (e : Bool) (reason : Reason) (at : Place) → Refused l bytes e reason at → IsPlaceIn bytes at
+pub refused_place : {I : Type 0} (l : LanguageOf I) (bytes : List ℕ) (e : Bool) (reason : Reason) (at : Place) →
+    Refused l bytes e reason at → IsPlaceIn bytes at
 refused_place l bytes e reason at (ahead, h) = by reason h
   where
     stop : (why : Outcome) → StopsAt l (reading_of l bytes e) why at ahead → IsPlaceIn bytes at
     stop why s = subst (IsPlaceIn bytes) s.place (places l.dialect l.limit bytes e).1
 
     token : (later : List Token) (t : Token) → (reading_of l bytes e).tokens ≡ ahead ++ t ∷ later → t.at ≡ at → IsPlaceIn bytes at
-    token later t s p = subst (IsPlaceIn bytes) p (all_at (StandsIn bytes) ahead later (reading_of l bytes e).tokens t s (places l.dialect l.limit bytes e).0).place
+    token later t s p = subst (IsPlaceIn bytes) p
+        (all_at (StandsIn bytes) ahead later (reading_of l bytes e).tokens t s (places l.dialect l.limit bytes e).0).place
 
     by : (reason : Reason) → RefusedIn l (reading_of l bytes e) reason at ahead → IsPlaceIn bytes at
     by BadUtf8 s = stop _ s

@@ -34,7 +34,8 @@ use Rattle.rdf_tokens.proofs.RestStates.{rests_short, rests_long}
 use Rattle.rdf_tokens.proofs.StateLemmas.{reached-step}
 
 -- over one byte of ASCII to a state without a token
-pub byte_on : (d : Dialect) (bs : List ℕ) (at : ℕ) (s t : State) (b : Option (ℕ × Kind)) → at < length bs → get_or bs at 0 < 128 → step d s (get_or bs at 0) ≡ t →
+pub byte_on : (d : Dialect) (bs : List ℕ) (at : ℕ) (s t : State) (b : Option (ℕ × Kind)) → at < length bs → get_or bs at 0 < 128 →
+    step d s (get_or bs at 0) ≡ t →
     kind_at t ≡ None → Reached d bs at s b → Reached d bs (at + 1) t b
 byte_on d bs at s t b l a e n r =
     let c = get_or bs at 0 in
@@ -78,8 +79,10 @@ hexes_on s e h f d bs b (suc n) at l p r =
     subst (λ k. Reached d bs k s b) sum (hexes_on s e h f d bs b n (at + 1) (omega arith) (λ k from to. p k (omega arith) (omega arith)) next)
 
 -- over a UCHAR, from a state that takes its backslash as the state within does
-module _ (s e : State) (h : ℕ → State) (f : Numbers s e h) (o : State) (bs : List ℕ) (at end : ℕ) (d : Dialect) (b : Option (ℕ × Kind)) (slash : step d o 92 ≡ e) where
-  digits_on : (c n : ℕ) → c < 128 → get_or bs at 0 ≡ 92 → get_or bs (at + 1) 0 ≡ c → step d e c ≡ h n → IsHexes bs (at + 2) (suc n) end → Reached d bs at o b → Reached d bs end s b
+module _ (s e : State) (h : ℕ → State) (f : Numbers s e h) (o : State) (bs : List ℕ) (at end : ℕ) (d : Dialect) (b : Option (ℕ × Kind))
+    (slash : step d o 92 ≡ e) where
+  digits_on : (c n : ℕ) → c < 128 → get_or bs at 0 ≡ 92 → get_or bs (at + 1) 0 ≡ c → step d e c ≡ h n → IsHexes bs (at + 2) (suc n) end →
+      Reached d bs at o b → Reached d bs end s b
   digits_on c n a x y t g r =
       let w = g.within in
       let z = g.ends in
@@ -126,14 +129,16 @@ rests_uchar s e h f bs at end u =
     rests_by s bs at end f.none (let x = l.0 in omega arith) l.1 (λ d b r. uchar_on s e h f s bs at end d b (f.slash d) u r)
 
 -- over an ECHAR, from such a state
-echar_on : (s e : State) (h : ℕ → State) → Numbers s e h → ((d : Dialect) (c : ℕ) → is_letter c ≡ true → step d e c ≡ s) → (o : State) (bs : List ℕ) (at end : ℕ) (d : Dialect)
+echar_on : (s e : State) (h : ℕ → State) → Numbers s e h → ((d : Dialect) (c : ℕ) → is_letter c ≡ true → step d e c ≡ s) →
+    (o : State) (bs : List ℕ) (at end : ℕ) (d : Dialect)
     (b : Option (ℕ × Kind)) → step d o 92 ≡ e → IsEchar bs at end → Reached d bs at o b → Reached d bs end s b
 echar_on s e h f letter o bs at end d b slash u r =
     let w = u.within in
     let z = u.ends in
     let x = u.slash in
     let after = byte_on d bs at o e b (omega arith) (omega arith) (ap (step d o) x ∙ slash) f.none_after r in
-    let done = byte_on d bs (at + 1) e s b (omega arith) (letter_below (get_or bs (at + 1) 0) u.letter) (letter d (get_or bs (at + 1) 0) u.letter) f.none after in
+    let done = byte_on d bs (at + 1) e s b (omega arith) (letter_below (get_or bs (at + 1) 0) u.letter)
+    (letter d (get_or bs (at + 1) 0) u.letter) f.none after in
     let two : at + 1 + 1 ≡ end = omega arith in
     subst (λ k. Reached d bs k s b) two done
 
@@ -225,15 +230,20 @@ short_letter q d c h = ap state.Text (escaped-letter (λ n. text_state.ShortHex 
 -- an escape leads back into a string with one quote at each end
 pub short_escape : (q : Quote) (bs : List ℕ) (at end : ℕ) → IsEchar bs at end ⊎ IsUchar bs at end → Rests (state.Text (text_state.Short q)) bs at end
 short_escape q bs at end u = ⊎_elim
-    (λ x. rests_echar (state.Text (text_state.Short q)) (state.Text (text_state.ShortEscape q)) (λ n. state.Text (text_state.ShortHex q n)) (short_numbers q) (short_letter q) bs at end x)
-    (λ x. rests_uchar (state.Text (text_state.Short q)) (state.Text (text_state.ShortEscape q)) (λ n. state.Text (text_state.ShortHex q n)) (short_numbers q) bs at end x)
+    (λ x. rests_echar (state.Text (text_state.Short q)) (state.Text (text_state.ShortEscape q)) (λ n. state.Text (text_state.ShortHex q n))
+    (short_numbers q) (short_letter q) bs at end x)
+    (λ x. rests_uchar (state.Text (text_state.Short q)) (state.Text (text_state.ShortEscape q)) (λ n. state.Text (text_state.ShortHex q n))
+    (short_numbers q) bs at end x)
     u
 
 -- and into one with three
 pub long_escape : (q : Quote) (bs : List ℕ) (at end : ℕ) → IsEchar bs at end ⊎ IsUchar bs at end → Rests (state.Text (text_state.Long q)) bs at end
 long_escape q bs at end u = ⊎_elim
-    (λ x. rests_echar (state.Text (text_state.Long q)) (state.Text (text_state.LongEscape q)) (λ n. state.Text (text_state.LongHex q n)) (long_numbers q) (λ d c h. ap state.Text (escaped-letter (λ n. text_state.LongHex q n) (text_state.Long q) (sort_by text.ascii text.high c) (text_letter c h))) bs at end x)
-    (λ x. rests_uchar (state.Text (text_state.Long q)) (state.Text (text_state.LongEscape q)) (λ n. state.Text (text_state.LongHex q n)) (long_numbers q) bs at end x)
+    (λ x. rests_echar (state.Text (text_state.Long q)) (state.Text (text_state.LongEscape q)) (λ n. state.Text (text_state.LongHex q n))
+    (long_numbers q) (λ d c h. ap state.Text (escaped-letter (λ n. text_state.LongHex q n) (text_state.Long q)
+    (sort_by text.ascii text.high c) (text_letter c h))) bs at end x)
+    (λ x. rests_uchar (state.Text (text_state.Long q)) (state.Text (text_state.LongEscape q)) (λ n. state.Text (text_state.LongHex q n))
+    (long_numbers q) bs at end x)
     u
 
 -- so does an escape with the run after it
@@ -267,7 +277,8 @@ opened_escape d q bs at end b u r =
     slash Single = refl
 
 -- the bytes that are tested are an ECHAR
-pub echar_of : (bs : List ℕ) (at : ℕ) → (nat_le (at + 2) (length bs) && get_or bs at 0 == 92 && is_letter (get_or bs (at + 1) 0)) ≡ true → IsEchar bs at (at + 2)
+pub echar_of : (bs : List ℕ) (at : ℕ) → (nat_le (at + 2) (length bs) && get_or bs at 0 == 92 && is_letter (get_or bs (at + 1) 0)) ≡ true →
+    IsEchar bs at (at + 2)
 echar_of bs at e =
     let p = and_parts _ _ e in
     let q = and_parts _ _ p.0 in

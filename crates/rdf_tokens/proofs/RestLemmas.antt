@@ -31,7 +31,8 @@ module _ (s : State) (p : ℕ → Bool) (bs : List ℕ) (at end : ℕ) (r : IsRu
     within = r.within;
     stays = λ d k c from to e. ⊎_elim
         (λ (l : c < 128). low d c l (ap p (sym (low_byte c l) ∙ e) ∙ r.pass k from to))
-        (λ l. high d c (get_or bs k 0) l (let h = high-encode c l 0 (omega (arith, length-encode c, len_utf8_bounds c)) in omega (arith, h, e)) (r.pass k from to))
+        (λ l. high d c (get_or bs k 0) l (let h = high-encode c l 0 (omega (arith, length-encode c, len_utf8_bounds c)) in
+        omega (arith, h, e)) (r.pass k from to))
         (cases_lt c 128);
     whole = λ k from to h inside. ends (get_or bs k 0) (get_or bs end 0) h (r.pass k from to) (r.stops inside);
   }
@@ -51,7 +52,8 @@ first_char bs at u l = go u.0 u.1.1
         )
 
 -- The character at a place before the end of some bytes, where a byte of ASCII ends them if a character there is not of ASCII.
-module _ (bs : List ℕ) (at end : ℕ) (within : end ≤ length bs) (low : 128 ≤ get_or bs at 0 → end < length bs → get_or bs end 0 < 128) (before : at < end) (u : IsUtf8 (drop at bs)) where
+module _ (bs : List ℕ) (at end : ℕ) (within : end ≤ length bs) (low : 128 ≤ get_or bs at 0 → end < length bs → get_or bs end 0 < 128)
+    (before : at < end) (u : IsUtf8 (drop at bs)) where
   pub char_there : (c : ℕ) × (drop at bs ≡ encode_utf8 c ++ drop (at + len_utf8 c) bs) × (at + len_utf8 c ≤ length bs)
   char_there = first_char bs at u (omega (arith, within))
 
@@ -116,7 +118,8 @@ module _ (d : Dialect) (bs : List ℕ) (at end : ℕ) (s : State) (k : Option Ki
         x + len_utf8 c,
         omega (arith, bound),
         whole,
-        reached-step d bs x (x + len_utf8 c) c s s k (with_length x k b) (with_length (x + len_utf8 c) k b) r (char_is bs x end h.within low l u) refl (omega (arith, whole, h.within))
+        reached-step d bs x (x + len_utf8 c) c s s k (with_length x k b) (with_length (x + len_utf8 c) k b) r
+            (char_is bs x end h.within low l u) refl (omega (arith, whole, h.within))
             (sym (h.stays d x c from l (char_lead bs x end h.within low l u))) ek (with_length-again (x + len_utf8 c) x k b),
       )
 

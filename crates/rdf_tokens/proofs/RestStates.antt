@@ -36,7 +36,8 @@ place s = 0
 
 -- the states that a run can leave as they are
 abbrev all : List State
-all = state.Dead ∷ state.Iri iri_state.Inside ∷ state.Text (text_state.Short Double) ∷ state.Text (text_state.Short Single) ∷ state.Text (text_state.Long Double)
+all = state.Dead ∷ state.Iri iri_state.Inside ∷ state.Text (text_state.Short Double) ∷ state.Text (text_state.Short Single) ∷ state.Text
+    (text_state.Long Double)
     ∷ state.Text (text_state.Long Single) ∷ state.Name name_state.Prefix ∷ state.Name name_state.Local ∷ state.Label label_state.Name ∷ []
 
 -- the state of a number
@@ -60,7 +61,8 @@ abbrev rests_at : Dialect → State → (ℕ → Bool) → ℕ → Bool
 rests_at d s p c = not (p c) || (place (step d s c) == place s)
 
 -- an ASCII byte that passes leaves the state as it is, by a test of each
-low : (d : Dialect) (s : State) (p : ℕ → Bool) → (place s ≡ 0 → ⊥) → agree_below (rests_at d s p) (λ _. true) 128 ≡ true → (c : ℕ) → c < 128 → p c ≡ true → step d s c ≡ s
+low : (d : Dialect) (s : State) (p : ℕ → Bool) → (place s ≡ 0 → ⊥) → agree_below (rests_at d s p) (λ _. true) 128 ≡ true → (c : ℕ) →
+    c < 128 → p c ≡ true → step d s c ≡ s
 low d s p n all c l pc =
     let t : (place (step d s c) == place s) ≡ true =
     sym (ap (λ b. not b || (place (step d s c) == place s)) pc) ∙ agree_below_at (rests_at d s p) (λ _. true) 128 c all l in
@@ -97,22 +99,27 @@ rests_text : (s : Text) (p : ℕ → Bool) → ((d : Dialect) → agree_below (r
 rests_text s p all n plain below bs at end r =
     rests_run (state.Text s) p bs at end r
     (λ d c l e. low d (state.Text s) p n (all d) c l e)
-    (λ d c b l h e. ap (λ x. state.Text (text.move d s x)) (cond-false (nat_lt c 128) (text.ascii c) (text.high (wide_of c)) (le-ltb c 128 l)) ∙ ap (λ t. state.Text t) (plain d))
+    (λ d c b l h e. ap (λ x. state.Text (text.move d s x))
+    (cond-false (nat_lt c 128) (text.ascii c) (text.high (wide_of c)) (le-ltb c 128 l)) ∙ ap (λ t. state.Text t) (plain d))
     (λ b x h p e. below x e)
 
 -- so in a string with one quote at each end
 pub rests_short : (q : Quote) (bs : List ℕ) (at end : ℕ) → IsRun (goes_over (short_run q)) bs at end → Rests (state.Text (text_state.Short q)) bs at end
 rests_short Double bs at end r =
-    rests_text (text_state.Short Double) (is_short_byte 34) (λ d. refl) (λ (z : 2 ≡ 0). omega (arith, z)) (λ d. refl) (λ x e. short_below 34 x (omega arith) e) bs at end r
+    rests_text (text_state.Short Double) (is_short_byte 34) (λ d. refl) (λ (z : 2 ≡ 0). omega (arith, z)) (λ d. refl)
+    (λ x e. short_below 34 x (omega arith) e) bs at end r
 rests_short Single bs at end r =
-    rests_text (text_state.Short Single) (is_short_byte 39) (λ d. refl) (λ (z : 3 ≡ 0). omega (arith, z)) (λ d. refl) (λ x e. short_below 39 x (omega arith) e) bs at end r
+    rests_text (text_state.Short Single) (is_short_byte 39) (λ d. refl) (λ (z : 3 ≡ 0). omega (arith, z)) (λ d. refl)
+    (λ x e. short_below 39 x (omega arith) e) bs at end r
 
 -- and in one with three quotes at each end
 pub rests_long : (q : Quote) (bs : List ℕ) (at end : ℕ) → IsRun (goes_over (long_run q)) bs at end → Rests (state.Text (text_state.Long q)) bs at end
 rests_long Double bs at end r =
-    rests_text (text_state.Long Double) (is_long_byte 34) (λ d. refl) (λ (z : 4 ≡ 0). omega (arith, z)) (λ d. refl) (λ x e. long_below 34 x (omega arith) e) bs at end r
+    rests_text (text_state.Long Double) (is_long_byte 34) (λ d. refl) (λ (z : 4 ≡ 0). omega (arith, z)) (λ d. refl)
+    (λ x e. long_below 34 x (omega arith) e) bs at end r
 rests_long Single bs at end r =
-    rests_text (text_state.Long Single) (is_long_byte 39) (λ d. refl) (λ (z : 5 ≡ 0). omega (arith, z)) (λ d. refl) (λ x e. long_below 39 x (omega arith) e) bs at end r
+    rests_text (text_state.Long Single) (is_long_byte 39) (λ d. refl) (λ (z : 5 ≡ 0). omega (arith, z)) (λ d. refl)
+    (λ x e. long_below 39 x (omega arith) e) bs at end r
 
 -- a run of name bytes leaves a state as it is, if it leaves it for each byte
 rests_name : (s : State) → ((d : Dialect) → agree_below (rests_at d s is_name_byte) (λ _. true) 128 ≡ true) → (place s ≡ 0 → ⊥) →

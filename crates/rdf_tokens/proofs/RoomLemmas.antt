@@ -18,14 +18,20 @@ use Rattle.rdf_tokens.specs.Scans.{most_bytes, most_unread, unread_bytes, fittin
 -- a character has four bytes at most
 few_bytes : (w : List ℕ) → length (encode_utf8_all w) ≤ 4 * length w
 few_bytes [] = omega arith
-few_bytes (c ∷ w) = let a = len_utf8_bounds c in let r = few_bytes w in omega (arith, length-append (encode_utf8 c) (encode_utf8_all w), length-encode c, a.1, r)
+few_bytes (c ∷ w) = let a = len_utf8_bounds c in let r = few_bytes w in
+    omega (arith, length-append (encode_utf8 c) (encode_utf8_all w), length-encode c, a.1, r)
 
 -- four bytes are whole or can begin no character
 told : (a b c d : ℕ) (w : List ℕ) → is_some (utf8_error_len (a ∷ b ∷ c ∷ d ∷ w)) ≡ true
 unfolding utf8_error_len
 told a b c d w =
     let bs = a ∷ b ∷ c ∷ d ∷ w in
-    rw (ne_eqb (length bs) 0 (λ e. absurd (omega arith)), le-ltb (length bs) 2 (omega arith), le-ltb (length bs) 3 (omega arith), le-ltb (length bs) 4 (omega arith))
+    rw (
+      ne_eqb (length bs) 0 (λ e. absurd (omega arith)),
+      le-ltb (length bs) 2 (omega arith),
+      le-ltb (length bs) 3 (omega arith),
+      le-ltb (length bs) 4 (omega arith),
+    )
     (by (is_in_range 0xC2 0xF4 (slice_index bs 0)) (is_in_range (second_byte_min (slice_index bs 0)) (second_byte_max (slice_index bs 0)) (slice_index bs 1))
     (is_in_range 0x80 0xBF (slice_index bs 2)))
   where
@@ -53,7 +59,8 @@ open_few d limit (c ∷ u) o b =
     let w = c ∷ u in
     ⊎_elim
     (λ l.
-    let live : is_live d (take (limit + 1) w) ≡ true = live-front d (take (limit + 1) w) (drop (limit + 1) w) (subst (λ x. is_live d x ≡ true) (sym (take-append-drop (limit + 1) w)) b) in
+    let live : is_live d (take (limit + 1) w) ≡ true =
+    live-front d (take (limit + 1) w) (drop (limit + 1) w) (subst (λ x. is_live d x ≡ true) (sym (take-append-drop (limit + 1) w)) b) in
     absurd (false≢true (sym o ∙ and_from _ _ (lt-ltb limit (length w) l) (or_right _ _ live))))
     (λ l. l)
     (cases_lt limit (length w))

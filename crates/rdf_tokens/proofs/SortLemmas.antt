@@ -54,7 +54,8 @@ or_assoc true b c d = refl
 or_assoc false b c d = refl
 
 -- what is in PN_CHARS is known by the width of a character
-letter_or_mark : (k : Class) (b m : Bool) → holds k Letter ≡ true → holds k Mark ≡ true → holds k Other ≡ false → (b || m) ≡ holds k (cond b Letter (cond m Mark Other))
+letter_or_mark : (k : Class) (b m : Bool) → holds k Letter ≡ true → holds k Mark ≡ true → holds k Other ≡ false →
+    (b || m) ≡ holds k (cond b Letter (cond m Mark Other))
 letter_or_mark k true m x y z = sym x
 letter_or_mark k false true x y z = sym y
 letter_or_mark k false false x y z = sym z
@@ -131,7 +132,8 @@ beq-eq true false e = absurd (false≢true e)
 beq-eq false true e = absurd (false≢true e)
 
 -- a character from U+0080 on is in a class where the representative of its sort is
-at_width : {X : Type 0} → (ascii : ℕ → X) (high : Wide → X) (rep : X → ℕ) (k : Class) → ((v : Wide) → (is_low k && beq (holds k v) (has k (rep (high v)))) ≡ true) →
+at_width : {X : Type 0} → (ascii : ℕ → X) (high : Wide → X) (rep : X → ℕ) (k : Class) →
+    ((v : Wide) → (is_low k && beq (holds k v) (has k (rep (high v)))) ≡ true) →
     (c : ℕ) → 128 ≤ c → scalar c ≡ true → has k c ≡ has k (rep (sort_by ascii high c))
 at_width ascii high rep k h c l s =
     let p = and_parts _ _ (h (wide_of c)) in
@@ -146,14 +148,16 @@ all_alike ascii high rep ks e =
     let r = and_parts _ _ q.0 in
     go ks r.0 r.1 q.1 p.1
   where
-    widths : (k : Class) → (is_low k && beq (holds k Letter) (has k (rep (high Letter)))) ≡ true → (is_low k && beq (holds k Mark) (has k (rep (high Mark)))) ≡ true →
+    widths : (k : Class) → (is_low k && beq (holds k Letter) (has k (rep (high Letter)))) ≡ true →
+        (is_low k && beq (holds k Mark) (has k (rep (high Mark)))) ≡ true →
         (is_low k && beq (holds k Other) (has k (rep (high Other)))) ≡ true → (v : Wide) → (is_low k && beq (holds k v) (has k (rep (high v)))) ≡ true
     widths k a b c Letter = a
     widths k a b c Mark = b
     widths k a b c Other = c
 
     go : (ks : List Class) → low_agrees (λ c. rep (sort_by ascii high c)) ks ≡ true → high_agrees (λ v. rep (high v)) Letter ks ≡ true →
-        high_agrees (λ v. rep (high v)) Mark ks ≡ true → high_agrees (λ v. rep (high v)) Other ks ≡ true → AllByRecursion (Alike (λ c. rep (sort_by ascii high c))) ks
+        high_agrees (λ v. rep (high v)) Mark ks ≡ true → high_agrees (λ v. rep (high v)) Other ks ≡ true →
+        AllByRecursion (Alike (λ c. rep (sort_by ascii high c))) ks
     go [] a x y z = tt
     go (k ∷ ks) a x y z =
         let a' = and_parts _ _ a in

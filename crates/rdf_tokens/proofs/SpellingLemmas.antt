@@ -43,7 +43,8 @@ done-take b (c ∷ s) w zero l = sym (ap (λ t. t && begins b (c ∷ s) w) (leng
 done-take b (c ∷ s) [] (suc n) l = absurd (omega arith)
 done-take b (c ∷ s) (x ∷ w) (suc n) l = go (fits b c x) (done-take b s w n (omega arith))
   where
-    go : (t : Bool) → is_done (left b s (take n w)) ≡ (n == length s && begins b s w) → is_done (cond t (left b s (take n w)) None) ≡ (suc n == suc (length s) && (t && begins b s w))
+    go : (t : Bool) → is_done (left b s (take n w)) ≡ (n == length s && begins b s w) →
+        is_done (cond t (left b s (take n w)) None) ≡ (suc n == suc (length s) && (t && begins b s w))
     go true e = e ∙ ap (λ u. u && begins b s w) (both_suc n (length s))
     go false e = sym (and_false (suc n == suc (length s)))
 
@@ -118,7 +119,8 @@ longest-rows [] w e = none (length w)
 longest-rows (r ∷ rs) w e =
     let p = and_parts _ _ e in
     let z : 0 < length r.text = ltb-true 0 (length r.text) (and_parts _ _ p.0).0 in
-    longest_by-same (kind_by (r ∷ rs)) (λ u. or_else (row_kind r u) (kind_by rs u)) w (λ m. split (is_done (left r.any_case r.text (take (suc m) w))) (kind_by rs (take (suc m) w))) (length w)
+    longest_by-same (kind_by (r ∷ rs)) (λ u. or_else (row_kind r u) (kind_by rs u)) w
+    (λ m. split (is_done (left r.any_case r.text (take (suc m) w))) (kind_by rs (take (suc m) w))) (length w)
     ∙ (longest_by-or (row_kind r) (kind_by rs) w (length w)
     ∙ (ap (λ o. longer_front o (longest_by (kind_by rs) w (length w))) (longest-row r w z)
     ∙ ap (longer_front (row_front r w)) (longest-rows rs w p.1)))
@@ -172,9 +174,11 @@ begins_size b (a ∷ s) (c ∷ w) e f =
 -- so one spelling is found in the bytes as in the characters
 row-bytes : (r : Row) (w : List ℕ) → is_low r.any_case r.text ≡ true → row_front r (encode_utf8_all w) ≡ in_bytes w (row_front r w)
 row-bytes r w e =
-    ap (λ t. cond t (Some (length r.text, r.kind)) None) (begins_bytes r.any_case r.text w e) ∙ go (begins r.any_case r.text w) (begins_size r.any_case r.text w e)
+    ap (λ t. cond t (Some (length r.text, r.kind)) None) (begins_bytes r.any_case r.text w e)
+    ∙ go (begins r.any_case r.text w) (begins_size r.any_case r.text w e)
   where
-    go : (t : Bool) → (t ≡ true → bytes_of (length r.text) w ≡ length r.text) → cond t (Some (length r.text, r.kind)) None ≡ in_bytes w (cond t (Some (length r.text, r.kind)) None)
+    go : (t : Bool) → (t ≡ true → bytes_of (length r.text) w ≡ length r.text) →
+        cond t (Some (length r.text, r.kind)) None ≡ in_bytes w (cond t (Some (length r.text, r.kind)) None)
     go true h = ap (λ n. Some (n, r.kind)) (sym (h refl))
     go false h = refl
 
@@ -191,7 +195,8 @@ rows-bytes (r ∷ rs) w e =
     (subst (AtMost (length w)) (longest-rows rs w p.1) (longest_by-at_most (kind_by rs) w (length w)))))
 
 -- the longest front by the table, over the bytes of a text
-pub table-front : (d : Dialect) (bs : List ℕ) → IsUtf8 bs → front_by (rows_of d fixed) bs ≡ in_bytes (chars bs) (longest_by (kind_by_table d) (chars bs) (length (chars bs)))
+pub table-front : (d : Dialect) (bs : List ℕ) → IsUtf8 bs → front_by (rows_of d fixed) bs ≡ in_bytes (chars bs)
+    (longest_by (kind_by_table d) (chars bs) (length (chars bs)))
 unfolding kind_by_table
 table-front d bs u =
     ap (front_by (rows_of d fixed)) (sym (encodes-chars bs u))
@@ -210,7 +215,8 @@ left_bytes b s (c ∷ w) e = ⊎_elim
     (λ l. let h = high_byte c (encode_utf8_all w) l in ap (left b s) h.3 ∙ (left_high b s h.1 h.0 e h.2 ∙ sym (left_high b s w c e l)))
     (cases_lt c 128)
   where
-    low : (s : List ℕ) → is_low b s ≡ true → ((t : List ℕ) → is_low b t ≡ true → left b t (encode_utf8_all w) ≡ left b t w) → left b s (c ∷ encode_utf8_all w) ≡ left b s (c ∷ w)
+    low : (s : List ℕ) → is_low b s ≡ true → ((t : List ℕ) → is_low b t ≡ true → left b t (encode_utf8_all w) ≡ left b t w) →
+        left b s (c ∷ encode_utf8_all w) ≡ left b s (c ∷ w)
     low [] e h = refl
     low (a ∷ s) e h = ap (λ o. cond (fits b a c) o None) (h s (and_parts _ _ e).1)
 
@@ -309,7 +315,8 @@ pub only_long-table : (d : Dialect) (w : List ℕ) (m : ℕ) (k : Option Kind) �
     only_long (three_quotes d w) (or_else (kind_by_table d (take (suc m) w)) k) ≡ or_else (kind_by_table d (take (suc m) w)) (only_long (three_quotes d w) k)
 only_long-table d [] m k = quotes_none d
   where
-    quotes_none : (d : Dialect) → only_long (three_quotes d []) (or_else (kind_by_table d []) k) ≡ or_else (kind_by_table d []) (only_long (three_quotes d []) k)
+    quotes_none : (d : Dialect) → only_long (three_quotes d []) (or_else (kind_by_table d []) k) ≡ or_else (kind_by_table d [])
+        (only_long (three_quotes d []) k)
     quotes_none Lines = refl
     quotes_none Turtle = refl
 only_long-table d (c ∷ w) m k = go (three_quotes d (c ∷ w)) (λ e. no_quote d c (take m w) (first_quote d c w e))

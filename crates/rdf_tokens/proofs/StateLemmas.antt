@@ -69,7 +69,8 @@ stuck_run d s c [] e = stuck_one d s c e
 stuck_run d s c (x ∷ v) e = stuck_run d (step d s c) x v (stuck_one d s c e).0
 
 -- the state after a longer front
-pub longer_state : (d : Dialect) (w : List ℕ) (n k : ℕ) → n + k < length w → goes_on d (state_of d (take n w)) ≡ false → Stuck d (state_of d (take (n + suc k) w))
+pub longer_state : (d : Dialect) (w : List ℕ) (n k : ℕ) → n + k < length w → goes_on d (state_of d (take n w)) ≡ false →
+    Stuck d (state_of d (take (n + suc k) w))
 longer_state d w n k l e =
     let more : take (suc k) (drop n w) ≡ get_or w n 0 ∷ take k (drop (n + 1) w) = ap (take (suc k)) (drop_more w n 0 (omega arith)) in
     let parts : state_of d (take (n + suc k) w) ≡ run (step d) (state_of d (take n w)) (get_or w n 0 ∷ take k (drop (n + 1) w)) =
@@ -99,7 +100,8 @@ pub reached-start : (d : Dialect) (bs : List ℕ) → IsUtf8 bs → Reached d bs
 reached-start d bs u = record { n = 0; here = at-start bs u; state = refl; front = refl }
 
 -- a front that is found is found in bytes
-with_bytes : (w : List ℕ) (n m : ℕ) (k : Option Kind) (o : Option (ℕ × Kind)) → m ≡ bytes_of n w → with_length m k (in_bytes w o) ≡ in_bytes w (with_length n k o)
+with_bytes : (w : List ℕ) (n m : ℕ) (k : Option Kind) (o : Option (ℕ × Kind)) → m ≡ bytes_of n w →
+    with_length m k (in_bytes w o) ≡ in_bytes w (with_length n k o)
 with_bytes w n m None o e = refl
 with_bytes w n m (Some k) o e = ap (λ m. Some (m, k)) e
 
@@ -145,7 +147,8 @@ reached-again d bs at s b l r = record { n = r.n; here = r.here; state = r.state
     w : List ℕ
     w = chars bs
 
-    told : (n : ℕ) (k : Option Kind) (o : Option (ℕ × Kind)) → at ≡ bytes_of n w → b ≡ in_bytes w (with_length n k o) → with_length at k b ≡ in_bytes w (with_length n k o)
+    told : (n : ℕ) (k : Option Kind) (o : Option (ℕ × Kind)) → at ≡ bytes_of n w → b ≡ in_bytes w (with_length n k o) →
+        with_length at k b ≡ in_bytes w (with_length n k o)
     told n None o e f = f
     told n (Some x) o e f = ap (λ m. Some (m, x)) e
 
@@ -189,7 +192,8 @@ reached-end d bs at s b r l =
 
 -- what is known after the loop
 pub reached-out : (d : Dialect) (bs : List ℕ) (at : ℕ) (s : State) (b : Option (ℕ × Kind)) → Reached d bs at s b → (length bs ≤ at) ⊎ (goes_on d s ≡ false) →
-    (b ≡ in_bytes (chars bs) (longest_by (kind_by_states d (chars bs)) (chars bs) (length (chars bs)))) × (open_state d s ≡ open_state d (state_of d (chars bs)))
+    (b ≡ in_bytes (chars bs) (longest_by (kind_by_states d (chars bs)) (chars bs) (length (chars bs))))
+    × (open_state d s ≡ open_state d (state_of d (chars bs)))
 reached-out d bs at s b r h = ⊎_elim
     (λ l. let p = reached-end d bs at s b r l in (p.0, ap (open_state d) p.1))
     (λ e. let p = reached-dead d bs at s b r e in (p.0, cond-false _ _ _ e ∙ sym (cond-false _ _ _ (sym p.1))))
@@ -222,7 +226,8 @@ pub front-bytes : (d : Dialect) (bs : List ℕ) (f b o : Option (ℕ × Kind)) �
     o ≡ in_bytes (chars bs) (longest d (chars bs) (length (chars bs)))
 front-bytes d bs f b o u ef eb eo =
     eo ∙ (ap (λ x. longer_front x b) (ef ∙ table-front d bs u)
-    ∙ (ap (longer_front (in_bytes (chars bs) (longest_by (kind_by_table d) (chars bs) (length (chars bs))))) eb ∙ sym (front-best d (chars bs) (is-chars bs u))))
+    ∙ (ap (longer_front (in_bytes (chars bs) (longest_by (kind_by_table d) (chars bs) (length (chars bs))))) eb
+    ∙ sym (front-best d (chars bs) (is-chars bs u))))
 
 -- the states and the table together tell whether the text begins a longer token
 pub live-bytes : (d : Dialect) (bs : List ℕ) → IsUtf8 bs → (goes_on d (state_of d (chars bs)) || live_by (rows_of d fixed) bs) ≡ is_live d (chars bs)

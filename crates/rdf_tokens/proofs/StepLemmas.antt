@@ -26,7 +26,8 @@ only_long-kind true (Some l) k e = absurd (let h : None ≡ Some k = e in cc)
 pub longest-kind : (d : Dialect) (w : List ℕ) (m n : ℕ) (k : Kind) → longest d w m ≡ Some (n, k) → kind_of d (take n w) ≡ Some k
 longest-kind d w zero n k e = absurd (let h : None ≡ Some (n, k) = e in cc)
 longest-kind d w (suc m) n k e =
-    go (only_long (three_quotes d w) (kind_of d (take (suc m) w))) (λ l h. only_long-kind (three_quotes d w) (kind_of d (take (suc m) w)) l h) (longest-kind d w m n k) e
+    go (only_long (three_quotes d w) (kind_of d (take (suc m) w)))
+    (λ l h. only_long-kind (three_quotes d w) (kind_of d (take (suc m) w)) l h) (longest-kind d w m n k) e
   where
     go : (o : Option Kind) → ((l : Kind) → o ≡ Some l → kind_of d (take (suc m) w) ≡ Some l) → (longest d w m ≡ Some (n, k) → kind_of d (take n w) ≡ Some k) →
         with_length (suc m) o (longest d w m) ≡ Some (n, k) → kind_of d (take n w) ≡ Some k
@@ -41,7 +42,8 @@ unfolding shape
 no_end d w m = m
 
 -- what a step that gives a token has decided
-pub decided-token : (d : Dialect) (w : List ℕ) (n : ℕ) (k : Kind) → decided d w ≡ token n k → (longest d w (length w) ≡ Some (n, k)) × (is_fit k (take n w) ≡ true)
+pub decided-token : (d : Dialect) (w : List ℕ) (n : ℕ) (k : Kind) → decided d w ≡ token n k →
+    (longest d w (length w) ≡ Some (n, k)) × (is_fit k (take n w) ≡ true)
 decided-token d [] n k e = absurd (let h : stop complete ≡ token n k = e in cc)
 decided-token d (c ∷ w) n k e = taken (longest d (c ∷ w) (length (c ∷ w))) refl e
   where

@@ -32,7 +32,8 @@ use Rattle.rdf_tokens.proofs.RestStates.{rests_short}
 use Rattle.rdf_tokens.proofs.StateLemmas.{reached-step}
 
 -- a character at the second byte is not of ASCII where that byte is not
-pub high_char : (bs : List ℕ) (end c : ℕ) → begins_high bs ≡ true → drop 1 bs ≡ encode_utf8 c ++ drop end bs → end ≡ 1 + len_utf8 c → end ≤ length bs → IsHighChar bs 1 end
+pub high_char : (bs : List ℕ) (end c : ℕ) → begins_high bs ≡ true → drop 1 bs ≡ encode_utf8 c ++ drop end bs → end ≡ 1 + len_utf8 c →
+    end ≤ length bs → IsHighChar bs 1 end
 high_char bs end c h e p w = record { c = c; high = high; is = e; past = p; within = w }
   where
     byte : 128 ≤ get_or bs 1 0
@@ -138,7 +139,8 @@ module _ (d : Dialect) (q : Quote) (bs : List ℕ) (u : IsUtf8 bs) (o : opens_wi
   string_fits end r g = record { opens = o; one = one; inside = fits-more bs 1 first end first_fits g; reached = string_reached end r }
 
   -- the string, up to its second quote
-  pub string_whole : (end : ℕ) → RestsInQuotes q bs first end → FitsInString bs first end → stands_at (quote_byte q) bs end ≡ true → IsToken d bs (end + 1) ShortString
+  pub string_whole : (end : ℕ) → RestsInQuotes q bs first end → FitsInString bs first end → stands_at (quote_byte q) bs end ≡ true →
+      IsToken d bs (end + 1) ShortString
   string_whole end r g z = string_token d q bs u o end one (fits-more bs 1 first end first_fits g) z (string_reached end r)
 
 -- A string that has no bad escape up to a place has none up to one after it.
@@ -151,11 +153,13 @@ fit_on d q bs at end h r g = record {
 }
 
 -- where its second quote stands there, it is whole
-pub fit_whole : (d : Dialect) (q : Quote) (bs : List ℕ) (end : ℕ) → IsUtf8 bs → IsFit d bs end q → stands_at (quote_byte q) bs end ≡ true → IsToken d bs (end + 1) ShortString
+pub fit_whole : (d : Dialect) (q : Quote) (bs : List ℕ) (end : ℕ) → IsUtf8 bs → IsFit d bs end q → stands_at (quote_byte q) bs end ≡ true →
+    IsToken d bs (end + 1) ShortString
 fit_whole d q bs end u h z = string_token d q bs u h.opens end h.one h.inside z h.reached
 
 -- What stands in strings leads from the first quote up to the second: some bytes, be the first of ASCII or not.
-module _ (d : Dialect) (q : Quote) (bs : List ℕ) (u : IsUtf8 bs) (o : opens_with d q bs ≡ true) (end : ℕ) (some : 1 < end) (r : IsRun (goes_over (short_run q)) bs 1 end)
+module _ (d : Dialect) (q : Quote) (bs : List ℕ) (u : IsUtf8 bs) (o : opens_with d q bs ≡ true) (end : ℕ) (some : 1 < end)
+    (r : IsRun (goes_over (short_run q)) bs 1 end)
     (z : stands_at (quote_byte q) bs end ≡ true) where
   within : 1 < length bs
   within = let w = r.within in omega arith
@@ -174,7 +178,8 @@ module _ (d : Dialect) (q : Quote) (bs : List ℕ) (u : IsUtf8 bs) (o : opens_wi
   low_first : get_or bs 1 0 < 128 → IsToken d bs (end + 1) ShortString
   low_first l =
       let ascii : is_ascii_byte (get_or bs 1 0) ≡ true = ap not (lt-leb 128 (get_or bs 1 0) l) in
-      quick_string d q bs u o end (and_from (nat_lt 1 (length bs)) _ (lt-ltb 1 (length bs) within) (and_from (is_short_byte (quote_byte q) (get_or bs 1 0)) _ text_byte ascii)) (run_from 2 (omega arith) (omega arith)) z
+      quick_string d q bs u o end (and_from (nat_lt 1 (length bs)) _ (lt-ltb 1 (length bs) within)
+      (and_from (is_short_byte (quote_byte q) (get_or bs 1 0)) _ text_byte ascii)) (run_from 2 (omega arith) (omega arith)) z
 
   high_first : 128 ≤ get_or bs 1 0 → IsToken d bs (end + 1) ShortString
   high_first h =
@@ -191,7 +196,8 @@ module _ (d : Dialect) (q : Quote) (bs : List ℕ) (u : IsUtf8 bs) (o : opens_wi
       let place : 1 + (end - 1) ≡ end = omega arith in
       let inside : end - 1 < length (encode_utf8 char.c) = omega (arith, size, long) in
       let byte : get_or bs (1 + (end - 1)) 0 ≡ get_or (encode_utf8 char.c) (end - 1) 0 =
-      sym (get_or-drop 1 bs (end - 1) 0) ∙ (ap (λ v. get_or v (end - 1) 0) char.is ∙ get_or_append_left (encode_utf8 char.c) (drop first bs) 0 (end - 1) inside) in
+      sym (get_or-drop 1 bs (end - 1) 0)
+      ∙ (ap (λ v. get_or v (end - 1) 0) char.is ∙ get_or_append_left (encode_utf8 char.c) (drop first bs) 0 (end - 1) inside) in
       let high = high-encode char.c char.high (end - 1) inside in
       absurd (omega (arith, byte, high, low, ap (λ j. get_or bs j 0) place)))
       (λ m. m)

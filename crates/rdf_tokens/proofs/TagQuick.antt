@@ -87,13 +87,15 @@ low_part c e = grind (arith, nat_tests)
 -- the steps of a letter
 letter_steps : (d : Dialect) (c : ℕ) → is_letter c ≡ true → (step d (Tag tag.At) c ≡ Tag tag.Letters) × (step d (Tag tag.Letters) c ≡ Tag tag.Letters)
 letter_steps d c e =
-    let p = and_parts (at_letters (step d (Tag tag.At) c)) _ (implied (is_letter c) _ (agree_below_at (letter_tests d) (λ c. true) 128 c (letter_all d).0 (low_letter c e)) e) in
+    let p = and_parts (at_letters (step d (Tag tag.At) c)) _
+    (implied (is_letter c) _ (agree_below_at (letter_tests d) (λ c. true) 128 c (letter_all d).0 (low_letter c e)) e) in
     (letters-state _ p.0, letters-state _ p.1)
 
 -- and those of a letter or a digit after a hyphen
 part_steps : (d : Dialect) (c : ℕ) → is_part_byte c ≡ true → (step d (Tag tag.Hyphen) c ≡ Tag tag.Part) × (step d (Tag tag.Part) c ≡ Tag tag.Part)
 part_steps d c e =
-    let p = and_parts (at_part (step d (Tag tag.Hyphen) c)) _ (implied (is_part_byte c) _ (agree_below_at (part_tests d) (λ c. true) 128 c (part_all d).0 (low_part c e)) e) in
+    let p = and_parts (at_part (step d (Tag tag.Hyphen) c)) _
+    (implied (is_part_byte c) _ (agree_below_at (part_tests d) (λ c. true) 128 c (part_all d).0 (low_part c e)) e) in
     (part-state _ p.0, part-state _ p.1)
 
 -- runs of letters, and of letters and digits, leave the states as they are
@@ -141,7 +143,8 @@ no_row : (a b : ℕ) (s : List ℕ) (x y : ℕ) (t : List ℕ) → (x == a && y 
 no_row a b s x y t e = let n = not_both (x == a) (y == b) e in (n.0 (begins false s t), n.1 (left false s t))
 
 -- no spelling begins with '@' and two such bytes
-no_directive : (d : Dialect) (x y : ℕ) (t : List ℕ) → begins_directive x y ≡ false → (front_by (rows_of d fixed) (64 ∷ x ∷ y ∷ t) ≡ None) × (live_by (rows_of d fixed) (64 ∷ x ∷ y ∷ t) ≡ false)
+no_directive : (d : Dialect) (x y : ℕ) (t : List ℕ) → begins_directive x y ≡ false →
+    (front_by (rows_of d fixed) (64 ∷ x ∷ y ∷ t) ≡ None) × (live_by (rows_of d fixed) (64 ∷ x ∷ y ∷ t) ≡ false)
 no_directive Lines x y t e = first_rows (rows_of Lines fixed) 64 (x ∷ y ∷ t) refl
 no_directive Turtle x y t e =
     let w = 64 ∷ x ∷ y ∷ t in
@@ -160,7 +163,8 @@ unspelled : (d : Dialect) (bs : List ℕ) → 2 < length bs → get_or bs 0 0 �
 unspelled d [] l a e = absurd (omega arith)
 unspelled d (c ∷ []) l a e = absurd (omega arith)
 unspelled d (c ∷ x ∷ []) l a e = absurd (omega arith)
-unspelled d (c ∷ x ∷ y ∷ t) l a e = subst (λ c. (front_by (rows_of d fixed) (c ∷ x ∷ y ∷ t) ≡ None) × (live_by (rows_of d fixed) (c ∷ x ∷ y ∷ t) ≡ false)) (sym a) (no_directive d x y t e)
+unspelled d (c ∷ x ∷ y ∷ t) l a e =
+    subst (λ c. (front_by (rows_of d fixed) (c ∷ x ∷ y ∷ t) ≡ None) × (live_by (rows_of d fixed) (c ∷ x ∷ y ∷ t) ≡ false)) (sym a) (no_directive d x y t e)
 
 -- A text that begins a tag.
 module _ (d : Dialect) (bs : List ℕ) (u : IsUtf8 bs) (e : begins_tag bs ≡ true) where
@@ -194,14 +198,16 @@ module _ (d : Dialect) (bs : List ℕ) (u : IsUtf8 bs) (e : begins_tag bs ≡ tr
       let a = is_64 in
       let c = get_or bs 1 0 in
       let first = first-none d bs (Tag tag.At) u (omega arith) (omega (arith, a)) (at_sign d ∙ sym (ap (step d Start) a)) refl in
-      let second = byte_on d bs 1 (Tag tag.At) (Tag tag.Letters) (Some LangTag) None quotes (omega arith) (low_letter c begun.0) first (sym (letter_steps d c begun.0).0) refl in
+      let second = byte_on d bs 1 (Tag tag.At) (Tag tag.Letters) (Some LangTag) None quotes (omega arith) (low_letter c begun.0) first
+      (sym (letter_steps d c begun.0).0) refl in
       let x = get_or bs end 0 in
       record {
         part = tag.Letters;
         whole = refl;
         reached = reached-run d bs 2 end (Tag tag.Letters) (Some LangTag) None tag_here (rests_letters bs 2 end r) second;
         over = λ z. let o = ascii end z in
-            no_tag-state _ (other (is_letter x) _ (implied (ends_tag x) _ (agree_below_at (letters_over d) (λ c. true) 128 x (letter_all d).1 o.1) o.2) (r.stops o.0));
+            no_tag-state _ (other (is_letter x) _
+            (implied (ends_tag x) _ (agree_below_at (letters_over d) (λ c. true) 128 x (letter_all d).1 o.1) o.2) (r.stops o.0));
       }
 
   -- and one more
@@ -217,15 +223,18 @@ module _ (d : Dialect) (bs : List ℕ) (u : IsUtf8 bs) (e : begins_tag bs ≡ tr
       let c = get_or bs (at + 1) 0 in
       let is_part : is_part_byte c ≡ true = p.run.pass (at + 1) (omega arith) more in
       let first : Reached d bs (at + 1 + 1) (Tag tag.Part) (Some (at + 1 + 1, LangTag)) =
-      byte_on d bs (at + 1) (Tag tag.Hyphen) (Tag tag.Part) (Some LangTag) (Some (at, LangTag)) quotes (omega arith) (low_part c is_part) at_hyphen (sym (part_steps d c is_part).0) refl in
-      let rest : IsRun is_part_byte bs (at + 1 + 1) end = record { from = omega arith; within = within; pass = λ k a b. p.run.pass k (omega arith) b; stops = p.run.stops } in
+      byte_on d bs (at + 1) (Tag tag.Hyphen) (Tag tag.Part) (Some LangTag) (Some (at, LangTag)) quotes (omega arith)
+      (low_part c is_part) at_hyphen (sym (part_steps d c is_part).0) refl in
+      let rest : IsRun is_part_byte bs (at + 1 + 1) end =
+      record { from = omega arith; within = within; pass = λ k a b. p.run.pass k (omega arith) b; stops = p.run.stops } in
       let x = get_or bs end 0 in
       record {
         part = tag.Part;
         whole = refl;
         reached = reached-run d bs (at + 1 + 1) end (Tag tag.Part) (Some LangTag) None tag_here (rests_part bs (at + 1 + 1) end rest) first;
         over = λ z. let o = ascii end z in
-            no_tag-state _ (other (is_part_byte x) _ (implied (ends_tag x) _ (agree_below_at (part_over d) (λ c. true) 128 x (part_all d).1 o.1) o.2) (p.run.stops o.0));
+            no_tag-state _ (other (is_part_byte x) _
+            (implied (ends_tag x) _ (agree_below_at (part_over d) (λ c. true) 128 x (part_all d).1 o.1) o.2) (p.run.stops o.0));
       }
 
   -- up to a byte with which none goes on it is the token

@@ -7,7 +7,8 @@ use Rattle.rdf_tokens.specs.declared.states.text.TheConstants.{SORTS}
 use Rattle.rdf_tokens.specs.Text.{ascii}
 
 abbrev all : List Sort
-all = sort.Quotation ∷ sort.Apostrophe ∷ sort.Backslash ∷ sort.LineBreak ∷ sort.SmallU ∷ sort.BigU ∷ sort.Letter ∷ sort.HexLetter ∷ sort.HexDigit ∷ sort.Plain ∷ []
+all = sort.Quotation ∷ sort.Apostrophe ∷ sort.Backslash ∷ sort.LineBreak ∷ sort.SmallU ∷ sort.BigU ∷ sort.Letter ∷ sort.HexLetter
+    ∷ sort.HexDigit ∷ sort.Plain ∷ []
 
 abbrev place : Sort → ℕ
 place sort.Quotation = 0

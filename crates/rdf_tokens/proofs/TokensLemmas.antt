@@ -324,7 +324,8 @@ pub tokens-step : (d : Dialect) (limit : ℕ) (t : Tail) (b : Bool) (p : Place) 
     tokens d limit t b p w ≡ go_on (step d limit t (rest_of d b w)) (place_of d b p w) (rest_of d b w) (λ q v. tokens d limit t false q v)
 unfolding tokens read
 tokens-step d limit t b p w =
-    go_on-same (step d limit t (rest_of d b w)) (place_of d b p w) (rest_of d b w) (λ q v. read (length w) d limit t false q v) (λ q v. tokens d limit t false q v)
+    go_on-same (step d limit t (rest_of d b w)) (place_of d b p w) (rest_of d b w) (λ q v. read (length w) d limit t false q v)
+    (λ q v. tokens d limit t false q v)
     (λ n k e q.
     let s = shorter d limit t b w n k e in
     fuel_same (length w) (suc (length (drop n (rest_of d b w)))) d limit t false q (drop n (rest_of d b w)) s (omega arith))
@@ -427,9 +428,12 @@ more_token d limit b p w n k e t v =
     let a : take n (rest_of d b (w ++ v)) ≡ take n (rest_of d b w) = ap (take n) r.0 ∙ take-append-le n (rest_of d b w) v l.1 in
     let c : drop n (rest_of d b (w ++ v)) ≡ drop n (rest_of d b w) ++ v = ap (drop n) r.0 ∙ drop-append-le n (rest_of d b w) v l.1 in
     at_token d limit t b p (w ++ v) n k f
-    ∙ (ap (λ q. with_token (record { kind = k; text = take n (rest_of d b (w ++ v)); at = q }) (tokens d limit t false (past q (take n (rest_of d b (w ++ v)))) (drop n (rest_of d b (w ++ v))))) r.1
-    ∙ (ap (λ x. with_token (record { kind = k; text = x; at = place_of d b p w }) (tokens d limit t false (past (place_of d b p w) x) (drop n (rest_of d b (w ++ v))))) a
-    ∙ ap (λ x. with_token (record { kind = k; text = take n (rest_of d b w); at = place_of d b p w }) (tokens d limit t false (past (place_of d b p w) (take n (rest_of d b w))) x)) c))
+    ∙ (ap (λ q. with_token (record { kind = k; text = take n (rest_of d b (w ++ v)); at = q })
+    (tokens d limit t false (past q (take n (rest_of d b (w ++ v)))) (drop n (rest_of d b (w ++ v))))) r.1
+    ∙ (ap (λ x. with_token (record { kind = k; text = x; at = place_of d b p w })
+    (tokens d limit t false (past (place_of d b p w) x) (drop n (rest_of d b (w ++ v))))) a
+    ∙ ap (λ x. with_token (record { kind = k; text = take n (rest_of d b w); at = place_of d b p w })
+    (tokens d limit t false (past (place_of d b p w) (take n (rest_of d b w))) x)) c))
 
 -- with more text each list of tokens only gets longer
 extends : (f : ℕ) (d : Dialect) (limit : ℕ) (b : Bool) (p : Place) (w : List ℕ) → length w < f → Extends d limit b p w
@@ -497,7 +501,8 @@ pub more_tokens : (d : Dialect) (limit : ℕ) (b : Bool) (p : Place) (w : List �
     (more : List Token) × ((tokens d limit t b p (w ++ v)).tokens ≡ (tokens d limit goes_on b p w).tokens ++ more)
 more_tokens d limit b p w t v = by_outcome (tokens d limit goes_on b p w).outcome refl
   where
-    other : (tokens d limit goes_on b p w).outcome ≢ undecided → (more : List Token) × ((tokens d limit t b p (w ++ v)).tokens ≡ (tokens d limit goes_on b p w).tokens ++ more)
+    other : (tokens d limit goes_on b p w).outcome ≢ undecided →
+        (more : List Token) × ((tokens d limit t b p (w ++ v)).tokens ≡ (tokens d limit goes_on b p w).tokens ++ more)
     other n = ([], ap (λ x. x.tokens) (same_outcome d limit b p w n t v) ∙ sym (append-nil (tokens d limit goes_on b p w).tokens))
 
     by_outcome : (o : Outcome) → (tokens d limit goes_on b p w).outcome ≡ o →

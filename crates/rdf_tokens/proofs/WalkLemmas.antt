@@ -71,7 +71,8 @@ counted-up bs from to m n u h g l =
     omega (arith, a, b, all)
 
 -- so all over which the states have come are
-pub walked-counted : (d : Dialect) (bs : List ℕ) (w : Walk) (count : ℕ) → IsUtf8 bs → IsWalk d bs w → count ≡ w.count + length (chars (slice_range bs w.counted w.at)) →
+pub walked-counted : (d : Dialect) (bs : List ℕ) (w : Walk) (count : ℕ) → IsUtf8 bs → IsWalk d bs w →
+    count ≡ w.count + length (chars (slice_range bs w.counted w.at)) →
     IsWalk d bs (record w { counted = w.at; count = count })
 walked-counted d bs w count u h e =
     let here = h.reached.here in
@@ -79,7 +80,8 @@ walked-counted d bs w count u h e =
     record { enough = h.enough; reached = h.reached; within = omega arith; counted = subst (IsAt bs w.at) (sym all) here; fit = h.fit }
 
 -- where they are, the states have come so far
-pub come-walk : (d : Dialect) (bs : List ℕ) (w : Walk) → IsUtf8 bs → IsWalk d bs w → w.counted ≡ w.at → HasCome d bs (record { state = w.state; at = w.at; count = w.count })
+pub come-walk : (d : Dialect) (bs : List ℕ) (w : Walk) → IsUtf8 bs → IsWalk d bs w → w.counted ≡ w.at →
+    HasCome d bs (record { state = w.state; at = w.at; count = w.count })
 come-walk d bs w u h e =
     let here : IsAt bs w.at w.count = subst (λ k. IsAt bs k w.count) e h.counted in
     let same : h.reached.n ≡ w.count = sym (counted-before bs w.at h.reached.n u h.reached.here) ∙ counted-before bs w.at w.count u here in
@@ -96,7 +98,8 @@ quotes-more Turtle (a ∷ b ∷ c ∷ bs) more l = refl
 -- the first quote is the same with more text
 opens_with-more : (d : Dialect) (q : Quote) (bs more : List ℕ) → opens_with d q bs ≡ true → opens_with d q (bs ++ more) ≡ true
 opens_with-more d q [] more e = absurd (let p = (and_parts (has_quote d q) _ e).1 in let h : false ≡ true = p in cc)
-opens_with-more d q (x ∷ bs) more e = and_from (has_quote d q) _ p.0 (and_from (nat_lt 0 (length (x ∷ (bs ++ more)))) _ (lt-ltb 0 (length (x ∷ (bs ++ more))) (omega arith)) z.1)
+opens_with-more d q (x ∷ bs) more e = and_from (has_quote d q) _ p.0
+    (and_from (nat_lt 0 (length (x ∷ (bs ++ more)))) _ (lt-ltb 0 (length (x ∷ (bs ++ more))) (omega arith)) z.1)
   where
     p : (has_quote d q ≡ true) × (stands_at (quote_byte q) (x ∷ bs) 0 ≡ true)
     p = and_parts (has_quote d q) _ e
@@ -162,14 +165,16 @@ reached-more d bs more at s b u v l r =
     let inside = r.here.inside in
     let count = r.here.count in
     let three : three_quotes d (w ++ x) ≡ three_quotes d w =
-    sym (ap (three_quotes d) e) ∙ (sym (quotes-bytes d (bs ++ more) (IsUtf8-append bs more u v)) ∙ (quotes-more d bs more (omega arith) ∙ quotes-bytes d bs u)) in
+    sym (ap (three_quotes d) e)
+    ∙ (sym (quotes-bytes d (bs ++ more) (IsUtf8-append bs more u v)) ∙ (quotes-more d bs more (omega arith) ∙ quotes-bytes d bs u)) in
     let best = longest_by (kind_by_states d w) w r.n in
     record {
       n = r.n;
       here = at-more bs more at r.n u v r.here;
       state = r.state ∙ ap (state_of d) (sym (ap (take r.n) e ∙ take-append-le r.n w x count));
       front = r.front ∙ sym (ap (λ y. in_bytes y (longest_by (kind_by_states d y) y r.n)) e
-          ∙ (ap (in_bytes (w ++ x)) (front-same d w x r.n three count) ∙ bytes-same w x best (at_most-le r.n (length w) best count (longest_by-at_most (kind_by_states d w) w r.n))));
+          ∙ (ap (in_bytes (w ++ x)) (front-same d w x r.n three count)
+          ∙ bytes-same w x best (at_most-le r.n (length w) best count (longest_by-at_most (kind_by_states d w) w r.n))));
     }
 
 -- a string that is fit so far is so with more text
@@ -184,7 +189,8 @@ fit-more d bs more at q u v l h =
     }
 
 -- where a quote is kept
-fit_for-more : (d : Dialect) (bs more : List ℕ) (at : ℕ) (q : Option Quote) → IsUtf8 bs → IsUtf8 more → 3 ≤ at → IsFitFor d bs at q → IsFitFor d (bs ++ more) at q
+fit_for-more : (d : Dialect) (bs more : List ℕ) (at : ℕ) (q : Option Quote) → IsUtf8 bs → IsUtf8 more → 3 ≤ at → IsFitFor d bs at q →
+    IsFitFor d (bs ++ more) at q
 fit_for-more d bs more at None u v l h = tt
 fit_for-more d bs more at (Some q) u v l h = fit-more d bs more at q u v l h
 
@@ -225,7 +231,8 @@ opened true s x e = cc
 opened false s x e = absurd (let h : Some s ≡ None = e in cc)
 
 -- what is kept after a text is right of it
-pub walked-kept : (d : Dialect) (bs : List ℕ) (old : Option Walk) (n len : ℕ) (kind : Option Kind) (state : Option State) → IsUtf8 bs → Walked d bs old → n ≡ length bs →
+pub walked-kept : (d : Dialect) (bs : List ℕ) (old : Option Walk) (n len : ℕ) (kind : Option Kind) (state : Option State) → IsUtf8 bs →
+    Walked d bs old → n ≡ length bs →
     with_length len kind None ≡ in_bytes (chars bs) (longest_by (kind_by_states d (chars bs)) (chars bs) (length (chars bs))) →
     state ≡ open_state d (state_of d (chars bs)) → Walked d bs (walk_kept old n len kind state)
 walked-kept d bs old n len kind None u h e f g = h
@@ -250,7 +257,8 @@ walked-kept d bs old n len kind (Some s) u h e f g = ⊎_elim
         }
 
 -- it is right where a token goes on at a place
-pub walked-to : (d : Dialect) (bs : List ℕ) (old : Option Walk) (s : State) (at : ℕ) (fit : Option Quote) → IsUtf8 bs → Walked d bs old → counted_bytes old ≤ at → 3 ≤ at →
+pub walked-to : (d : Dialect) (bs : List ℕ) (old : Option Walk) (s : State) (at : ℕ) (fit : Option Quote) → IsUtf8 bs → Walked d bs old →
+    counted_bytes old ≤ at → 3 ≤ at →
     Reached d bs at s None → IsFitFor d bs at fit →
     IsWalk d bs (record { state = s; at = at; counted = counted_bytes old; count = counted_chars old; len = 0; kind = None; fit = fit })
 walked-to d bs old s at fit u h c l r f = record { enough = l; reached = r; within = c; counted = counted-walk d bs old u h; fit = f }

@@ -28,7 +28,8 @@ use Rattle.rdf_tokens.proofs.StateLemmas.{reached-step}
 
 -- A word that begins with a letter, before a byte with which no name goes on: the states tell of no token, so the spellings do.
 word_at : (bs : List ℕ) (end : ℕ) (k : Kind) → IsUtf8 bs → is_letter (get_or bs 0 0) ≡ true → IsRun is_name_byte bs 1 end → is_name_end bs end ≡ true →
-    front_by (rows_of Turtle fixed) bs ≡ Some (end, k) → live_by (rows_of Turtle fixed) bs ≡ false → is_fit k (chars (take end bs)) ≡ true → IsToken Turtle bs end k
+    front_by (rows_of Turtle fixed) bs ≡ Some (end, k) → live_by (rows_of Turtle fixed) bs ≡ false → is_fit k (chars (take end bs)) ≡ true →
+    IsToken Turtle bs end k
 word_at bs end k u l r z f v t =
     let c = get_or bs 0 0 in
     let x = get_or bs end 0 in
@@ -53,8 +54,10 @@ word-front (x ∷ bs) (c ∷ w) e =
     let p = and_parts (c == x) (starts_with ◌==◌ bs w) e in ap (λ z. z ∷ bs) (sym (eqb-true c x p.0)) ∙ ap (λ s. c ∷ s) (word-front bs w p.1)
 
 -- A word that is the one spelling at the front of a text that goes on after it, and the beginning of no longer one.
-pub quick_word : (bs : List ℕ) (end : ℕ) (w : List ℕ) (k : Kind) → IsUtf8 bs → IsRun is_name_byte bs 1 end → is_word w bs end ≡ true → 0 < length w → is_letter (get_or w 0 0) ≡ true →
-    ((x : ℕ) (t : List ℕ) → front_by (rows_of Turtle fixed) (w ++ x ∷ t) ≡ Some (length w, k)) → ((x : ℕ) (t : List ℕ) → live_by (rows_of Turtle fixed) (w ++ x ∷ t) ≡ false) →
+pub quick_word : (bs : List ℕ) (end : ℕ) (w : List ℕ) (k : Kind) → IsUtf8 bs → IsRun is_name_byte bs 1 end → is_word w bs end ≡ true →
+    0 < length w → is_letter (get_or w 0 0) ≡ true →
+    ((x : ℕ) (t : List ℕ) → front_by (rows_of Turtle fixed) (w ++ x ∷ t) ≡ Some (length w, k)) →
+    ((x : ℕ) (t : List ℕ) → live_by (rows_of Turtle fixed) (w ++ x ∷ t) ≡ false) →
     ((v : List ℕ) → is_fit k v ≡ true) → IsToken Turtle bs end k
 quick_word bs end w k u r e some l f v t =
     let p = and_parts (end == length w) _ e in
@@ -65,14 +68,17 @@ quick_word bs end w k u r e some l f v t =
     let rest = drop (end + 1) bs in
     let all : bs ≡ w ++ x ∷ rest = word-front bs w q.0 ∙ ap (λ n. w ++ drop n bs) (sym whole) ∙ ap (λ s. w ++ s) (drop_more bs end 0 i) in
     let letter : is_letter (get_or bs 0 0) ≡ true = ap (λ b. is_letter (get_or b 0 0)) all ∙ ap is_letter (get_or_append_left w (x ∷ rest) 0 0 some) ∙ l in
-    word_at bs end k u letter r q.1 (ap (front_by (rows_of Turtle fixed)) all ∙ f x rest ∙ ap (λ n. Some (n, k)) (sym whole)) (ap (live_by (rows_of Turtle fixed)) all ∙ v x rest) (t _)
+    word_at bs end k u letter r q.1 (ap (front_by (rows_of Turtle fixed)) all ∙ f x rest ∙ ap (λ n. Some (n, k)) (sym whole))
+    (ap (live_by (rows_of Turtle fixed)) all ∙ v x rest) (t _)
 
 -- the word `true`
-pub quick_true : (bs : List ℕ) (end : ℕ) → IsUtf8 bs → IsRun is_name_byte bs 1 end → is_word (116 ∷ 114 ∷ 117 ∷ 101 ∷ []) bs end ≡ true → IsToken Turtle bs end True
+pub quick_true : (bs : List ℕ) (end : ℕ) → IsUtf8 bs → IsRun is_name_byte bs 1 end → is_word (116 ∷ 114 ∷ 117 ∷ 101 ∷ []) bs end ≡ true →
+    IsToken Turtle bs end True
 unfolding is_fit
 quick_true bs end u r e = quick_word bs end (116 ∷ 114 ∷ 117 ∷ 101 ∷ []) True u r e (omega arith) refl (λ x t. refl) (λ x t. refl) (λ v. refl)
 
 -- the word `false`
-pub quick_false : (bs : List ℕ) (end : ℕ) → IsUtf8 bs → IsRun is_name_byte bs 1 end → is_word (102 ∷ 97 ∷ 108 ∷ 115 ∷ 101 ∷ []) bs end ≡ true → IsToken Turtle bs end False
+pub quick_false : (bs : List ℕ) (end : ℕ) → IsUtf8 bs → IsRun is_name_byte bs 1 end →
+    is_word (102 ∷ 97 ∷ 108 ∷ 115 ∷ 101 ∷ []) bs end ≡ true → IsToken Turtle bs end False
 unfolding is_fit
 quick_false bs end u r e = quick_word bs end (102 ∷ 97 ∷ 108 ∷ 115 ∷ 101 ∷ []) False u r e (omega arith) refl (λ x t. refl) (λ x t. refl) (λ v. refl)

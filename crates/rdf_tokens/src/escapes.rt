@@ -1,13 +1,16 @@
 // The insides of strings and IRIs: plain bytes by runs, and whole escapes between them.
 
-ghost use Rattle.std.specs.Prelude.{◌≡◌, ◌<◌, ◌≤◌, ◌+◌, ◌*◌, ◌&&◌, ◌==◌, ◌⊎◌, nat_le, true, false, length, get_or, IfSome};
+ghost use Rattle.std.specs.Prelude.{◌≡◌, ◌<◌, ◌≤◌, ◌+◌, ◌*◌, ◌&&◌, ◌==◌, ◌⊎◌, nat_le, true, false, length, get_or};
+ghost use Rattle.std.specs.Prelude.{IfSome};
 ghost use Rattle.rdf_terms.specs.Classes.{has};
 ghost use Rattle.rdf_terms.specs.Classes.Class.{iri_char};
 ghost use Rattle.rdf_terms.specs.Pieces.{hex_value};
 ghost use Rattle.rdf_terms.specs.Runs.{IsRun, goes_over};
-ghost use Rattle.rdf_tokens.specs.Escapes.{is_hex, is_letter, is_surrogate, is_plane, is_in_first_plane, is_in_planes, is_iri_four, writes_iri_char};
+ghost use Rattle.rdf_tokens.specs.Escapes.{is_hex, is_letter, is_surrogate, is_plane, is_in_first_plane, is_in_planes};
+ghost use Rattle.rdf_tokens.specs.Escapes.{is_iri_four, writes_iri_char};
 ghost use Rattle.rdf_tokens.specs.Escapes.{begins_long_uchar, are_four_of_character, are_eight_of_character};
-ghost use Rattle.rdf_tokens.specs.Escapes.{IsEchar, IsHexes, IsNumber, IsUchar, IsIriUchar, FitsInIri, FitsInString, IsEscapeThen, RestsInIri};
+ghost use Rattle.rdf_tokens.specs.Escapes.{IsEchar, IsHexes, IsNumber, IsUchar, IsIriUchar, FitsInIri, FitsInString};
+ghost use Rattle.rdf_tokens.specs.Escapes.{IsEscapeThen, RestsInIri};
 ghost use Rattle.rdf_tokens.specs.Quick.{short_run};
 ghost use Rattle.rdf_tokens.specs.Strings.{RestsInQuotes};
 

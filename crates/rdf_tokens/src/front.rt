@@ -4,7 +4,8 @@ ghost use Rattle.std.specs.Prelude.{◌≡◌, ◌≤◌, ℕ, List, cond, lengt
 ghost use Rattle.std.specs.Str.{chars, IsUtf8};
 ghost use Rattle.rdf_terms.specs.Shapes.{is_live};
 ghost use Rattle.rdf_tokens.specs.Tokens.{three_quotes, only_long, with_length, longest};
-ghost use Rattle.rdf_tokens.specs.Front.{HasBegun, Reached, IsLongestByStates, in_bytes, longer_front, state_of, kind_here, open_state};
+ghost use Rattle.rdf_tokens.specs.Front.{HasBegun, Reached, IsLongestByStates, in_bytes, longer_front, state_of};
+ghost use Rattle.rdf_tokens.specs.Front.{kind_here, open_state};
 ghost use Rattle.rdf_tokens.specs.Walk.{Walked, IsWalk, IsFitFor, IsWithin, counted_bytes, counted_chars, walk_kept};
 ghost use Rattle.rdf_tokens.specs.NoNames.{is_prefix_byte, BeginsNoName, HasNoNames};
 ghost use Rattle.rdf_terms.specs.Classes.{is_letter};

@@ -1,6 +1,8 @@
 //! The laws of token lists. These functions do nothing: their contracts are the laws.
 
-ghost use Rattle.rdf_tokens.specs.Laws.{MoreBytesOnlyLengthen, GivenTokensAreABeginning, NextTokenIsGiven, TokensStandAtTheirPlaces, TokensHaveShapes, TokensKeepTheLimit, EndStandsLast, LongestIsFound, TokensAreLongest, OutcomesHaveReasons, OpenTextIsPending};
+ghost use Rattle.rdf_tokens.specs.Laws.{MoreBytesOnlyLengthen, GivenTokensAreABeginning, NextTokenIsGiven};
+ghost use Rattle.rdf_tokens.specs.Laws.{TokensStandAtTheirPlaces, TokensHaveShapes, TokensKeepTheLimit, EndStandsLast};
+ghost use Rattle.rdf_tokens.specs.Laws.{LongestIsFound, TokensAreLongest, OutcomesHaveReasons, OpenTextIsPending};
 ghost use Rattle.rdf_tokens.specs.Passing.{PassedTokensAreRead};
 
 /// More bytes, or the end, only lengthen the list of tokens, and change no outcome that is decided.

@@ -4,7 +4,8 @@ ghost use Rattle.std.specs.Prelude.{◌≡◌, ◌+◌, ◌<◌, ◌≤◌, leng
 ghost use Rattle.rdf_terms.specs.Runs.{IsRun, is_name_byte};
 ghost use Rattle.rdf_tokens.specs.declared.states.machine.State.TheVariants.{Name};
 ghost use Rattle.rdf_tokens.specs.declared.states.name.Name.TheVariants as name;
-ghost use Rattle.rdf_tokens.specs.Local.{BeginsLocal, LeadsIn, RestsInLocal, begins_three, begins_two, is_escape, is_hex_at, is_percent, letter_len};
+ghost use Rattle.rdf_tokens.specs.Local.{BeginsLocal, LeadsIn, RestsInLocal, begins_three, begins_two, is_escape};
+ghost use Rattle.rdf_tokens.specs.Local.{is_hex_at, is_percent, letter_len};
 
 use crate::quick::stands_at;
 use rdf_terms::is_local_escape;

@@ -6,7 +6,8 @@ ghost use Rattle.rdf_terms.specs.declared.kind.Dialect.TheVariants.{Turtle};
 ghost use Rattle.rdf_terms.specs.Runs.{IsRun, PassBetween, is_name_byte};
 ghost use Rattle.rdf_tokens.specs.Peek.{IsBare, IsFarName, IsSeen, IsSigned, Sees, is_local, local_kind, one_space};
 ghost use Rattle.rdf_tokens.specs.Scans.{KnowsColon};
-ghost use Rattle.rdf_terms.specs.declared.kind.Kind.TheVariants.{Carets, Decimal, Integer, IriRef, LabelNode, LangTag, LongString, PnameLn, PnameNs, ShortString};
+ghost use Rattle.rdf_terms.specs.declared.kind.Kind.TheVariants.{Carets, Decimal, Integer, IriRef, LabelNode, LangTag};
+ghost use Rattle.rdf_terms.specs.declared.kind.Kind.TheVariants.{LongString, PnameLn, PnameNs, ShortString};
 ghost use Rattle.rdf_tokens.specs.Quick.{IsQuick, IsToken, begins_iri, is_colon, opens_with, single, word_kind};
 ghost use Rattle.rdf_tokens.specs.declared.states.text.Quote.TheVariants.{Double};
 

@@ -1,16 +1,21 @@
 // The scanner.
 
-ghost use Rattle.std.specs.Prelude.{false, ◌≡◌, ◌≢◌, ◌==◌, ℕ, List, [], ◌++◌, count_by, true, OnOk, OnErr, IfOk, IfSome, cond, min, ◌-◌, ◌+◌, ◌≤◌, ◌<◌, ◌&&◌, ◌||◌, nat_le, length, drop, take, encode_utf8_all, ⊤, ◌/◌, ◌^◌};
+ghost use Rattle.std.specs.Prelude.{false, ◌≡◌, ◌≢◌, ◌==◌, ℕ, List, [], ◌++◌, count_by, true, OnOk, OnErr, IfOk};
+ghost use Rattle.std.specs.Prelude.{IfSome, cond, min, ◌-◌, ◌+◌, ◌≤◌, ◌<◌, ◌&&◌, ◌||◌, nat_le, length, drop, take};
+ghost use Rattle.std.specs.Prelude.{encode_utf8_all, ⊤, ◌/◌, ◌^◌};
 ghost use Rattle.std.specs.Str.{chars, IsCharBoundary};
 ghost use Rattle.std.specs.String.{string_bytes};
 ghost use mathlib.Core.Option.{none};
 ghost use Rattle.std.specs.Borrow.{sem, follows_so};
 ghost use Rattle.rdf_tokens.specs.Tokens.{Token as Read, step, is_empty};
-ghost use Rattle.rdf_tokens.specs.Scans.{PassesBlank, SameButHeld, HasScanned, Pushes, Gives, KnowsColon, left, most_bytes, token_of, place_of, unread_bytes, IsWaiting, most_unread, fitting, at_once};
+ghost use Rattle.rdf_tokens.specs.Scans.{PassesBlank, SameButHeld, HasScanned, Pushes, Gives, KnowsColon, left};
+ghost use Rattle.rdf_tokens.specs.Scans.{most_bytes, token_of, place_of, unread_bytes, IsWaiting, most_unread, fitting};
+ghost use Rattle.rdf_tokens.specs.Scans.{at_once};
 ghost use Rattle.rdf_tokens.specs.Look.{tail_after, IsLook};
 ghost use Rattle.rdf_tokens.specs.contracts.scanner.Scanner.{the_row};
 ghost use Rattle.rdf_tokens.specs.declared.scanner.Blanks.TheVariants.{Passed, InComment};
-ghost use Rattle.rdf_tokens.specs.Moves.{closed, grown, good_bytes, is_broken, rest_of_bytes, is_settled, tail_now, fault_place, is_flat, GivesEnd, GivesWithColon, Moves, MovesBytes, Stands};
+ghost use Rattle.rdf_tokens.specs.Moves.{closed, grown, good_bytes, is_broken, rest_of_bytes, is_settled, tail_now};
+ghost use Rattle.rdf_tokens.specs.Moves.{fault_place, is_flat, GivesEnd, GivesWithColon, Moves, MovesBytes, Stands};
 ghost use Rattle.rdf_tokens.specs.Passing.{is_idle, passed};
 ghost use Rattle.rdf_tokens.specs.Front.{bytes_of};
 ghost use Rattle.rdf_tokens.specs.Peek.{IsPeeked, MayPeek, TakesSeen, is_plain};

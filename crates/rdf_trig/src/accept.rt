@@ -1,6 +1,7 @@
 // A token is accepted: the checks, then the quads that are due, then the move.
 
-ghost use Rattle.std.specs.Prelude.{◌≡◌, ℕ, ◌≤◌, ◌<◌, ◌+◌, ◌^◌, ◌&&◌, length, nat_le, true, false, None, OnOk, IfOk, IfErr};
+ghost use Rattle.std.specs.Prelude.{◌≡◌, ℕ, ◌≤◌, ◌<◌, ◌+◌, ◌^◌, ◌&&◌, length, nat_le, true, false, None, OnOk, IfOk};
+ghost use Rattle.std.specs.Prelude.{IfErr};
 ghost use Rattle.rdf_iri.specs.Limits.{Sizes};
 ghost use Rattle.rdf_iri.specs.Scope.{InForce};
 ghost use Rattle.rdf_tokens.specs.Scans.{KnowsItsColon};

@@ -1,6 +1,7 @@
 // The quads that a token determines are put: those that were held for it, and the one that waited to know it.
 
-ghost use Rattle.std.specs.Prelude.{◌≡◌, ◌∷◌, ◌+◌, ◌≤◌, length, ◌++◌, true, false, [], Option, Some, None, OnOk, IfOk, IfErr, option_map};
+ghost use Rattle.std.specs.Prelude.{◌≡◌, ◌∷◌, ◌+◌, ◌≤◌, length, ◌++◌, true, false, [], Option, Some, None, OnOk, IfOk};
+ghost use Rattle.std.specs.Prelude.{IfErr, option_map};
 ghost use Rattle.std.specs.Str.{chars};
 ghost use Rattle.std.specs.String.{string_bytes};
 ghost use Rattle.rdf_terms.specs.Terms as term;

@@ -1,7 +1,11 @@
 //! The laws of Turtle and TriG. These functions do nothing: their contracts are the laws.
 
-ghost use Rattle.rdf_trig.specs.Laws.{EventsTellTheTree, MarksNeverFall, TokensSettleTheQuads, TokensSettleWhatIsDue, TokensSettleWhatIsOwed, ScopesAlikeTakeAlike, DueBeginsTheQuads, TokensSettleTheirSenses, ViableIsShapedAndBound, BeginningsAreCompleted, NamelessIsUnbound, DirectivesBind};
-ghost use Rattle.rdf_trig.specs.Laws.{DocumentsAreAccepted, AcceptedIsADocument, AcceptedBeginsADocument, RefusedForItsReason, ReadQuadsAreDue, DocumentsAreRead, RefusedIsNoDocument};
+ghost use Rattle.rdf_trig.specs.Laws.{EventsTellTheTree, MarksNeverFall, TokensSettleTheQuads, TokensSettleWhatIsDue};
+ghost use Rattle.rdf_trig.specs.Laws.{TokensSettleWhatIsOwed, ScopesAlikeTakeAlike, DueBeginsTheQuads};
+ghost use Rattle.rdf_trig.specs.Laws.{TokensSettleTheirSenses, ViableIsShapedAndBound, BeginningsAreCompleted};
+ghost use Rattle.rdf_trig.specs.Laws.{NamelessIsUnbound, DirectivesBind};
+ghost use Rattle.rdf_trig.specs.Laws.{DocumentsAreAccepted, AcceptedIsADocument, AcceptedBeginsADocument};
+ghost use Rattle.rdf_trig.specs.Laws.{RefusedForItsReason, ReadQuadsAreDue, DocumentsAreRead, RefusedIsNoDocument};
 
 /// The events of a tree, from left to right, have the tokens that it derives, and its quads with their marks.
 pub fn events_tell_the_tree()

@@ -1,6 +1,7 @@
 // What references and names stand for, and what directives do to the scope.
 
-ghost use Rattle.std.specs.Prelude.{◌≡◌, ◌≤◌, ◌*◌, ℕ, List, true, Some, None, IfOk, IfErr, OnOk, length, is_some, unwrap_or};
+ghost use Rattle.std.specs.Prelude.{◌≡◌, ◌≤◌, ◌*◌, ℕ, List, true, Some, None, IfOk, IfErr, OnOk, length, is_some};
+ghost use Rattle.std.specs.Prelude.{unwrap_or};
 ghost use Rattle.std.specs.Str.{chars};
 ghost use Rattle.std.specs.String.{string_bytes};
 ghost use Rattle.rdf_terms.specs.Terms.{IsIri};
@@ -14,7 +15,8 @@ ghost use Rattle.rdf_trig.specs.Machine as M;
 ghost use Rattle.rdf_trig.specs.Owed.{iri_size};
 ghost use Rattle.rdf_trig.specs.States.{leaf, IsTurtleToken, PrefixFits};
 ghost use Rattle.rdf_trig.specs.Holding.{NameFits};
-ghost use Rattle.rdf_trig.specs.Scopes.{IsReference, IsPrefixed, StandsForIri, Names, Unnamed, Binding, NotBinding, Based, Finds, FindsNone, FindsIri, FindsNoIri};
+ghost use Rattle.rdf_trig.specs.Scopes.{IsReference, IsPrefixed, StandsForIri, Names, Unnamed, Binding, NotBinding};
+ghost use Rattle.rdf_trig.specs.Scopes.{Based, Finds, FindsNone, FindsIri, FindsNoIri};
 
 use crate::emptied::clear_text;
 use crate::fault::StepFault;

@@ -9,7 +9,8 @@ ghost use Rattle.rdf_trig.specs.Machine as M;
 ghost use Rattle.rdf_trig.specs.Spelled.{SpellsTag};
 ghost use Rattle.rdf_trig.specs.States.{leaf, IsTurtleToken, text_in, place_of, up_of};
 ghost use Rattle.rdf_trig.specs.Holding.{text_bytes};
-ghost use Rattle.rdf_trig.specs.Turns.{SuitsObject, frames_begun, Begins, Takes, TakesFit, TurnFits, StillFits, FramesTaken};
+ghost use Rattle.rdf_trig.specs.Turns.{SuitsObject, frames_begun, Begins, Takes, TakesFit, TurnFits, StillFits};
+ghost use Rattle.rdf_trig.specs.Turns.{FramesTaken};
 
 use crate::fault::StepFault;
 use crate::rest::Rest;

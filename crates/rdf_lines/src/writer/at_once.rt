@@ -1,13 +1,16 @@
 // Lines whose texts are short: the buffer grows once, and the parts are placed in what is new of it.
 
-ghost use Rattle.std.specs.Prelude.{◌≡◌, ◌++◌, ◌+◌, ◌*◌, ◌<◌, ◌≤◌, [], ◌∷◌, length, encode_utf8_all, None, IfOk, IfSome, OnErr, OnOk};
+ghost use Rattle.std.specs.Prelude.{◌≡◌, ◌++◌, ◌+◌, ◌*◌, ◌<◌, ◌≤◌, [], ◌∷◌, length, encode_utf8_all, None, IfOk};
+ghost use Rattle.std.specs.Prelude.{IfSome, OnErr, OnOk};
 ghost use Rattle.rdf_terms.specs.Views.{iri_chars};
 ghost use Rattle.rdf_lines.specs.declared.form.Escapes.TheVariants.{Plain};
 ghost use Rattle.rdf_lines.specs.Forms.{form_of};
 ghost use Rattle.rdf_terms.specs.Placing.{Placed};
-ghost use Rattle.rdf_lines.specs.Placing.{WrittenAt, graph_room, iris_room, label_bytes, line_room, literal_room, node_room, number_bytes, subject_room, tail_room, term_room};
+ghost use Rattle.rdf_lines.specs.Placing.{WrittenAt, graph_room, iris_room, label_bytes, line_room, literal_room};
+ghost use Rattle.rdf_lines.specs.Placing.{node_room, number_bytes, subject_room, tail_room, term_room};
 ghost use Rattle.rdf_lines.specs.Writing.{space, type_text};
-ghost use Rattle.rdf_lines.specs.WrittenBytes.{BeginsWith, graph_bytes, iri_bytes, iris_bytes, line_bytes, literal_bytes, node_bytes, subject_bytes, tail_bytes, term_bytes};
+ghost use Rattle.rdf_lines.specs.WrittenBytes.{BeginsWith, graph_bytes, iri_bytes, iris_bytes, line_bytes};
+ghost use Rattle.rdf_lines.specs.WrittenBytes.{literal_bytes, node_bytes, subject_bytes, tail_bytes, term_bytes};
 
 use crate::form::{Style, WrittenForm};
 use crate::writer::characters::place_characters;

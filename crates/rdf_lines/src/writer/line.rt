@@ -3,7 +3,8 @@
 ghost use Rattle.std.specs.Prelude.{◌≡◌, [], ◌∷◌, ◌++◌, OnErr, OnOk};
 ghost use Rattle.rdf_lines.specs.Forms.{form_of};
 ghost use Rattle.rdf_lines.specs.Writing.{space};
-ghost use Rattle.rdf_lines.specs.WrittenBytes.{BeginsWith, graph_bytes, iri_bytes, line_bytes, subject_bytes, term_bytes};
+ghost use Rattle.rdf_lines.specs.WrittenBytes.{BeginsWith, graph_bytes, iri_bytes, line_bytes, subject_bytes};
+ghost use Rattle.rdf_lines.specs.WrittenBytes.{term_bytes};
 
 use crate::form::{Escapes, WrittenForm};
 use crate::writer::term::{put_iri, put_name, put_term};

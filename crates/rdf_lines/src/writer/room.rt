@@ -1,7 +1,8 @@
 // How much room a line takes at most, where its texts are short.
 
 ghost use Rattle.std.specs.Prelude.{◌≡◌, ◌+◌, ◌^◌, ◌<◌, ◌≤◌, length, true, IfSome};
-ghost use Rattle.rdf_lines.specs.Placing.{graph_room, iris_room, line_room, literal_room, node_room, subject_room, tail_room, term_room};
+ghost use Rattle.rdf_lines.specs.Placing.{graph_room, iris_room, line_room, literal_room, node_room, subject_room};
+ghost use Rattle.rdf_lines.specs.Placing.{tail_room, term_room};
 
 use rdf_terms::{IriView, LiteralRef, NodeRef, QuadRef, SubjectRef, TailRef, TermRef};
 

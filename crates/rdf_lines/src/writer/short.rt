@@ -4,7 +4,8 @@ ghost use Rattle.std.specs.Prelude.{◌≡◌, ◌++◌, ◌+◌, ◌<◌, ◌�
 ghost use Rattle.rdf_terms.specs.Placing.{Placed};
 ghost use Rattle.rdf_lines.specs.declared.form.Style.TheVariants.{Tagged};
 ghost use Rattle.rdf_lines.specs.Forms.{form_of};
-ghost use Rattle.rdf_lines.specs.Placing.{IsShort, IsShortGraph, IsShortNode, IsShortSubject, IsShortTerm, WrittenAt, literal_room};
+ghost use Rattle.rdf_lines.specs.Placing.{IsShort, IsShortGraph, IsShortNode, IsShortSubject, IsShortTerm, WrittenAt};
+ghost use Rattle.rdf_lines.specs.Placing.{literal_room};
 ghost use Rattle.rdf_lines.specs.Writing.{space};
 ghost use Rattle.rdf_lines.specs.WrittenBytes.{graph_bytes, line_bytes, node_bytes, subject_bytes, usual};
 

@@ -1,6 +1,7 @@
 // Texts as they are written: runs as they stand, and escapes between them (N-Quads 4).
 
-ghost use Rattle.std.specs.Prelude.{◌≡◌, ◌++◌, ◌<◌, ◌≤◌, length, chars, encode_utf8, encode_utf8_all, flat_map, IfOk, OnErr, OnOk};
+ghost use Rattle.std.specs.Prelude.{◌≡◌, ◌++◌, ◌<◌, ◌≤◌, length, chars, encode_utf8, encode_utf8_all, flat_map, IfOk};
+ghost use Rattle.std.specs.Prelude.{OnErr, OnOk};
 ghost use Rattle.rdf_terms.specs.Views.{iri_chars};
 ghost use Rattle.rdf_lines.specs.declared.form.Escapes.TheVariants.{Ascii};
 ghost use Rattle.rdf_lines.specs.Writing.{escaped, written};

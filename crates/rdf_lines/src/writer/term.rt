@@ -1,11 +1,13 @@
 // Terms as they are written (N-Quads 4).
 
-ghost use Rattle.std.specs.Prelude.{◌≡◌, ◌↔◌, ◌∷◌, ◌++◌, ◌+◌, ◌≤◌, bytes_eq, drop, encode_utf8_all, length, take, IfSome, None, OnErr, OnOk};
+ghost use Rattle.std.specs.Prelude.{◌≡◌, ◌↔◌, ◌∷◌, ◌++◌, ◌+◌, ◌≤◌, bytes_eq, drop, encode_utf8_all, length, take};
+ghost use Rattle.std.specs.Prelude.{IfSome, None, OnErr, OnOk};
 ghost use Rattle.rdf_terms.specs.Terms.{xsd_string};
 ghost use Rattle.rdf_terms.specs.Views.{iri_chars, node_of};
 ghost use Rattle.rdf_lines.specs.Forms.{form_of};
 ghost use Rattle.rdf_lines.specs.Writing.{CanWriteNode, type_text};
-ghost use Rattle.rdf_lines.specs.WrittenBytes.{BeginsWith, IsNamed, iri_bytes, node_bytes, subject_bytes, tail_bytes, term_bytes};
+ghost use Rattle.rdf_lines.specs.WrittenBytes.{BeginsWith, IsNamed, iri_bytes, node_bytes, subject_bytes, tail_bytes};
+ghost use Rattle.rdf_lines.specs.WrittenBytes.{term_bytes};
 
 use crate::form::{Escapes, Style, WrittenForm};
 use crate::writer::string::{put_characters, put_string};

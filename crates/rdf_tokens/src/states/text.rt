@@ -2,7 +2,8 @@
 
 ghost use Rattle.std.specs.Prelude.{◌≡◌, ◌<◌, ℕ};
 ghost use Rattle.rdf_tokens.specs.Sorts.{sort_by};
-ghost use Rattle.rdf_tokens.specs.Text.{begin, step, ascii, high, closes, escaped, if_hex, in_short, in_long, move, kind_at, goes_on};
+ghost use Rattle.rdf_tokens.specs.Text.{begin, step, ascii, high, closes, escaped, if_hex, in_short, in_long, move};
+ghost use Rattle.rdf_tokens.specs.Text.{kind_at, goes_on};
 ghost use Rattle.rdf_tokens.specs.declared.states.text.Text.{Text};
 
 use Sort::{

@@ -80,7 +80,8 @@ Ordinary m = Unit {0}
 -- what the reader looked up in its own scope holds in the machine's
 looks_same : (s t : InForce) (k : Kind) (l : Leaf) (i : Option (List ℕ)) → SameScope s t → Names t k l i →
     (name_at s k l ≡ i) × IsAdmitted s.limits k (use_at s k l)
-looks_same s t k l i e n = (name_at-same s t k l e ∙ n.name, passes_at s.limits t.limits k (use_at s k l) (use_at t k l) e.limits (use_at-same s t k l e) n.admitted)
+looks_same s t k l i e n =
+    (name_at-same s t k l e ∙ n.name, passes_at s.limits t.limits k (use_at s k l) (use_at t k l) e.limits (use_at-same s t k l e) n.admitted)
 
 -- outside of directives a look-up in the reader's scope is what the machine expects, and no scope changes
 looks_ordinary : (s t : InForce) (m : M.Mode) (k : Kind) (l : Leaf) (i : Option (List ℕ)) → Ordinary m → SameScope s t → Names t k l i → LooksUp s m k l i t
@@ -195,7 +196,8 @@ base_looks s t n w l i e b =
       admitted = passes_at s.limits t.limits IriRef _ _ e.limits (ap stands r) b.admitted;
       name = tt;
       named = tt;
-      scope = subst (λ x. SameScope (with_base s x) n) (sym r) (subst (SameScope (with_base s (reference_in t l))) (sym b.scope) (based_same s t (reference_in t l) e));
+      scope = subst (λ x. SameScope (with_base s x) n) (sym r)
+          (subst (SameScope (with_base s (reference_in t l))) (sym b.scope) (based_same s t (reference_in t l) e));
     }
 
 -- a base that the reader cannot take is refused by the machine for the same reason

@@ -83,7 +83,8 @@ deep_refused form n k l g d =
     let r = goes (M.step form n.setting n.mode k l) g in
     let sizes = n.setting.scope.limits in
     ap (M.answer sizes n k (M.waiting n.setting n.mode k l)) r.5
-    ∙ cond-true (M.deepens k && nat_le sizes.depth (M.depth n.mode)) (refuses refusal.too_deep) (by_use sizes k r.0 (accepts (quads_out n k l) (after r.1 r.2 r.3 r.4))) d
+    ∙ cond-true (M.deepens k && nat_le sizes.depth (M.depth n.mode)) (refuses refusal.too_deep)
+    (by_use sizes k r.0 (accepts (quads_out n k l) (after r.1 r.2 r.3 r.4))) d
 
 -- the answer to an allowed token is decided by what the token stands for alone
 answer_is : (form : DocForm) (n : M.State) (k : Kind) (l : Leaf) (u : Use) (early now : Option Quad) (c : Setting) (m : M.Mode) → May form n k l →
@@ -91,7 +92,8 @@ answer_is : (form : DocForm) (n : M.State) (k : Kind) (l : Leaf) (u : Use) (earl
     (accepts (quads_out n k l) (after early now c m))
 answer_is form n k l u early now c m may e =
     ap (M.answer n.setting.scope.limits n k (M.waiting n.setting n.mode k l)) e
-    ∙ cond-false (M.deepens k && nat_le n.setting.scope.limits.depth (M.depth n.mode)) (refuses refusal.too_deep) (by_use n.setting.scope.limits k u (accepts (quads_out n k l) (after early now c m))) may.1
+    ∙ cond-false (M.deepens k && nat_le n.setting.scope.limits.depth (M.depth n.mode)) (refuses refusal.too_deep)
+    (by_use n.setting.scope.limits k u (accepts (quads_out n k l) (after early now c m))) may.1
 
 -- and what it stands for passes
 passed : (form : DocForm) (n : M.State) (k : Kind) (l : Leaf) → May form n k l → IsAdmitted n.setting.scope.limits k (use_in n.setting.scope n.mode k l) →
@@ -99,8 +101,11 @@ passed : (form : DocForm) (n : M.State) (k : Kind) (l : Leaf) → May form n k l
 passed form n k l may p =
     let r = goes (M.step form n.setting n.mode k l) may.0 in
     let o = after r.1 r.2 r.3 r.4 in
-    let same = step_use form n.setting n.mode k l r.0 r.1 r.2 r.3 r.4 r.5 in
-    (o, answer_is form n k l r.0 r.1 r.2 r.3 r.4 may r.5 ∙ (ap (λ u. by_use n.setting.scope.limits k u (accepts (quads_out n k l) o)) same ∙ p (accepts (quads_out n k l) o)))
+    let same = step_use form n.setting n.mode k l r.0 r.1 r.2 r.3 r.4 r.5 in (
+      o,
+      answer_is form n k l r.0 r.1 r.2 r.3 r.4 may r.5
+          ∙ (ap (λ u. by_use n.setting.scope.limits k u (accepts (quads_out n k l) o)) same ∙ p (accepts (quads_out n k l) o)),
+    )
 
 -- or it does not
 stops_answer : (form : DocForm) (n : M.State) (k : Kind) (l : Leaf) (e : refusal.Refusal) → May form n k l →
@@ -109,7 +114,8 @@ stops_answer form n k l e may s =
     let r = goes (M.step form n.setting n.mode k l) may.0 in
     let o = after r.1 r.2 r.3 r.4 in
     let same = step_use form n.setting n.mode k l r.0 r.1 r.2 r.3 r.4 r.5 in
-    answer_is form n k l r.0 r.1 r.2 r.3 r.4 may r.5 ∙ (ap (λ u. by_use n.setting.scope.limits k u (accepts (quads_out n k l) o)) same ∙ s (accepts (quads_out n k l) o))
+    answer_is form n k l r.0 r.1 r.2 r.3 r.4 may r.5
+    ∙ (ap (λ u. by_use n.setting.scope.limits k u (accepts (quads_out n k l) o)) same ∙ s (accepts (quads_out n k l) o))
 
 -- a look-up that failed leaves the sink as it was, and the machine refuses for that reason
 pub fails_stops : {S : Type 0} (takes leaves : S → Quad → S → Type 0) (failed : S → Bool) (form : DocForm) (n : M.State) (k : Kind) (l : Leaf)

@@ -28,11 +28,13 @@ iri_plain_value (c ∷ w) v h e =
     let m : move of_iri outside c ≡ allowed of_iri c = cond-false (c == 92) (leads slash) (allowed of_iri c) (not-true (c == 92) p.0) in
     let k : go (allowed of_iri c) (λ t. value of_iri t w) ≡ Some v = ap (λ x. go x (λ t. value of_iri t w)) (sym m) ∙ e in
     ⊎_elim
-    (λ t. by_rest (iri_value w) (λ u r. iri_plain_value w u p.1 r) refl (ap (λ x. go x (λ t. value of_iri t w)) (sym (cond-true (has iri_char c) (means c) fails t)) ∙ k))
+    (λ t. by_rest (iri_value w) (λ u r. iri_plain_value w u p.1 r) refl
+    (ap (λ x. go x (λ t. value of_iri t w)) (sym (cond-true (has iri_char c) (means c) fails t)) ∙ k))
     (λ f. absurd (let n : None ≡ Some v = ap (λ x. go x (λ t. value of_iri t w)) (sym (cond-false (has iri_char c) (means c) fails f)) ∙ k in cc))
     (cases_Bool (has iri_char c))
   where
-    by_rest : (o : Option (List ℕ)) → ((u : List ℕ) → iri_value w ≡ Some u → u ≡ w) → iri_value w ≡ o → option_map (λ u. c ∷ u) (iri_value w) ≡ Some v → v ≡ c ∷ w
+    by_rest : (o : Option (List ℕ)) → ((u : List ℕ) → iri_value w ≡ Some u → u ≡ w) → iri_value w ≡ o →
+        option_map (λ u. c ∷ u) (iri_value w) ≡ Some v → v ≡ c ∷ w
     by_rest None f e k = absurd (let n : None ≡ Some v = ap (option_map (λ u. c ∷ u)) (sym e) ∙ k in cc)
     by_rest (Some u) f e k =
         let n : Some (c ∷ u) ≡ Some v = ap (option_map (λ u. c ∷ u)) (sym e) ∙ k in

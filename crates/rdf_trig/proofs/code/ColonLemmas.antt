@@ -23,7 +23,8 @@ at_colon x w t = ap (λ b. cond (not b) (1 + position_or_len is_colon w) 0) t
 
 -- a front that is no ':' puts the place one further
 past_colon : (x : ℕ) (w : List ℕ) → (x == 58) ≡ false → position_or_len is_colon (x ∷ w) ≡ suc (position_or_len is_colon w)
-past_colon x w t = let e : position_or_len is_colon (x ∷ w) ≡ 1 + position_or_len is_colon w = ap (λ b. cond (not b) (1 + position_or_len is_colon w) 0) t in omega (arith, e)
+past_colon x w t = let e : position_or_len is_colon (x ∷ w) ≡ 1 + position_or_len is_colon w =
+    ap (λ b. cond (not b) (1 + position_or_len is_colon w) 0) t in omega (arith, e)
 
 -- what the code takes as the prefix is what the definition takes
 before_is : (w : List ℕ) → before_first is_colon w ≡ before 58 w
@@ -81,7 +82,8 @@ scalars-after c (x ∷ w) v h e =
 -- the part before the colon
 pub front_chars : (bs front : List ℕ) → IsUtf8 bs → front ≡ before_first is_colon bs → chars front ≡ before 58 (chars bs)
 front_chars bs front u e =
-    let cut : before 58 bs ≡ encode_utf8_all (before 58 (chars bs)) = ap (before 58) (sym (encodes-chars bs u)) ∙ (before-bytes 58 (chars bs) (omega arith)).0 in
+    let cut : before 58 bs ≡ encode_utf8_all (before 58 (chars bs)) =
+    ap (before 58) (sym (encodes-chars bs u)) ∙ (before-bytes 58 (chars bs) (omega arith)).0 in
     ap chars (e ∙ (before_is bs ∙ cut)) ∙ chars-encodes (before 58 (chars bs)) (scalars-before 58 (chars bs) (scalars-chars bs u))
 
 -- a cut at ':' is the same in bytes and in characters, since ':' is ASCII

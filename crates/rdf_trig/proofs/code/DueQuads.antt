@@ -143,7 +143,8 @@ given_apart form s n t =
 -- for equal quads
 in_row : (q a r b w c : Option Quad) → q ≡ a → r ≡ b → w ≡ c → kept a [] ++ (kept b [] ++ kept c []) ≡ kept q [] ++ (kept r [] ++ kept w [])
 in_row q a r b w c e f g =
-    sym (ap (λ x. kept x [] ++ (kept b [] ++ kept c [])) e) ∙ (sym (ap (λ x. kept q [] ++ (kept x [] ++ kept c [])) f) ∙ sym (ap (λ x. kept q [] ++ (kept r [] ++ kept x [])) g))
+    sym (ap (λ x. kept x [] ++ (kept b [] ++ kept c [])) e)
+    ∙ (sym (ap (λ x. kept q [] ++ (kept x [] ++ kept c [])) f) ∙ sym (ap (λ x. kept q [] ++ (kept r [] ++ kept x [])) g))
 
 -- so the quads that the code makes are what the token gives out
 pub given_in : {A : Type 0} (form : DocForm) (s : InForce) (n : State A) (t : Given) (g : Option term.Subject) (q r w : Option Quad) →

@@ -23,4 +23,5 @@ pub up_last : {A : Type 0} (v : M.Level) (fs : List (Frame A)) (u : M.Up) (f : F
     (w : M.Up) × (up_from v u fs ≡ M.At (place_of v f w))
 up_last v [] u f e = absurd (cc)
 up_last v (g ∷ []) u f e = let h : g ≡ f = cc in (u, ap (λ x. M.At (place_of v x u)) h)
-up_last v (g ∷ h ∷ fs) u f e = let n : length (g ∷ h ∷ fs) - 1 ≡ suc (length (h ∷ fs) - 1) = omega arith in up_last v (h ∷ fs) (M.At (place_of v g u)) f (rw n at e)
+up_last v (g ∷ h ∷ fs) u f e = let n : length (g ∷ h ∷ fs) - 1 ≡ suc (length (h ∷ fs) - 1) = omega arith in
+    up_last v (h ∷ fs) (M.At (place_of v g u)) f (rw n at e)

@@ -133,7 +133,8 @@ frame_within n f h = let x = h.0 in let y = h.1 in omega (arith, x, y)
 
 -- so all of them hold twice as many as they are
 frames_within : {A : Type 0} (n : ℕ) (fs : List (Frame A)) → AllByRecursion (FrameFits n) fs → sum_by frame_bytes fs ≤ length fs * (2 * n)
-frames_within {A} n fs a = sum_by-le (frame_bytes {A = A}) (2 * n) fs (All-weaker _ (λ (f : Frame A). frame_bytes f ≤ 2 * n) (frame_within n) fs (All-from_recursion (FrameFits n) fs a))
+frames_within {A} n fs a = sum_by-le (frame_bytes {A = A}) (2 * n) fs
+    (All-weaker _ (λ (f : Frame A). frame_bytes f ≤ 2 * n) (frame_within n) fs (All-from_recursion (FrameFits n) fs a))
 
 -- the texts of a state that keeps to the limits
 pub state_within : {A : Type 0} (form : DocForm) (sizes : Sizes) (r : State A) → Keeps form sizes r →

@@ -66,7 +66,8 @@ lawful = record {
 -- Before the first token nothing was accepted.
 pub begins_here : (g : TreeAt) (x : Chosen) → g ≡ record { form = x.form; limit = x.start.limits.token; state = at_start x.start; held = bytes_held x.start } →
     tree_words.reached g x [] []
-begins_here g x e = subst (λ y. tree_words.reached y x [] []) (sym e) (refl, refl, record { machine = at_start x.start; accepted = refl; same = state_self (at_start x.start) }, omega arith)
+begins_here g x e = subst (λ y. tree_words.reached y x [] []) (sym e)
+    (refl, refl, record { machine = at_start x.start; accepted = refl; same = state_self (at_start x.start) }, omega arith)
 
 -- what a token does by some form
 abbrev answer : DocForm → TreeAt → Token → Answer
@@ -95,7 +96,13 @@ module _ {S : Type 0} (takes : S → Quad → S → Type 0) (g : TreeAt) (t : To
             count = count quads m e;
             puts = h.0;
             limit = refl;
-            reached = λ x ts qs reached. (reached.0, reached.1, runs_one x.form x.start ts t qs quads g.state m now reached.2 (by_form x (accepts quads m) reached.0 e) same, enough);
+            reached = λ x ts qs reached. (
+              reached.0,
+              reached.1,
+              runs_one x.form x.start ts t qs quads g.state m now reached.2
+                  (by_form x (accepts quads m) reached.0 e) same,
+              enough,
+            );
           }
 
   module _ (leaves : S → Quad → S → Type 0) (failed : S → Bool) (old new : S) where
@@ -115,7 +122,14 @@ module _ {S : Type 0} (takes : S → Quad → S → Type 0) (g : TreeAt) (t : To
       due = λ x ts qs r.
           let reads = begins x.form x.start ts r.2.machine qs r.2.accepted in
           let none : qs ≡ (qs ++ []) ++ [] = sym (append-nil (qs ++ []) ∙ append-nil qs) in
-          record { ahead = ts; after = t ∷ []; tokens = refl; kept = reads.front.kept; rest = []; due = subst (Due (documents x.form x.start) ts) none reads.due };
+          record {
+            ahead = ts;
+            after = t ∷ [];
+            tokens = refl;
+            kept = reads.front.kept;
+            rest = [];
+            due = subst (Due (documents x.form x.start) ts) none reads.due;
+          };
     }
 
     -- Some of what the machine gives out was put, from the first quad on.
@@ -132,7 +146,14 @@ module _ {S : Type 0} (takes : S → Quad → S → Type 0) (g : TreeAt) (t : To
               let next = runs_one x.form x.start ts t qs all g.state n n r.2 (by_form x (accepts all n) r.0 e) (state_self n) in
               let reads = begins x.form x.start us next.machine (qs ++ all) next.accepted in
               let split : qs ++ all ≡ (qs ++ h.0) ++ h.1 = ap (λ y. qs ++ y) h.2 ∙ sym (append_assoc qs h.0 h.1) in
-              record { ahead = us; after = []; tokens = sym (append-nil us); kept = reads.front.kept; rest = h.1; due = subst (Due (documents x.form x.start) us) split reads.due };
+              record {
+                ahead = us;
+                after = [];
+                tokens = sym (append-nil us);
+                kept = reads.front.kept;
+                rest = h.1;
+                due = subst (Due (documents x.form x.start) us) split reads.due;
+              };
         }
 
     -- The machine refuses, and nothing was put.
@@ -142,7 +163,8 @@ module _ {S : Type 0} (takes : S → Quad → S → Type 0) (g : TreeAt) (t : To
       sink = f.1;
       blames = λ x ts qs r.
           is x ts
-          (stops x.form x.start ts t [] r.2.machine qs y r.2.accepted (runs_refused x.form x.start ts t qs g.state y r.2 (by_form x (refuses y) r.0 f.0))).reason;
+          (stops x.form x.start ts t [] r.2.machine qs y r.2.accepted
+          (runs_refused x.form x.start ts t qs g.state y r.2 (by_form x (refuses y) r.0 f.0))).reason;
     }
 
     -- The step fails for its reason, as the driver asks.

@@ -71,7 +71,8 @@ one_of-high c (x ∷ xs) b h =
 high : (c : ℕ) → 128 ≤ c → scalar c ≡ true → has iri_char c ≡ true
 unfolding has
 high c h s =
-    and_from (scalar c) _ s (not_from_false _ (or_from (nat_le c 32) _ (lt-leb c 32 (omega (arith, h))) (one_of-high c (60 ∷ 62 ∷ 34 ∷ 123 ∷ 125 ∷ 124 ∷ 94 ∷ 96 ∷ 92 ∷ []) refl h)))
+    and_from (scalar c) _ s (not_from_false _ (or_from (nat_le c 32) _ (lt-leb c 32 (omega (arith, h)))
+    (one_of-high c (60 ∷ 62 ∷ 34 ∷ 123 ∷ 125 ∷ 124 ∷ 94 ∷ 96 ∷ 92 ∷ []) refl h)))
 
 -- a member of the class below 128 is a character of IRIs
 abbrev strays : Class → ℕ → Bool
@@ -173,7 +174,8 @@ good_local =
     (good_or _ _ (good_one (pn_u Turtle) plain_u) (good_or _ _ (good_one (the 58) plain_colon) (good_or _ _ (good_one digit plain_digit) good_plx)))
     (good_or _ _ good_empty
     (good_then _ _
-    (good_many _ (good_or _ _ (good_one (pn_char Turtle) plain_pn) (good_or _ _ (good_one (the 46) plain_dot) (good_or _ _ (good_one (the 58) plain_colon) good_plx))))
+    (good_many _ (good_or _ _ (good_one (pn_char Turtle) plain_pn)
+    (good_or _ _ (good_one (the 46) plain_dot) (good_or _ _ (good_one (the 58) plain_colon) good_plx))))
     (good_or _ _ (good_one (pn_char Turtle) plain_pn) (good_or _ _ (good_one (the 58) plain_colon) good_plx))))
 
 -- a text with a meaning has one by the function too

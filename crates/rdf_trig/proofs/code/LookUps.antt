@@ -30,7 +30,8 @@ stands_passes sizes k o i e h a = subst (λ x. by_use sizes k (stands x) a ≡ a
 -- an IRI that is too long is refused as such, whatever the grammar says
 stands_long : (sizes : Sizes) (k : Kind) (o : Option (List ℕ)) (i : List ℕ) → o ≡ Some i → sizes.iri < byte_len i → (a : M.Answer) →
     by_use sizes k (stands o) a ≡ refuses refusal.iri_too_long
-stands_long sizes k o i e h a = subst (λ x. by_use sizes k (stands x) a ≡ refuses refusal.iri_too_long) (sym e) (cond-true (too_long sizes i) _ _ (lt-ltb sizes.iri (byte_len i) h))
+stands_long sizes k o i e h a = subst (λ x. by_use sizes k (stands x) a ≡ refuses refusal.iri_too_long) (sym e)
+    (cond-true (too_long sizes i) _ _ (lt-ltb sizes.iri (byte_len i) h))
 
 -- references
 reference_is : (s : InForce) (l : Leaf) (i : List ℕ) → Resolves s.base (iri_of l) i → reference_in s l ≡ Some i
@@ -132,7 +133,8 @@ binding_is s t p l w e h =
 -- a binding whose reference has no IRI is refused for that reason
 unresolved_stops : (s : InForce) (p : List ℕ) (l : Leaf) (w : List ℕ) (f : IriFault) → w ≡ iri_of l → UnresolvedHere s w f → NotBinding s p l (step_fault f)
 unresolved_stops s p l w iri.NoBase e h =
-    λ a. let none = reference_none s l (subst (λ x. (has_scheme x ≡ false) × (s.base ≡ None)) e h) in ap (λ x. by_use s.limits IriRef (binds (is_full s p) x) a) none
+    λ a. let none = reference_none s l (subst (λ x. (has_scheme x ≡ false) × (s.base ≡ None)) e h) in
+    ap (λ x. by_use s.limits IriRef (binds (is_full s p) x) a) none
 unresolved_stops s p l w iri.IriTooLong e h =
     λ a. ap (λ x. by_use s.limits IriRef (binds (is_full s p) x) a) (reference_is s l h.0 (subst (λ x. Resolves s.base x h.0) e h.1))
     ∙ cond-true (too_long s.limits h.0) _ _ (lt-ltb s.limits.iri (byte_len h.0) h.2)
@@ -177,7 +179,8 @@ escaped_not s k l p v iri.Unbound r h e g i u = name_not s k l p v iri.Unbound r
 escaped_not s k l p v iri.TooManyBindings r h e g i u = name_not s k l p v iri.TooManyBindings r h e g i (u (λ m. cc))
 
 -- the local part of such a name means its text without backslashes
-pub means_without : (w : List ℕ) (l : Leaf) → w ≡ unwrap_or (after 58 l.text) [] → MeansLocal (unwrap_or (after 58 l.text) []) → without_backslashes w ≡ local_of l
+pub means_without : (w : List ℕ) (l : Leaf) → w ≡ unwrap_or (after 58 l.text) [] → MeansLocal (unwrap_or (after 58 l.text) []) →
+    without_backslashes w ≡ local_of l
 means_without w l e m = ap without_backslashes e ∙ ap (λ o. unwrap_or o []) (sym (value_is (unwrap_or (after 58 l.text) []) m).0)
 
 -- a binding that is not made is refused, by the name that the reader has for the reason

@@ -42,12 +42,14 @@ one_more form start ts t s e = by (step form s.setting s.mode t.kind (leaf_of t)
     by (Go u early now c m) h = (
       λ z.
           reached_shaped form start (ts ++ t ∷ []) (stand c m)
-          (reach-snoc false form ts t (in_default start) Start ∙ ap (λ o. and_on false form o t) (lax form ts (in_default start) Start s e) ∙ ap (λ y. on_reply false y (λ c' m'. Some (stand c' m'))) h),
+          (reach-snoc false form ts t (in_default start) Start ∙ ap (λ o. and_on false form o t) (lax form ts (in_default start) Start s e)
+          ∙ ap (λ y. on_reply false y (λ c' m'. Some (stand c' m'))) h),
       λ v. refl,
     )
 
 -- So the reader's answer of a kind is right after whatever tokens it has accepted.
-pub knows_next : (g : TreeAt) (kind : Kind) (answer : Bool) → ((s : InForce) (l : Leaf) → answer ≡ is_go (step g.form (record { scope = s; graph = g.state.setting.graph }) g.state.mode kind l)) →
+pub knows_next : (g : TreeAt) (kind : Kind) (answer : Bool) →
+    ((s : InForce) (l : Leaf) → answer ≡ is_go (step g.form (record { scope = s; graph = g.state.setting.graph }) g.state.mode kind l)) →
     KnowsNext tree_words (λ x. trees x.form x.start) g kind answer
 knows_next g kind answer is x ts qs r t k =
     let m = r.2.machine in

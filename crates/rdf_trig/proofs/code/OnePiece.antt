@@ -36,8 +36,11 @@ module _ {G X : Type 0} (w : Words G X Quad) (law : Lawful w) (leaves : List Qua
   not_fed Ended at new before after y = absurd (let z : true ≡ false = sym y.0 ∙ running in cc)
   not_fed Sink at new before after y = absurd (let z : false ≡ true = y.1 in cc)
   not_fed reason at new before after y =
-      let r = y.refused x [] [] h in
-      (r.0, subst (λ v. RefusedIn lang (reading_of lang v true) reason at r.0) (append-nil bytes) (refused_in_more lang (law.ends x) bytes [] true reason at r.0 r.1))
+      let r = y.refused x [] [] h in (
+        r.0,
+        subst (λ v. RefusedIn lang (reading_of lang v true) reason at r.0) (append-nil bytes)
+            (refused_in_more lang (law.ends x) bytes [] true reason at r.0 r.1),
+      )
 
   module _ (mid : Driven G) (going : mid.done ≡ false) (one two : List Quad) (empty : one ≡ []) (fed : Feeds w Puts old one bytes mid two) where
     -- What fails at the end fails for the whole bytes.
@@ -55,5 +58,9 @@ module _ {G X : Type 0} (w : Words G X Quad) (law : Lawful w) (leaves : List Qua
     pub whole_read : (summary : Summary) (three : List Quad) → Finishes w Puts mid two summary three → IsDocumentOf lang bytes three × IsWhole lang bytes
     whole_read summary three f =
         let s = f.read x bytes fed.more (fed.read x [] [] h) in
-        let quads : three ≡ fed.more ++ f.more = put_all two f.more three f.puts ∙ ap (λ y. y ++ f.more) (put_all one fed.more two fed.puts ∙ ap (λ y. y ++ fed.more) empty) in
-        (subst (IsDocumentOf lang bytes) (sym quads) (subst (λ n. IsDocumentOf (in_words w x n) bytes (fed.more ++ f.more)) fed.limit s.document), subst (λ n. IsWhole (in_words w x n) bytes) fed.limit s.whole)
+        let quads : three ≡ fed.more ++ f.more =
+        put_all two f.more three f.puts ∙ ap (λ y. y ++ f.more) (put_all one fed.more two fed.puts ∙ ap (λ y. y ++ fed.more) empty) in (
+          subst (IsDocumentOf lang bytes) (sym quads) (subst (λ n. IsDocumentOf (in_words w x n) bytes (fed.more ++ f.more)) fed.limit
+              s.document),
+          subst (λ n. IsWhole (in_words w x n) bytes) fed.limit s.whole,
+        )

@@ -58,7 +58,8 @@ subject_none TriG M.Top s = refl
 subject_none TriG M.InBlock s = refl
 
 -- after a `;` the verb is not counted
-semicolon_within : (v : M.Level) (o : Container) (s : M.Topic) (p : Option (List ℕ)) (u : M.Up) → mode_size (after_semicolon_at (place_at v o s p u)) ≤ up_size u + (s.size + iri_size p)
+semicolon_within : (v : M.Level) (o : Container) (s : M.Topic) (p : Option (List ℕ)) (u : M.Up) →
+    mode_size (after_semicolon_at (place_at v o s p u)) ≤ up_size u + (s.size + iri_size p)
 semicolon_within v (container.List around.Statement) s p u = omega arith
 semicolon_within v (container.List around.PropertyList) s p u = omega arith
 semicolon_within v (container.Cells first cell) s p u = omega arith

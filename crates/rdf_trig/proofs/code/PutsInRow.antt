@@ -37,7 +37,8 @@ begins_more takes leaves a b qs rs h = (h.0, h.1 ++ rs, ap (λ x. x ++ rs) h.2 �
 -- some quads after others that were all put are a beginning of both
 begins_after : {S : Type 0} (takes leaves : S → Quad → S → Type 0) (a b c : S) (qs rs : List Quad) → Appends takes a qs b →
     Begins takes leaves rs b c → Begins takes leaves (qs ++ rs) a c
-begins_after takes leaves a b c qs rs h k = (qs ++ k.0, k.1, ap (λ x. qs ++ x) k.2 ∙ sym (append_assoc qs k.0 k.1), attempts_append takes leaves a b c qs k.0 h k.3)
+begins_after takes leaves a b c qs rs h k =
+    (qs ++ k.0, k.1, ap (λ x. qs ++ x) k.2 ∙ sym (append_assoc qs k.0 k.1), attempts_append takes leaves a b c qs k.0 h k.3)
 
 -- giving up within some quads is giving up within a longer list
 pub gave_more : {S : Type 0} (takes leaves : S → Quad → S → Type 0) (failed : S → Bool) (r : StepFault) (a b : S) (qs rs : List Quad) →

@@ -22,7 +22,8 @@ bound_none : {P : Type 0} {i : List ℕ} → None ≡ Some i → P
 bound_none {P} {i} e = absurd (let z : None ≡ Some i = e in cc)
 
 -- a binding has its bytes of all
-bytes_without : (es : Bindings) (q i : List ℕ) → bound_to es q ≡ Some i → sum_by binding_bytes es ≡ byte_len q + byte_len i + sum_by binding_bytes (without es q)
+bytes_without : (es : Bindings) (q i : List ℕ) → bound_to es q ≡ Some i →
+    sum_by binding_bytes es ≡ byte_len q + byte_len i + sum_by binding_bytes (without es q)
 bytes_without [] q i e = bound_none e
 bytes_without (e ∷ es) q i b = ⊎_elim here (λ f. there f (bytes_without es q i (sym (cond-false _ _ _ f) ∙ b))) (cases_Bool (equal q e.0))
   where
@@ -70,7 +71,8 @@ apart others q p o e s n = ⊎_elim (λ t. absurd (same t)) (λ f. f) (cases_Boo
 
 -- the bindings that are in force are found among others, so they have no more bytes
 bytes_within : (es fs others : Bindings) →
-    ((q i : List ℕ) → bound_to others q ≡ None → bound_to es q ≡ Some i → bound_to fs q ≡ Some i) → sum_by binding_bytes (in_force others es) ≤ sum_by binding_bytes fs
+    ((q i : List ℕ) → bound_to others q ≡ None → bound_to es q ≡ Some i → bound_to fs q ≡ Some i) →
+    sum_by binding_bytes (in_force others es) ≤ sum_by binding_bytes fs
 bytes_within [] fs others h = let z : sum_by binding_bytes (in_force others []) ≡ 0 = refl in omega (arith, z)
 bytes_within (e ∷ es) fs others h = at (bound_to others e.0) refl (λ gs ms k. bytes_within es gs ms k)
   where

@@ -87,5 +87,6 @@ unfolding shape
 false_length t e k =
     ⊎_elim
     (λ x. absurd (let z : End ≡ False = sym x.0 ∙ e in cc))
-    (λ h. let m : Shape Turtle False (leaf t).text = subst (λ k. Shape Turtle k (leaf t).text) e h.0 in ap length (spelled_word (codes "false") (leaf t).text m))
+    (λ h. let m : Shape Turtle False (leaf t).text = subst (λ k. Shape Turtle k (leaf t).text) e h.0 in
+    ap length (spelled_word (codes "false") (leaf t).text m))
     k

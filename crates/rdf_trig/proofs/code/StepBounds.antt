@@ -112,7 +112,8 @@ text_fits c w p Carets l = (refl, refl, tt)
 text_fits c w p k l = after_fits c p k l
 
 -- each reply after '[' keeps to this
-brackets_fits : (form : DocForm) (c : Setting) (n : ℕ) (u : M.Up) (k : Kind) (l : Leaf) → Fits (use_at c.scope k l) (depth_up u + 1) k l (M.property_list_start form c n u k l)
+brackets_fits : (form : DocForm) (c : Setting) (n : ℕ) (u : M.Up) (k : Kind) (l : Leaf) →
+    Fits (use_at c.scope k l) (depth_up u + 1) k l (M.property_list_start form c n u k l)
 brackets_fits form c n u CloseBracket l = let d = node_depth form u (M.sized (node (term.Anon n))) (byte_len l.text) in (refl, d.0, d.1)
 brackets_fits form c n u k l = verb_fits c (M.sized (node (term.Anon n))) (M.InPropertyList u) k l
 

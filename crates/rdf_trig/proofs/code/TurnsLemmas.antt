@@ -69,7 +69,8 @@ has_term (kind.Cell n) w = refl
 has_term kind.Nil w = refl
 
 -- the reply of a state after the end of a collection
-pub ended_at : {A : Type 0} (form : DocForm) (s : InForce) (u : Use) (old : State A) (m : Mode) (g : Option term.Subject) (x : M.Mode) (n : ℕ) (y : Option (ℕ × ℕ)) →
+pub ended_at : {A : Type 0} (form : DocForm) (s : InForce) (u : Use) (old : State A) (m : Mode) (g : Option term.Subject) (x : M.Mode)
+    (n : ℕ) (y : Option (ℕ × ℕ)) →
     y ≡ None → graph_at old m ≡ g → mode_at form old m ≡ x →
     Go u None (cells_quad g n M.nil) (setting s g) x ≡ moved form s u (record old { rest = y; held = held.Nil n; mode = m })
 ended_at form s u old m g x n y none e f =
@@ -136,7 +137,8 @@ label_or_verb form s g x k l v e f =
     (subst (λ z. M.step TriG (setting s (graph_of z g)) (M.after_subject TriG (level_of z) x) k l ≡ M.after_label (setting s None) x k l) (sym f) refl)
 
 -- a turn is a reply that goes on
-begun_goes : (c : Setting) (u : Use) (i : Option (List ℕ)) (p : M.Place) (early : Option Quad) (b : ObjectStart) (l : Leaf) → is_go (begun c u i p early b l) ≡ true
+begun_goes : (c : Setting) (u : Use) (i : Option (List ℕ)) (p : M.Place) (early : Option Quad) (b : ObjectStart) (l : Leaf) →
+    is_go (begun c u i p early b l) ≡ true
 begun_goes c u i p early object.Name l = refl
 begun_goes c u i p early b l = refl
 

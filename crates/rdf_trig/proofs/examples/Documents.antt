@@ -180,7 +180,12 @@ inner_collection_quads =
 
 pub inner_collection_is : documents TriG start inner_collection_tokens inner_collection_quads
 unfolding reference_in name_in resolved is_full has
-inner_collection_is = record { tree = inner_collection_tree; tokens = refl; bound = named_bound (document_events start inner_collection_tree) refl; quads = refl }
+inner_collection_is = record {
+  tree = inner_collection_tree;
+  tokens = refl;
+  bound = named_bound (document_events start inner_collection_tree) refl;
+  quads = refl;
+}
 
 -- A collection as subject, in Turtle: `( S ) P [] , () .`.
 abbrev pub list_subject_tokens : List Token
@@ -243,7 +248,12 @@ list_in_collection_quads =
 
 pub list_in_collection_is : documents Turtle start list_in_collection_tokens list_in_collection_quads
 unfolding reference_in name_in resolved is_full has
-list_in_collection_is = record { tree = list_in_collection_tree; tokens = refl; bound = named_bound (document_events start list_in_collection_tree) refl; quads = refl }
+list_in_collection_is = record {
+  tree = list_in_collection_tree;
+  tokens = refl;
+  bound = named_bound (document_events start list_in_collection_tree) refl;
+  quads = refl;
+}
 
 -- One label in and outside of a block: `<http://g/> { _:x P S . } _:x P S .`.
 abbrev pub one_label_tokens : List Token
@@ -429,7 +439,11 @@ owed_not = owed_by 8 0 refl refl
 pub owed_alone : (size : ℕ) → Owed TriG start (take 5 open_tokens) size → size ≡ 30
 unfolding reference_in name_in resolved is_full has encode
 owed_alone size o =
-    let settled = held_is_settled (λ s. 0) TriG start (take 5 open_tokens) (drop 5 open_tokens, event_quads 0 (document_events start open_tree), record { tree = open_tree; tokens = refl; bound = open_bound; quads = refl }) in
+    let settled = held_is_settled (λ s. 0) TriG start (take 5 open_tokens) (
+      drop 5 open_tokens,
+      event_quads 0 (document_events start open_tree),
+      record { tree = open_tree; tokens = refl; bound = open_bound; quads = refl },
+    ) in
     settled.2 size o ∙ sym (settled.2 30 owed_inside)
 
 -- with a base of ten bytes and a prefix of ten, its IRI included, so many more have to be held

@@ -105,7 +105,8 @@ pub named_is_put : (r : TrigRead) (quads : List Quad) → r.scanner.limit ≡ bo
 named_is_put r quads limit h =
     let due = (quads_due r (record { form = Turtle; start = bound }) named quads h).1 in
     let here : Due (documents Turtle bound) name_tokens quads =
-    subst (λ ts. Due (documents Turtle bound) ts quads) tokens_so_far (subst (λ n. Due (documents Turtle bound) (tokens_of turtle n named false).tokens quads) limit due) in
+    subst (λ ts. Due (documents Turtle bound) ts quads) tokens_so_far
+    (subst (λ n. Due (documents Turtle bound) (tokens_of turtle n named false).tokens quads) limit due) in
     same_due Turtle bound name_tokens quads named_quads here (due_ran Turtle bound name_tokens at_rest named_quads names_ran)
 
 -- A directive of the document binds the prefix anew, also where no more may be bound: `PREFIX x: <c:/> x:a x:a x:a.`

@@ -63,7 +63,12 @@ abbrev unbound_token : Token
 unbound_token = token PnameLn (leaf (codes "e:x") 54 1)
 
 abbrev unbound_state : State
-unbound_state = record { setting = in_default start; mode = Want (Listed (sized (Some (term.Iri (codes "http://a/s")))) (spelt (Some (codes "http://a/q"))) (Statement Top)); held = [] }
+unbound_state =
+    record {
+      setting = in_default start;
+      mode = Want (Listed (sized (Some (term.Iri (codes "http://a/s")))) (spelt (Some (codes "http://a/q"))) (Statement Top));
+      held = [];
+    }
 
 unbound_ran : accept_all TriG (at_start start) unbound_tokens ≡ ran unbound_state
     (quad (term.Iri (codes "http://a/s")) (codes "http://a/p") (Resource (term.Iri (codes "http://a/s"))) None ∷ [])
@@ -72,7 +77,8 @@ unbound_ran = refl
 
 pub unbound_refused : IsRefusedAfter TriG start unbound_tokens unbound_token [] unbound
 unfolding reference_in name_in resolved is_full has encode
-unbound_refused = stops TriG start unbound_tokens unbound_token [] unbound_state (quad (term.Iri (codes "http://a/s")) (codes "http://a/p") (Resource (term.Iri (codes "http://a/s"))) None ∷ []) unbound unbound_ran refl
+unbound_refused = stops TriG start unbound_tokens unbound_token [] unbound_state (quad (term.Iri (codes "http://a/s")) (codes "http://a/p")
+    (Resource (term.Iri (codes "http://a/s"))) None ∷ []) unbound unbound_ran refl
 
 -- A reference without a base: `<s>`.
 abbrev baseless_tokens : List Token
@@ -109,7 +115,13 @@ abbrev deep_token : Token
 deep_token = token OpenBracket (leaf (codes "[") 20 1)
 
 abbrev deep_state : State
-deep_state = record { setting = in_default tight; mode = Want (Listed (sized (Some (Blank (Anon 12)))) (spelt (Some (codes "a:q"))) (InPropertyList (At (Listed (sized (Some (term.Iri (codes "a:s")))) (spelt (Some (codes "a:p"))) (Statement Top))))); held = [] }
+deep_state =
+    record {
+      setting = in_default tight;
+      mode = Want (Listed (sized (Some (Blank (Anon 12)))) (spelt (Some (codes "a:q")))
+          (InPropertyList (At (Listed (sized (Some (term.Iri (codes "a:s")))) (spelt (Some (codes "a:p"))) (Statement Top)))));
+      held = [];
+    }
 
 deep_ran : accept_all TriG (at_start tight) deep_tokens ≡ ran deep_state (quad (term.Iri (codes "a:s")) (codes "a:p") (Resource (Blank (Anon 12))) None ∷ [])
 unfolding reference_in name_in resolved is_full has encode
@@ -117,7 +129,8 @@ deep_ran = refl
 
 pub deep_refused : IsRefusedAfter TriG tight deep_tokens deep_token [] too_deep
 unfolding reference_in name_in resolved is_full has encode
-deep_refused = stops TriG tight deep_tokens deep_token [] deep_state (quad (term.Iri (codes "a:s")) (codes "a:p") (Resource (Blank (Anon 12))) None ∷ []) too_deep deep_ran refl
+deep_refused = stops TriG tight deep_tokens deep_token [] deep_state
+    (quad (term.Iri (codes "a:s")) (codes "a:p") (Resource (Blank (Anon 12))) None ∷ []) too_deep deep_ran refl
 
 -- An IRI of 12 bytes, where 10 may be: `<http://a/ss>`.
 abbrev long_tokens : List Token
@@ -167,7 +180,13 @@ abbrev ended_token : Token
 ended_token = token End (leaf (codes "") 38 1)
 
 abbrev ended_state : State
-ended_state = record { setting = in_default start; mode = After (Listed (sized (Some (term.Iri (codes "http://a/s")))) (spelt (Some (codes "http://a/p"))) (Statement Top)); held = (quad (term.Iri (codes "http://a/s")) (codes "http://a/p") (Resource (term.Iri (codes "http://a/s"))) None ∷ []) }
+ended_state =
+    record {
+      setting = in_default start;
+      mode = After (Listed (sized (Some (term.Iri (codes "http://a/s")))) (spelt (Some (codes "http://a/p"))) (Statement Top));
+      held =
+          (quad (term.Iri (codes "http://a/s")) (codes "http://a/p") (Resource (term.Iri (codes "http://a/s"))) None ∷ []);
+    }
 
 ended_ran : accept_all TriG (at_start start) ended_tokens ≡ ran ended_state []
 unfolding reference_in name_in resolved is_full has encode
@@ -211,7 +230,13 @@ name_token = token PnameLn (leaf (codes ":s") 21 2)
 
 name_place : InTree TriG start (take 3 nested_tokens) name_token (stands (Some (codes "http://e/s")))
 unfolding reference_in name_in resolved is_full has
-name_place = record { tree = nested_tree; front = take 3 (document_events start nested_tree); rest = drop 4 (document_events start nested_tree); events = refl; read = refl }
+name_place = record {
+  tree = nested_tree;
+  front = take 3 (document_events start nested_tree);
+  rest = drop 4 (document_events start nested_tree);
+  events = refl;
+  read = refl;
+}
 
 pub name_settled : (u : Use) → InTree TriG start (take 3 nested_tokens) name_token u → u ≡ stands (Some (codes "http://e/s"))
 name_settled u p = settled TriG start (take 3 nested_tokens) name_token u (stands (Some (codes "http://e/s"))) p name_place
@@ -251,4 +276,5 @@ label_accepted = document_accepted TriG start one_label_tokens one_label_quads o
 
 pub booleans_begin : (rest : List Quad) × (unmarked booleans_quads ≡ due_quads ++ rest)
 booleans_begin =
-    due_front TriG start (take 5 booleans_tokens) (drop 5 booleans_tokens) due_quads booleans_quads (drop 5 booleans_tokens, booleans_quads, booleans_is, refl) booleans_is
+    due_front TriG start (take 5 booleans_tokens) (drop 5 booleans_tokens) due_quads booleans_quads
+    (drop 5 booleans_tokens, booleans_quads, booleans_is, refl) booleans_is

@@ -107,7 +107,8 @@ pub triple_is_put : (r : TrigRead) (quads : List Quad) → r.scanner.limit ≡ s
 triple_is_put r quads limit h =
     let due = (quads_due r (record { form = Turtle; start = small }) triple quads h).1 in
     let here : Due (documents Turtle small) triple_tokens quads =
-    subst (λ ts. Due (documents Turtle small) ts quads) tokens_so_far (subst (λ n. Due (documents Turtle small) (tokens_of turtle n triple false).tokens quads) limit due) in
+    subst (λ ts. Due (documents Turtle small) ts quads) tokens_so_far
+    (subst (λ n. Due (documents Turtle small) (tokens_of turtle n triple false).tokens quads) limit due) in
     same_due Turtle small triple_tokens quads triple_quads here (due_ran Turtle small triple_tokens at_rest triple_quads triple_ran)
 
 -- A dot after a subject is refused, so these bytes are no document of any quads.

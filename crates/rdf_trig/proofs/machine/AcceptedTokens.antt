@@ -116,7 +116,8 @@ ran_tokens form (t ∷ ts) s n qs e =
         let emitted = ap (λ y. emits form (State.setting y) (State.mode y) (State.held y) ts) a.state in
         record {
           reached =
-              ap (λ y. on_reply true y (λ c' m'. reach true form c' m' ts)) a.reply ∙ ap (λ b. if_true b (reach true form a.setting a.mode ts)) (fits_iri s.setting.scope.limits a.sense a.fits) ∙ sym at_state ∙ i.reached;
+              ap (λ y. on_reply true y (λ c' m'. reach true form c' m' ts)) a.reply ∙ ap (λ b. if_true b
+              (reach true form a.setting a.mode ts)) (fits_iri s.setting.scope.limits a.sense a.fits) ∙ sym at_state ∙ i.reached;
           given =
               f.2 ∙ ap (λ y. y ++ f.0) a.given ∙ emits_one form w a.early a.now a.setting a.mode a.sense s.held f.0 ts (i.given ∙ emitted)
               ∙ sym (ap (λ y. s.held ++ on_emits w y (λ c' m' h'. emits form c' m' h' ts)) a.reply);

@@ -147,7 +147,8 @@ module _ (s t : InForce) (same : SameNames s t) where
   brackets_same form g n u CloseBracket l = (refl, refl, refl, (same, refl), refl)
   brackets_same form g n u k l = verb_same g (sized (node (Anon n))) (InPropertyList u) k l
 
-  collection_start_same : (g : Option (Option term.Subject)) (u : Up) (k : Kind) (l : Leaf) → SameReply (collection_start (from g) u k l) (collection_start (to g) u k l)
+  collection_start_same : (g : Option (Option term.Subject)) (u : Up) (k : Kind) (l : Leaf) →
+      SameReply (collection_start (from g) u k l) (collection_start (to g) u k l)
   collection_start_same g u CloseParen l = (refl, refl, refl, (same, refl), refl)
   collection_start_same g u k l = object_same g (InCollection l.at.offset l.at.offset u) None k l
 
@@ -222,8 +223,17 @@ module _ (s t : InForce) (same : SameNames s t) where
 
   base_iri_same : (g : Option (Option term.Subject)) (w : Spelling) (k : Kind) (l : Leaf) →
       SameReply (want_base_iri (from g) w k l) (want_base_iri (to g) w k l)
-  base_iri_same g w IriRef l =
-      (ap stands (reference l), refl, refl, (subst (λ i. SameNames (with_base s (reference_in s l)) (with_base t i)) (reference l) (base_after (reference_in s l)), refl), refl)
+  base_iri_same g w IriRef l = (
+    ap stands (reference l),
+    refl,
+    refl,
+    (
+      subst (λ i. SameNames (with_base s (reference_in s l)) (with_base t i)) (reference l)
+          (base_after (reference_in s l)),
+      refl,
+    ),
+    refl,
+  )
   base_iri_same g w k l = tt
 
   dot_same : (g : Option (Option term.Subject)) (k : Kind) (l : Leaf) → SameReply (want_dot (from g) k l) (want_dot (to g) k l)
@@ -289,7 +299,10 @@ reply_same sizes s k w No No h = refl
 reply_same sizes s k w (Go u e n c m) (Go v f o d j) h =
     subst (λ z. SameAnswer (answer sizes s k w (Go u e n c m)) (answer sizes s k w (Go z f o d j))) h.0
     (cond_same (deepens k && nat_le sizes.depth (depth s.mode)) too_deep _ _
-    (use_same sizes k u _ _ (refl, record { scope = h.3.0; graph = h.3.1; mode = h.4; held = ap (λ a. kept a (kept n [])) h.1 ∙ ap (λ a. kept f (kept a [])) h.2 })))
+    (use_same sizes k u _ _ (
+      refl,
+      record { scope = h.3.0; graph = h.3.1; mode = h.4; held = ap (λ a. kept a (kept n [])) h.1 ∙ ap (λ a. kept f (kept a [])) h.2 },
+    )))
 reply_same sizes s k w No (Go v f o d j) h = absurd h
 reply_same sizes s k w (Go u e n c m) No h = absurd h
 
@@ -303,7 +316,8 @@ in_scope t s = record { setting = with_scope t s; mode = s.mode; held = s.held }
 
 -- states are equal where their parts are
 state_by : {a b : InForce} {g h : Option (Option term.Subject)} {m n : Mode} {x y : List Quad} → a ≡ b → g ≡ h → m ≡ n → x ≡ y →
-    (let z : State = record { setting = record { scope = a; graph = g }; mode = m; held = x } in z) ≡ record { setting = record { scope = b; graph = h }; mode = n; held = y }
+    (let z : State = record { setting = record { scope = a; graph = g }; mode = m; held = x } in z)
+    ≡ record { setting = record { scope = b; graph = h }; mode = n; held = y }
 state_by a b c d = cc
 
 -- states that agree differ by their scopes alone
@@ -315,9 +329,12 @@ pub accept_same : (form : DocForm) (s t : State) (k : Kind) (l : Leaf) → SameS
 accept_same form s t k l h =
     let c = with_scope t.setting.scope s in
     subst (λ x. SameAnswer (accept form s k l) (accept form x k l)) (scoped s t h)
-    (subst (λ sizes. SameAnswer (accept form s k l) (answer sizes (in_scope t.setting.scope s) k (waiting c s.mode k l) (step form c s.mode k l))) h.scope.limits
-    (subst (λ w. SameAnswer (accept form s k l) (answer s.setting.scope.limits (in_scope t.setting.scope s) k w (step form c s.mode k l))) (waiting_same s.setting.scope t.setting.scope h.scope s.setting.graph s.mode k l)
-    (reply_same s.setting.scope.limits s k (waiting s.setting s.mode k l) _ _ (step_same s.setting.scope t.setting.scope h.scope form s.setting.graph s.mode k l))))
+    (subst (λ sizes. SameAnswer (accept form s k l)
+    (answer sizes (in_scope t.setting.scope s) k (waiting c s.mode k l) (step form c s.mode k l))) h.scope.limits
+    (subst (λ w. SameAnswer (accept form s k l) (answer s.setting.scope.limits (in_scope t.setting.scope s) k w (step form c s.mode k l)))
+    (waiting_same s.setting.scope t.setting.scope h.scope s.setting.graph s.mode k l)
+    (reply_same s.setting.scope.limits s k (waiting s.setting s.mode k l) _ _
+    (step_same s.setting.scope t.setting.scope h.scope form s.setting.graph s.mode k l))))
 
 -- what one answers where the other is known
 pub accepts_same : (a : Answer) (qs : List Quad) (m : State) → SameAnswer a (accepts qs m) → (n : State) × (a ≡ accepts qs n) × SameState n m

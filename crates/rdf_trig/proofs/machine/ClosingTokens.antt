@@ -176,7 +176,8 @@ module _ (strict : Bool) (form : DocForm) where
       Accepts c m (token k l ∷ ts)
   takes k l u early now {c} {m} {c'} {m'} {ts} p s a = record {
     events = give (waiting c m k l) (Took (token k l) u ∷ give early (give now a.events));
-    runs = ap (λ r. fronted (waiting c m k l) (go_on (token k l) r (λ c1 m1. run form c1 m1 ts))) s ∙ ap (λ o. fronted (waiting c m k l) (put (token k l) u early now o)) a.runs;
+    runs = ap (λ r. fronted (waiting c m k l) (go_on (token k l) r (λ c1 m1. run form c1 m1 ts))) s
+        ∙ ap (λ o. fronted (waiting c m k l) (put (token k l) u early now o)) a.runs;
     bound = passing_give (waiting c m k l) _ (p, passing_give early _ (passing_give now _ a.bound));
   }
 
@@ -205,17 +206,20 @@ module _ (strict : Bool) (form : DocForm) where
 
   verb_closes : (v : Level) (c : Setting) (s : Topic) → Accepts c (WantVerb s (Statement v)) (close_verb v)
   verb_closes v c s =
-      named_by None None refl (object_closes c (Listed s (spelt (reference_in c.scope any_iri)) (Statement v)) (close_level v) (level_closes v c s (spelt (reference_in c.scope any_iri))))
+      named_by None None refl (object_closes c (Listed s (spelt (reference_in c.scope any_iri)) (Statement v)) (close_level v)
+      (level_closes v c s (spelt (reference_in c.scope any_iri))))
 
   label_closes : (c : Setting) (s : Topic) → Accepts c (AfterLabel s) (close_verb Top)
   label_closes c s =
-      named_by None None refl (object_closes c (Listed s (spelt (reference_in c.scope any_iri)) (Statement Top)) (close_level Top) (level_closes Top c s (spelt (reference_in c.scope any_iri))))
+      named_by None None refl (object_closes c (Listed s (spelt (reference_in c.scope any_iri)) (Statement Top)) (close_level Top)
+      (level_closes Top c s (spelt (reference_in c.scope any_iri))))
 
   mutual
     place_closes : (p : Place) (c : Setting) → Accepts c (After p) (close_place p)
     place_closes (Listed s p (Statement v)) c = level_closes v c s p
     place_closes (Listed s p (InPropertyList u)) c = plain CloseBracket (leaf (codes "]")) refl (up_brackets u c s)
-    place_closes (InCollection f n u) c = takes CloseParen (leaf (codes ")")) itself None (rest_quad c (Cell n) nil) (itself_passes strict) refl (up_list u c (unsized (cell f)))
+    place_closes (InCollection f n u) c = takes CloseParen (leaf (codes ")")) itself None (rest_quad c (Cell n) nil)
+        (itself_passes strict) refl (up_list u c (unsized (cell f)))
 
     up_list : (u : Up) (c : Setting) (s : Topic) → Accepts c (collection_closed u s) (close_list u)
     up_list (Subject v) c s = verb_closes v c s
@@ -266,7 +270,8 @@ module _ (strict : Bool) (form : DocForm) where
   closes Over c = record { events = []; runs = refl; bound = tt }
   closes (WantPrefix w) c = plain strict form PnameNs colon refl (prefix_closes strict form w (prefix_of colon) c)
   closes (WantPrefixIri w p) c = prefix_closes strict form w p c
-  closes (WantBaseIri w) c = named_by strict form None None refl (directive_closes strict form w (in_default (with_base c.scope (reference_in c.scope any_iri))))
+  closes (WantBaseIri w) c =
+      named_by strict form None None refl (directive_closes strict form w (in_default (with_base c.scope (reference_in c.scope any_iri))))
   closes WantDot c = plain strict form Dot (leaf (codes ".")) refl (at_end strict form c)
   closes (AfterLabel g) c = label_closes strict form c g
   closes GraphWord c = named_by strict form None None refl (brace_closes strict form c (named (reference_in c.scope any_iri)))
@@ -281,6 +286,7 @@ module _ (strict : Bool) (form : DocForm) where
   closes (CollectionStart u) c = plain strict form CloseParen (leaf (codes ")")) refl (up_list strict form u c (unsized (Some nil)))
   closes (WantVerb s a) c =
       named_by strict form None None refl
-      (object_closes strict form c (Listed s (spelt (reference_in c.scope any_iri)) a) (close_around a) (place_closes strict form (Listed s (spelt (reference_in c.scope any_iri)) a) c))
+      (object_closes strict form c (Listed s (spelt (reference_in c.scope any_iri)) a) (close_around a)
+      (place_closes strict form (Listed s (spelt (reference_in c.scope any_iri)) a) c))
   closes (AfterSemicolon s a) c = around_closes strict form a c s
   closes (AfterPropertyList s v) c = brackets_closes strict form v c s

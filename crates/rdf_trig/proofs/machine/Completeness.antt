@@ -73,7 +73,8 @@ module _ (form : DocForm) where
   text_good {c} {p} {rest} w g = record { runs = rw (tokens_give (quad_at c p (plain_literal w)) rest) (text_run c w p (tokens rest) rest g.runs) }
 
   -- The state takes a name, whose first token is this, and stands after it where it says.
-  pub record TakesIri (c : Setting) (m : Mode) (s : InForce) (before early : Option Quad) (now : Option (List ℕ) → Option Quad) (c' : Setting) (next : Option (List ℕ) → Mode) (l : Leaf) : Type 0 where
+  pub record TakesIri (c : Setting) (m : Mode) (s : InForce) (before early : Option Quad) (now : Option (List ℕ) → Option Quad)
+      (c' : Setting) (next : Option (List ℕ) → Mode) (l : Leaf) : Type 0 where
     pub waits : (waiting c m IriRef l ≡ before) × (waiting c m PnameLn l ≡ before) × (waiting c m PnameNs l ≡ before)
     pub ref : step form c m IriRef l ≡ Go (stands (reference_in s l)) early (now (reference_in s l)) c' (next (reference_in s l))
     pub ln : step form c m PnameLn l ≡ Go (stands (name_in s l)) early (now (name_in s l)) c' (next (name_in s l))
@@ -119,7 +120,8 @@ module _ (form : DocForm) where
     list = (refl, refl);
   }
 
-  pub collection_start_takes : (c : Setting) (u : Up) (l : Leaf) → TakesObject c (CollectionStart u) (InCollection l.at.offset l.at.offset u) (quad_up c u (Blank (cell_at l))) None l
+  pub collection_start_takes : (c : Setting) (u : Up) (l : Leaf) → TakesObject c (CollectionStart u)
+      (InCollection l.at.offset l.at.offset u) (quad_up c u (Blank (cell_at l))) None l
   collection_start_takes c u l = record {
     iri = record { waits = (refl, refl, refl); ref = refl; ln = refl; ns = refl };
     label = (refl, refl);
@@ -187,7 +189,8 @@ module _ (form : DocForm) where
   literal_good (rdf (tagged w t)) c m p before early rest h g = string_good w c m p before early _ h (tag_good t c (lexical w) p rest g)
   literal_good (rdf (typed w l i)) c m p before early rest h g =
       string_good w c m p before early _ h
-      (alone Carets l refl refl (iri_good i c (WantType (lexical w) p) c.scope None None (λ j. quad_at c p (typed_literal (lexical w) j)) c (λ j. After p) rest (type_takes c (lexical w) p (iri_leaf i)) g))
+      (alone Carets l refl refl (iri_good i c (WantType (lexical w) p) c.scope None None (λ j. quad_at c p (typed_literal (lexical w) j)) c
+      (λ j. After p) rest (type_takes c (lexical w) p (iri_leaf i)) g))
   literal_good (numeric (integer l)) c m p before early rest h g = one Integer l before itself early _ h.integer.0 h.integer.1 g
   literal_good (numeric (decimal l)) c m p before early rest h g = one Decimal l before itself early _ h.decimal.0 h.decimal.1 g
   literal_good (numeric (double l)) c m p before early rest h g = one Double l before itself early _ h.double.0 h.double.1 g
@@ -207,9 +210,11 @@ module _ (form : DocForm) where
     object_good : (o : Object) (c : Setting) (m : Mode) (p : Place) (before early : Option Quad) (rest : List Event) →
         TakesObject c m p before early (object_leaf o) → Good c (After p) rest →
         Good c m (give before (object_events c o (subject_at p) (verb_at p) early rest))
-    object_good (iri_object i) c m p before early rest h g = iri_good i c m c.scope before early (λ j. quad_at c p (resource (named j))) c (λ j. After p) rest h.iri g
+    object_good (iri_object i) c m p before early rest h g =
+        iri_good i c m c.scope before early (λ j. quad_at c p (resource (named j))) c (λ j. After p) rest h.iri g
     object_good (blank_object (label l)) c m p before early rest h g = one LabelNode l before itself early _ h.label.0 h.label.1 g
-    object_good (blank_object (anon l r)) c m p before early rest h g = one OpenBracket l before itself early _ h.property_list_start.0 h.property_list_start.1 (alone CloseBracket r refl refl g)
+    object_good (blank_object (anon l r)) c m p before early rest h g =
+        one OpenBracket l before itself early _ h.property_list_start.0 h.property_list_start.1 (alone CloseBracket r refl refl g)
     object_good (collection_object os) c m p before early rest h g = collection_object_good os c m p before early rest h g
     object_good (list_object ps) c m p before early rest h g = list_object_good ps c m p before early rest h g
     object_good (literal_object x) c m p before early rest h g = literal_good x c m p before early rest h g
@@ -217,28 +222,32 @@ module _ (form : DocForm) where
     collection_object_good : (os : Collection) (c : Setting) (m : Mode) (p : Place) (before early : Option Quad) (rest : List Event) →
         TakesObject c m p before early (object_leaf (collection_object os)) →
         Good c (After p) rest → Good c m (give before (collection_events c os early (object_quad c (subject_at p) (verb_at p) (collection_object os)) rest))
-    collection_object_good (collection l os r) c m p before early rest h g = one OpenParen l before itself early None h.list.0 h.list.1 (items_good os c (At p) r rest g)
+    collection_object_good (collection l os r) c m p before early rest h g =
+        one OpenParen l before itself early None h.list.0 h.list.1 (items_good os c (At p) r rest g)
 
     list_object_good : (ps : BlankNodePropertyList) (c : Setting) (m : Mode) (p : Place) (before early : Option Quad) (rest : List Event) →
         TakesObject c m p before early (object_leaf (list_object ps)) →
         Good c (After p) rest → Good c m (give before (list_events c ps early (object_quad c (subject_at p) (verb_at p) (list_object ps)) rest))
     list_object_good (property_list l ps r) c m p before early rest h g =
         one OpenBracket l before itself early _ h.property_list_start.0 h.property_list_start.1
-        (predicates_good ps c (PropertyListStart l.at.offset (At p)) (sized (node (anon_at l))) (InPropertyList (At p)) CloseBracket r c (After p) rest (brackets_verb c l.at.offset (At p)) record { after = λ v. refl; after_semicolon = refl } g)
+        (predicates_good ps c (PropertyListStart l.at.offset (At p)) (sized (node (anon_at l))) (InPropertyList (At p)) CloseBracket r c
+        (After p) rest (brackets_verb c l.at.offset (At p)) record { after = λ v. refl; after_semicolon = refl } g)
 
     items_good : (os : Items) (c : Setting) (u : Up) (r : Leaf) (rest : List Event) → Good c (collection_closed u (unsized (Some (items_of os)))) rest →
         Good c (CollectionStart u) (give (quad_up c u (items_of os)) (items_events c os r rest))
     items_good no_items c u r rest g = one CloseParen r (quad_up c u nil) itself None None refl refl g
     items_good (item o os) c u r rest g =
         let l = object_leaf o in
-        object_good o c (CollectionStart u) (InCollection l.at.offset l.at.offset u) (quad_up c u (Blank (cell_at l))) None _ (collection_start_takes c u l) (rest_good os c l.at.offset l.at.offset u r rest g)
+        object_good o c (CollectionStart u) (InCollection l.at.offset l.at.offset u) (quad_up c u (Blank (cell_at l))) None _
+        (collection_start_takes c u l) (rest_good os c l.at.offset l.at.offset u r rest g)
 
     rest_good : (os : Items) (c : Setting) (f n : ℕ) (u : Up) (r : Leaf) (rest : List Event) → Good c (collection_closed u (unsized (cell f))) rest →
         Good c (After (InCollection f n u)) (rest_events c os (Cell n) r rest)
     rest_good no_items c f n u r rest g = one CloseParen r None itself None (rest_quad c (Cell n) nil) refl refl g
     rest_good (item o os) c f n u r rest g =
         let l = object_leaf o in
-        object_good o c (After (InCollection f n u)) (InCollection f l.at.offset u) None (rest_quad c (Cell n) (Blank (cell_at l))) _ (item_takes c f n u l) (rest_good os c f l.at.offset u r rest g)
+        object_good o c (After (InCollection f n u)) (InCollection f l.at.offset u) None (rest_quad c (Cell n) (Blank (cell_at l))) _
+        (item_takes c f n u l) (rest_good os c f l.at.offset u r rest g)
 
     predicates_good : (ps : PredicateObjectList) (c : Setting) (m : Mode) (s : Topic) (a : Around) (k : Kind) (l : Leaf) (c' : Setting)
         (m' : Mode) (rest : List Event) →
@@ -249,14 +258,16 @@ module _ (form : DocForm) where
     objects_good : (os : ObjectList) (c : Setting) (s : Topic) (v : Spelt) (a : Around) (rest : List Event) →
         Good c (After (Listed s v a)) rest →
         Good c (Want (Listed s v a)) (objects_events c os s.term v.iri rest)
-    objects_good (objects o os) c s v a rest g = object_good o c (Want (Listed s v a)) (Listed s v a) None None _ (want_takes c (Listed s v a) (object_leaf o)) (commas_good os c s v a rest g)
+    objects_good (objects o os) c s v a rest g = object_good o c (Want (Listed s v a)) (Listed s v a) None None _
+        (want_takes c (Listed s v a) (object_leaf o)) (commas_good os c s v a rest g)
 
     commas_good : (os : Commas) (c : Setting) (s : Topic) (v : Spelt) (a : Around) (rest : List Event) →
         Good c (After (Listed s v a)) rest →
         Good c (After (Listed s v a)) (commas_events c os s.term v.iri rest)
     commas_good no_commas c s v a rest g = g
     commas_good (comma l o os) c s v a rest g =
-        alone Comma l refl refl (object_good o c (Want (Listed s v a)) (Listed s v a) None None _ (want_takes c (Listed s v a) (object_leaf o)) (commas_good os c s v a rest g))
+        alone Comma l refl refl (object_good o c (Want (Listed s v a)) (Listed s v a) None None _
+        (want_takes c (Listed s v a) (object_leaf o)) (commas_good os c s v a rest g))
 
     more_good : (ms : More) (c : Setting) (s : Topic) (v : Spelt) (a : Around) (k : Kind) (l : Leaf) (c' : Setting)
         (m' : Mode) (rest : List Event) →
@@ -265,7 +276,8 @@ module _ (form : DocForm) where
     more_good no_more c s v a k l c' m' rest e g = alone k l refl (e.after v) g
     more_good (semicolon d ms) c s v a k l c' m' rest e g = alone Semicolon d refl refl (semicolon_good ms c s a k l c' m' rest e g)
     more_good (semicolon_objects d w os ms) c s v a k l c' m' rest e g =
-        alone Semicolon d refl refl (verb_good w c (AfterSemicolon s a) s a _ (semicolon_verb c s a) (objects_good os c s (verb_in c.scope w) a _ (more_good ms c s (verb_in c.scope w) a k l c' m' rest e g)))
+        alone Semicolon d refl refl (verb_good w c (AfterSemicolon s a) s a _ (semicolon_verb c s a)
+        (objects_good os c s (verb_in c.scope w) a _ (more_good ms c s (verb_in c.scope w) a k l c' m' rest e g)))
 
     semicolon_good : (ms : More) (c : Setting) (s : Topic) (a : Around) (k : Kind) (l : Leaf) (c' : Setting) (m' : Mode) (rest : List Event) →
         Ends c s a k l c' m' → Good c' m' rest →
@@ -273,7 +285,8 @@ module _ (form : DocForm) where
     semicolon_good no_more c s a k l c' m' rest e g = alone k l refl e.after_semicolon g
     semicolon_good (semicolon d ms) c s a k l c' m' rest e g = alone Semicolon d refl refl (semicolon_good ms c s a k l c' m' rest e g)
     semicolon_good (semicolon_objects d w os ms) c s a k l c' m' rest e g =
-        alone Semicolon d refl refl (verb_good w c (AfterSemicolon s a) s a _ (semicolon_verb c s a) (objects_good os c s (verb_in c.scope w) a _ (more_good ms c s (verb_in c.scope w) a k l c' m' rest e g)))
+        alone Semicolon d refl refl (verb_good w c (AfterSemicolon s a) s a _ (semicolon_verb c s a)
+        (objects_good os c s (verb_in c.scope w) a _ (more_good ms c s (verb_in c.scope w) a k l c' m' rest e g)))
 
   -- a state that takes the subject of triples
   pub record TakesSubject (c0 : Setting) (m : Mode) (c : Setting) (v : Level) : Type 0 where
@@ -297,13 +310,16 @@ module _ (form : DocForm) where
       EndsTriples c v k l c' m' → Good c' m' rest →
       Good c (AfterPropertyList s v) (maybe_events c s.term ps (take k l rest))
   maybe_good None c s v k l c' m' rest e g = alone k l refl (e.property_list_start s) g
-  maybe_good (Some ps) c s v k l c' m' rest e g = predicates_good ps c (AfterPropertyList s v) s (Statement v) k l c' m' rest (brackets_then_verb c s v) (e.list s) g
+  maybe_good (Some ps) c s v k l c' m' rest e g =
+      predicates_good ps c (AfterPropertyList s v) s (Statement v) k l c' m' rest (brackets_then_verb c s v) (e.list s) g
 
   list_good : (p : BlankNodePropertyList) (c0 : Setting) (m : Mode) (c : Setting) (v : Level) (rest : List Event) → TakesSubject c0 m c v →
       Good c (AfterPropertyList (sized (Some (list_of p))) v) rest → Good c0 m (list_events c p None None rest)
   list_good (property_list l ps r) c0 m c v rest h g =
       alone OpenBracket l (h.property_list_start l).0 (h.property_list_start l).1
-      (predicates_good ps c (PropertyListStart l.at.offset (Subject v)) (sized (node (anon_at l))) (InPropertyList (Subject v)) CloseBracket r c (AfterPropertyList (sized (node (anon_at l))) v) rest (brackets_verb c l.at.offset (Subject v)) record { after = λ x. refl; after_semicolon = refl } g)
+      (predicates_good ps c (PropertyListStart l.at.offset (Subject v)) (sized (node (anon_at l))) (InPropertyList (Subject v)) CloseBracket
+      r c (AfterPropertyList (sized (node (anon_at l))) v) rest
+      (brackets_verb c l.at.offset (Subject v)) record { after = λ x. refl; after_semicolon = refl } g)
 
   collection_good : (x : Collection) (c0 : Setting) (m : Mode) (c : Setting) (v : Level) (rest : List Event) → TakesSubject c0 m c v →
       Good c (WantVerb (unsized (Some (collection_of x))) (Statement v)) rest →
@@ -335,8 +351,10 @@ module _ (form : DocForm) where
       blank_good form b c0 m c v _ h (predicates_good form ps c (after_subject form v s) s (Statement v) k l c' m' rest (subject_verb form v c s) (e.list s) g)
   triples_good (subject_triples (collection_subject x) ps) c0 m c v k l c' m' rest h e g =
       let s = unsized (Some (collection_of x)) in
-      collection_good form x c0 m c v _ h (predicates_good form ps c (WantVerb s (Statement v)) s (Statement v) k l c' m' rest (want_verb form c s (Statement v)) (e.list s) g)
-  triples_good (list_triples p ps) c0 m c v k l c' m' rest h e g = list_good form p c0 m c v _ h (maybe_good form ps c (sized (Some (list_of p))) v k l c' m' rest e g)
+      collection_good form x c0 m c v _ h (predicates_good form ps c (WantVerb s (Statement v)) s (Statement v) k l c' m' rest
+      (want_verb form c s (Statement v)) (e.list s) g)
+  triples_good (list_triples p ps) c0 m c v k l c' m' rest h e g =
+      list_good form p c0 m c v _ h (maybe_good form ps c (sized (Some (list_of p))) v k l c' m' rest e g)
 
   pub start_takes : (c : Setting) → TakesSubject form c Start (in_default c.scope) Top
   start_takes c = record {
@@ -366,7 +384,8 @@ module _ (form : DocForm) where
   block_good : (b : TriplesBlock) (c : Setting) (r : Leaf) (rest : List Event) → Good form (in_default c.scope) Start rest →
       Good form c Inside (block_events c b (take CloseBrace r rest))
   block_good (last t) c r rest g = triples_good t c Inside c InBlock CloseBrace r (in_default c.scope) Start rest (inside_takes c) (brace_ends c r) g
-  block_good (last_dot t d) c r rest g = triples_good t c Inside c InBlock Dot d c Inside _ (inside_takes c) (dot_ends c d) (alone form CloseBrace r refl refl g)
+  block_good (last_dot t d) c r rest g =
+      triples_good t c Inside c InBlock Dot d c Inside _ (inside_takes c) (dot_ends c d) (alone form CloseBrace r refl refl g)
   block_good (dot t d b) c r rest g = triples_good t c Inside c InBlock Dot d c Inside _ (inside_takes c) (dot_ends c d) (block_good b c r rest g)
 
   maybe_block_good : (b : Option TriplesBlock) (c : Setting) (r : Leaf) (rest : List Event) → Good form (in_default c.scope) Start rest →
@@ -382,45 +401,56 @@ module _ (form : DocForm) where
 -- a label that begins a block
 label_good : (x : LabelOrSubject) (c : Setting) (rest : List Event) → Good TriG (in_default c.scope) (AfterLabel (sized (label_of c.scope x))) rest →
     Good TriG c Start (label_events c.scope x rest)
-label_good (iri_label i) c rest g = iri_good TriG i c Start c.scope None None (λ j. None) (in_default c.scope) (λ j. AfterLabel (sized (named j))) rest ((start_takes TriG c).iri (iri_leaf i)) g
+label_good (iri_label i) c rest g = iri_good TriG i c Start c.scope None None (λ j. None) (in_default c.scope)
+    (λ j. AfterLabel (sized (named j))) rest ((start_takes TriG c).iri (iri_leaf i)) g
 label_good (blank_label b) c rest g = blank_good TriG b c Start (in_default c.scope) Top rest (start_takes TriG c) g
 
 -- a label after GRAPH
 graph_good : (x : LabelOrSubject) (c : Setting) (rest : List Event) → Good TriG c (WantBrace (label_of c.scope x)) rest →
     Good TriG c GraphWord (label_events c.scope x rest)
-graph_good (iri_label i) c rest g = iri_good TriG i c GraphWord c.scope None None (λ j. None) c (λ j. WantBrace (named j)) rest record { waits = (refl, refl, refl); ref = refl; ln = refl; ns = refl } g
+graph_good (iri_label i) c rest g = iri_good TriG i c GraphWord c.scope None None (λ j. None) c
+    (λ j. WantBrace (named j)) rest record { waits = (refl, refl, refl); ref = refl; ln = refl; ns = refl } g
 graph_good (blank_label (label l)) c rest g = alone TriG LabelNode l refl refl g
 graph_good (blank_label (anon l r)) c rest g = alone TriG OpenBracket l refl refl (alone TriG CloseBracket r refl refl g)
 
 -- the machine reads a statement or a block as its events say
 body_good : (form : DocForm) (b : Body form) (c : Setting) (rest : List Event) → Good form (in_default c.scope) Start rest →
     Good form c Start (body_events form c.scope b rest)
-body_good Turtle b c rest g = triples_good Turtle b.triples c Start (in_default c.scope) Top Dot b.dot (in_default c.scope) Start rest (start_takes Turtle c) (top_ends Turtle (in_default c.scope) b.dot) g
+body_good Turtle b c rest g = triples_good Turtle b.triples c Start (in_default c.scope) Top Dot b.dot (in_default c.scope) Start rest
+    (start_takes Turtle c) (top_ends Turtle (in_default c.scope) b.dot) g
 body_good TriG (triples_or_graph (named_graph x w)) c rest g =
-    label_good x c _ (wrapped_good TriG w (in_default c.scope) (AfterLabel (sized (label_of c.scope x))) (in_graph c.scope (label_of c.scope x)) rest (λ l. (refl, refl)) g)
+    label_good x c _ (wrapped_good TriG w (in_default c.scope) (AfterLabel (sized (label_of c.scope x)))
+    (in_graph c.scope (label_of c.scope x)) rest (λ l. (refl, refl)) g)
 body_good TriG (triples_or_graph (label_triples x ps d)) c rest g =
     label_good x c _
-    (predicates_good TriG ps (in_default c.scope) (AfterLabel (sized (label_of c.scope x))) (sized (label_of c.scope x)) (Statement Top) Dot d (in_default c.scope) Start rest (label_verb TriG (in_default c.scope) (sized (label_of c.scope x)))
+    (predicates_good TriG ps (in_default c.scope) (AfterLabel (sized (label_of c.scope x))) (sized (label_of c.scope x))
+    (Statement Top) Dot d (in_default c.scope) Start rest (label_verb TriG (in_default c.scope) (sized (label_of c.scope x)))
     ((top_ends TriG (in_default c.scope) d).list (sized (label_of c.scope x))) g)
 body_good TriG (default_graph w) c rest g = wrapped_good TriG w c Start (in_default c.scope) rest (λ l. (refl, refl)) g
 body_good TriG (triples2 (list_triples2 p ps d)) c rest g =
-    list_good TriG p c Start (in_default c.scope) Top _ (start_takes TriG c) (maybe_good TriG ps (in_default c.scope) (sized (Some (list_of p))) Top Dot d (in_default c.scope) Start rest (top_ends TriG (in_default c.scope) d) g)
+    list_good TriG p c Start (in_default c.scope) Top _ (start_takes TriG c) (maybe_good TriG ps (in_default c.scope)
+    (sized (Some (list_of p))) Top Dot d (in_default c.scope) Start rest (top_ends TriG (in_default c.scope) d) g)
 body_good TriG (triples2 (collection_triples2 x ps d)) c rest g =
     let s = unsized (Some (collection_of x)) in
     collection_good TriG x c Start (in_default c.scope) Top _ (start_takes TriG c)
-    (predicates_good TriG ps (in_default c.scope) (WantVerb s (Statement Top)) s (Statement Top) Dot d (in_default c.scope) Start rest (want_verb TriG (in_default c.scope) s (Statement Top)) ((top_ends TriG (in_default c.scope) d).list s) g)
+    (predicates_good TriG ps (in_default c.scope) (WantVerb s (Statement Top)) s (Statement Top) Dot d (in_default c.scope) Start rest
+    (want_verb TriG (in_default c.scope) s (Statement Top)) ((top_ends TriG (in_default c.scope) d).list s) g)
 body_good TriG (tree.graph_word l x w) c rest g =
-    alone TriG Graph l refl refl (graph_good x c _ (wrapped_good TriG w c (WantBrace (label_of c.scope x)) (in_graph c.scope (label_of c.scope x)) rest (λ r. (refl, refl)) g))
+    alone TriG Graph l refl refl (graph_good x c _
+    (wrapped_good TriG w c (WantBrace (label_of c.scope x)) (in_graph c.scope (label_of c.scope x)) rest (λ r. (refl, refl)) g))
 
 -- the machine reads a document as its events say, which the law of accepted documents rests on
 pub document_good : {form : DocForm} (d : Document form) (c : Setting) → Good form c Start (document_events c.scope d)
 document_good {form} (end l) c = alone form End l refl refl record { runs = refl }
 document_good {form} (with_directive (prefix_id w p i d) rest) c =
-    alone form AtPrefix w refl refl (alone form PnameNs p refl refl (one form IriRef i None _ None None refl refl (alone form Dot d refl refl (document_good rest (in_default (scope_after c.scope (prefix_id w p i d)))))))
+    alone form AtPrefix w refl refl (alone form PnameNs p refl refl (one form IriRef i None _ None None refl refl
+    (alone form Dot d refl refl (document_good rest (in_default (scope_after c.scope (prefix_id w p i d)))))))
 document_good {form} (with_directive (base w i d) rest) c =
-    alone form AtBase w refl refl (one form IriRef i None _ None None refl refl (alone form Dot d refl refl (document_good rest (in_default (scope_after c.scope (base w i d))))))
+    alone form AtBase w refl refl (one form IriRef i None _ None None refl refl
+    (alone form Dot d refl refl (document_good rest (in_default (scope_after c.scope (base w i d))))))
 document_good {form} (with_directive (sparql_prefix w p i) rest) c =
-    alone form Prefix w refl refl (alone form PnameNs p refl refl (one form IriRef i None _ None None refl refl (document_good rest (in_default (scope_after c.scope (sparql_prefix w p i))))))
+    alone form Prefix w refl refl (alone form PnameNs p refl refl
+    (one form IriRef i None _ None None refl refl (document_good rest (in_default (scope_after c.scope (sparql_prefix w p i))))))
 document_good {form} (with_directive (sparql_base w i) rest) c =
     alone form Base w refl refl (one form IriRef i None _ None None refl refl (document_good rest (in_default (scope_after c.scope (sparql_base w i)))))
 document_good {form} (with_body b rest) c = body_good form b c (document_events c.scope rest) (document_good rest (in_default c.scope))

@@ -138,7 +138,8 @@ after_facts : (c : Setting) (p : Place) (k : Kind) (l : Leaf) → Facts (depth_a
 after_facts c (Listed s p a) Comma l = (refl, refl, refl, tt)
 after_facts c (Listed s p a) Semicolon l = (refl, refl, refl, tt)
 after_facts c (Listed s p a) k l = end_facts c s a k l
-after_facts c (InCollection f n u) CloseParen l = (omega (arith, list_depth u (unsized (cell f))), refl, refl, list_quiet u (unsized (cell f)) None (rest_quad c (Cell n) nil))
+after_facts c (InCollection f n u) CloseParen l =
+    (omega (arith, list_depth u (unsized (cell f))), refl, refl, list_quiet u (unsized (cell f)) None (rest_quad c (Cell n) nil))
 after_facts c (InCollection f n u) k l = object_facts c (InCollection f l.at.offset u) (rest_quad c (Cell n) (Blank (cell_at l))) k l
 
 -- each reply after a string keeps to this
@@ -176,10 +177,26 @@ after_brackets_facts c s v k l = end_facts c s (Statement v) k l
 
 -- each reply at the first token of a subject keeps to this
 subject_facts : (form : DocForm) (c : Setting) (v : Level) (k : Kind) (l : Leaf) → Facts 0 c.scope k l (subject_start form c v k l)
-subject_facts form c v IriRef l = (omega (arith, subject_depth form v (sized (named (reference_in c.scope l)))), inl refl, refl, subject_quiet form v (sized (named (reference_in c.scope l))))
-subject_facts form c v PnameLn l = (omega (arith, subject_depth form v (sized (named (name_in c.scope l)))), refl, refl, subject_quiet form v (sized (named (name_in c.scope l))))
-subject_facts form c v PnameNs l = (omega (arith, subject_depth form v (sized (named (name_in c.scope l)))), inl refl, refl, subject_quiet form v (sized (named (name_in c.scope l))))
-subject_facts form c v LabelNode l = (omega (arith, subject_depth form v (sized (node (labelled l)))), refl, refl, subject_quiet form v (sized (node (labelled l))))
+subject_facts form c v IriRef l = (
+  omega (arith, subject_depth form v (sized (named (reference_in c.scope l)))),
+  inl refl,
+  refl,
+  subject_quiet form v (sized (named (reference_in c.scope l))),
+)
+subject_facts form c v PnameLn l = (
+  omega (arith, subject_depth form v (sized (named (name_in c.scope l)))),
+  refl,
+  refl,
+  subject_quiet form v (sized (named (name_in c.scope l))),
+)
+subject_facts form c v PnameNs l = (
+  omega (arith, subject_depth form v (sized (named (name_in c.scope l)))),
+  inl refl,
+  refl,
+  subject_quiet form v (sized (named (name_in c.scope l))),
+)
+subject_facts form c v LabelNode l =
+    (omega (arith, subject_depth form v (sized (node (labelled l)))), refl, refl, subject_quiet form v (sized (node (labelled l))))
 subject_facts form c v OpenBracket l = (refl, refl, refl, tt)
 subject_facts form c v OpenParen l = (refl, refl, refl, refl)
 subject_facts form c v k l = tt
@@ -273,7 +290,8 @@ step_facts form c (AfterPropertyList s v) k l = after_brackets_facts c s v k l
 pub reached_depth : (strict : Bool) (form : DocForm) (ts : List Token) (c : Setting) (m : Mode) (s : Stand) → reach strict form c m ts ≡ Some s →
     opened ts + depth m ≡ closed ts + depth s.mode
 reached_depth strict form [] c m s e = let z : stand c m ≡ s = cc in ap (λ x. 0 + depth (Stand.mode x)) z
-reached_depth strict form (t ∷ ts) c m s e = by (step form c m t.kind (leaf_of t)) (step_facts form c m t.kind (leaf_of t)) (λ c' m' h. reached_depth strict form ts c' m' s h) e
+reached_depth strict form (t ∷ ts) c m s e =
+    by (step form c m t.kind (leaf_of t)) (step_facts form c m t.kind (leaf_of t)) (λ c' m' h. reached_depth strict form ts c' m' s h) e
   where
     when : (b : Bool) (o : Option Stand) → if_true b o ≡ Some s → o ≡ Some s
     when true o e = e
@@ -283,13 +301,15 @@ reached_depth strict form (t ∷ ts) c m s e = by (step form c m t.kind (leaf_of
         ((c' : Setting) (m' : Mode) → reach strict form c' m' ts ≡ Some s → opened ts + depth m' ≡ closed ts + depth s.mode) →
         on_reply strict r (λ c' m'. reach strict form c' m' ts) ≡ Some s → opens t.kind + opened ts + depth m ≡ closes t.kind + closed ts + depth s.mode
     by No f ih e = absurd (let z : None ≡ Some s = e in cc)
-    by (Go u early now c' m') f ih e = let h : opened ts + depth m' ≡ closed ts + depth s.mode = ih c' m' (when (admits strict u) (reach strict form c' m' ts) e) in omega (arith, h, f.0)
+    by (Go u early now c' m') f ih e = let h : opened ts + depth m' ≡ closed ts + depth s.mode =
+        ih c' m' (when (admits strict u) (reach strict form c' m' ts) e) in omega (arith, h, f.0)
 
 -- no token changes the limits
 pub reached_limits : (strict : Bool) (form : DocForm) (ts : List Token) (c : Setting) (m : Mode) (s : Stand) → reach strict form c m ts ≡ Some s →
     s.setting.scope.limits ≡ c.scope.limits
 reached_limits strict form [] c m s e = let z : stand c m ≡ s = cc in ap (λ x. (Stand.setting x).scope.limits) (sym z)
-reached_limits strict form (t ∷ ts) c m s e = by (step form c m t.kind (leaf_of t)) (step_facts form c m t.kind (leaf_of t)) (λ c' m' h. reached_limits strict form ts c' m' s h) e
+reached_limits strict form (t ∷ ts) c m s e =
+    by (step form c m t.kind (leaf_of t)) (step_facts form c m t.kind (leaf_of t)) (λ c' m' h. reached_limits strict form ts c' m' s h) e
   where
     when : (b : Bool) (o : Option Stand) → if_true b o ≡ Some s → o ≡ Some s
     when true o e = e

@@ -74,7 +74,8 @@ module _ (form : DocForm) where
   on_due t u ts us w No ih es e = absurd (let z : None ≡ Some es = e in cc)
   on_due t u ts us w (Go v early now c m) ih es e =
       let x = unput w t v early now _ es e in
-      ap (kept w) (ih c m (kept early (kept now [])) x.0 x.1 ∙ kept_all early now _ ∙ sym (due_give early (length ts) (give now x.0) ∙ ap (kept early) (due_give now (length ts) x.0)))
+      ap (kept w) (ih c m (kept early (kept now [])) x.0 x.1 ∙ kept_all early now _
+      ∙ sym (due_give early (length ts) (give now x.0) ∙ ap (kept early) (due_give now (length ts) x.0)))
       ∙ sym (ap (due (suc (suc (length ts)))) x.2 ∙ due_give w (suc (length ts)) _)
 
   on_due_last : (t : Token) (us : List Token) (w : Option Quad) (r : Reply) (es : List Event) → fronted w (go_on t r (λ c m. run form c m us)) ≡ Some es →
@@ -86,7 +87,8 @@ module _ (form : DocForm) where
       emits form c m held (t ∷ ts) ≡ held ++ due (suc (length ts)) es
   emits_due t [] us c m held es e = ap (λ qs. held ++ qs) (on_due_last t us (waiting c m t.kind (leaf_of t)) (step form c m t.kind (leaf_of t)) es e)
   emits_due t (u ∷ ts) us c m held es e =
-      ap (λ qs. held ++ qs) (on_due t u ts us (waiting c m t.kind (leaf_of t)) (step form c m t.kind (leaf_of t)) (λ c' m' held' fs h. emits_due u ts us c' m' held' fs h) es e)
+      ap (λ qs. held ++ qs) (on_due t u ts us (waiting c m t.kind (leaf_of t)) (step form c m t.kind (leaf_of t))
+      (λ c' m' held' fs h. emits_due u ts us c' m' held' fs h) es e)
 
   -- in each tree that begins with the tokens
   pub lag : (ts us : List Token) (start : InForce) (d : Document form) → tokens (document_events start d) ≡ ts ++ us →

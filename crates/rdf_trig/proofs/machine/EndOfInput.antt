@@ -67,7 +67,8 @@ ends_over form [] t s n qs e k = by (accept form s t.kind (leaf_of t)) refl e
         ap (λ (y : State). y.mode) (sym same) ∙ accept_over form s m t gs h k
 ends_over form (u ∷ ts) t s n qs e k = by (λ m rest h. ends_over form ts t m n rest h k) (accept form s u.kind (leaf_of u)) e
   where
-    by : ((m : State) (rest : List Quad) → accept_all form m (ts ++ t ∷ []) ≡ ran n rest → n.mode ≡ Over) → (a : Answer) → go a (λ x. accept_all form x (ts ++ t ∷ [])) ≡ ran n qs → n.mode ≡ Over
+    by : ((m : State) (rest : List Quad) → accept_all form m (ts ++ t ∷ []) ≡ ran n rest → n.mode ≡ Over) → (a : Answer) →
+        go a (λ x. accept_all form x (ts ++ t ∷ [])) ≡ ran n qs → n.mode ≡ Over
     by ih (refuses r) x = absurd (let z : refused r ≡ ran n qs = x in cc)
     by ih (accepts gs m) x = let f = first_ran gs (accept_all form m (ts ++ t ∷ [])) n qs x in ih m f.0 f.1
 

@@ -116,8 +116,10 @@ more_due form t ts k w (Go u early now c' m') es e ih =
 -- so all quads of a document are due at its end
 all_due : (form : DocForm) (ts : List Token) (t : Token) (c : Setting) (m : Mode) (es : List Event) → run form c m (t ∷ ts) ≡ Some es →
     due (suc (length ts)) es ≡ quads es
-all_due form [] t c m es e = last_due form t (depth m) c.scope (waiting c m t.kind (leaf_of t)) (step form c m t.kind (leaf_of t)) es (step_facts form c m t.kind (leaf_of t)) e
-all_due form (y ∷ ys) t c m es e = more_due form t (y ∷ ys) (length ys) (waiting c m t.kind (leaf_of t)) (step form c m t.kind (leaf_of t)) es e (λ c' m' fs h. all_due form ys y c' m' fs h)
+all_due form [] t c m es e = last_due form t (depth m) c.scope (waiting c m t.kind (leaf_of t)) (step form c m t.kind (leaf_of t)) es
+    (step_facts form c m t.kind (leaf_of t)) e
+all_due form (y ∷ ys) t c m es e = more_due form t (y ∷ ys) (length ys) (waiting c m t.kind (leaf_of t))
+    (step form c m t.kind (leaf_of t)) es e (λ c' m' fs h. all_due form ys y c' m' fs h)
 
 -- the quads of a document are all given out when its tokens are accepted
 document_due : (form : DocForm) (start : InForce) (ts : List Token) (d : Document form) → tokens (document_events start d) ≡ ts →
@@ -201,8 +203,10 @@ not_both form start ts t too_many_bindings r v p = p (r.0, r.1, inr (inr r.2))
 stuck_not : (form : DocForm) (start : InForce) (ts : List Token) → Viable (documents form start) ts → PassesNone (Passes form start) ts →
     Stuck form (at_start start) ts → ⊥
 stuck_not form start ts v p k =
-    not_both form start k.ahead k.token k.reason (refused_for form start k.ahead k.token k.state k.reason (reached_start form start k.ahead k.state k.given k.before) k.refuses_it)
-    (viable_front form start (k.ahead ++ k.token ∷ []) k.more (subst (Viable (documents form start)) (k.split ∙ sym (append_assoc k.ahead (k.token ∷ []) k.more)) v))
+    not_both form start k.ahead k.token k.reason
+    (refused_for form start k.ahead k.token k.state k.reason (reached_start form start k.ahead k.state k.given k.before) k.refuses_it)
+    (viable_front form start (k.ahead ++ k.token ∷ []) k.more
+    (subst (Viable (documents form start)) (k.split ∙ sym (append_assoc k.ahead (k.token ∷ []) k.more)) v))
     (p k.ahead k.more k.token k.split)
 
 -- Tokens that begin a document, and of which none passes a limit, are accepted.
@@ -241,8 +245,12 @@ document_accepted form start ts ms d p =
     let g = viable_goes form start ts v p in
     let r = ran_tokens form ts (at_start start) g.0 g.1 g.2 in
     let told : tokens (document_events start d.tree) ≡ ts = sym d.tokens in
-    let given : g.1 ≡ unmarked ms = r.given ∙ document_due form start ts d.tree told ∙ ap unmarked d.quads in
-    (g.0, g.2 ∙ ap (ran g.0) given, run_over true form ts (in_default start) Start (document_events start d.tree) (place g.0) (run_tree true form d.tree start ts told) r.reached)
+    let given : g.1 ≡ unmarked ms = r.given ∙ document_due form start ts d.tree told ∙ ap unmarked d.quads in (
+      g.0,
+      g.2 ∙ ap (ran g.0) given,
+      run_over true form ts (in_default start) Start (document_events start d.tree) (place g.0)
+          (run_tree true form d.tree start ts told) r.reached,
+    )
 
 -- Tokens that are accepted up to one that is refused are the front of the whole.
 pub front_to : (form : DocForm) (start : InForce) (ts : List Token) (t : Token) (more : List Token) (s : State) (qs : List Quad) (x : Refusal) →

@@ -22,7 +22,8 @@ ran_one form [] t s m n rs qs e a =
     let z : ran s [] ≡ ran m rs = e in
     let same : s ≡ m = cc in
     let none : [] ≡ rs = cc in
-    ap (λ x. go (accept form x t.kind (leaf_of t)) (λ y. ran y [])) same ∙ (ap (λ x. go x (λ y. ran y [])) a ∙ (ap (ran n) (append-nil qs) ∙ ap (λ x. ran n (x ++ qs)) none))
+    ap (λ x. go (accept form x t.kind (leaf_of t)) (λ y. ran y [])) same
+    ∙ (ap (λ x. go x (λ y. ran y [])) a ∙ (ap (ran n) (append-nil qs) ∙ ap (λ x. ran n (x ++ qs)) none))
 ran_one form (u ∷ ts) t s m n rs qs e a = by (λ x gs h. ran_one form ts t x m n gs qs h a) (accept form s u.kind (leaf_of u)) e
   where
     by : ((x : State) (gs : List Quad) → accept_all form x ts ≡ ran m gs → accept_all form x (ts ++ t ∷ []) ≡ ran n (gs ++ qs)) →

@@ -155,7 +155,8 @@ module _ (out : InForce → ℕ) (form : DocForm) where
   verb_sized : (v : Verb) (c : Setting) (m : Mode) (s : Topic) (a : Around) (rest : List Event) (hs : List ℕ) → TakesVerb form c m s a →
       Sized c (Want (Listed s (verb_in c.scope v) a)) rest hs →
       Sized c m (verb_events c.scope v rest) ((around_over (out c.scope) a + s.size + verb_size c.scope v) ∷ hs)
-  verb_sized (predicate i) c m s a rest hs h g = iri_sized i c m c.scope None None (λ i. None) c (λ i. Want (Listed s (spelt i) a)) rest hs (h.iri (iri_leaf i)) g
+  verb_sized (predicate i) c m s a rest hs h g =
+      iri_sized i c m c.scope None None (λ i. None) c (λ i. Want (Listed s (spelt i) a)) rest hs (h.iri (iri_leaf i)) g
   verb_sized (type_word l) c m s a rest hs h g = alone A l (h.type l).1 g
 
   string_sized : (w : String) (c : Setting) (m : Mode) (p : Place) (before early : Option Quad) (rest : List Event) (hs : List ℕ) →
@@ -177,7 +178,8 @@ module _ (out : InForce → ℕ) (form : DocForm) where
   literal_sized (rdf (tagged w t)) c m p before early rest hs h g = string_sized w c m p before early _ _ h (tag_sized t c (lexical w) p rest hs g)
   literal_sized (rdf (typed w l i)) c m p before early rest hs h g =
       string_sized w c m p before early _ _ h
-      (alone Carets l refl (iri_sized i c (WantType (lexical w) p) c.scope None None (λ j. quad_at c p (typed_literal (lexical w) j)) c (λ j. After p) rest hs (type_takes form c (lexical w) p (iri_leaf i)) g))
+      (alone Carets l refl (iri_sized i c (WantType (lexical w) p) c.scope None None (λ j. quad_at c p (typed_literal (lexical w) j)) c
+      (λ j. After p) rest hs (type_takes form c (lexical w) p (iri_leaf i)) g))
   literal_sized (numeric (integer l)) c m p before early rest hs h g = one Integer l before itself early _ h.integer.1 g
   literal_sized (numeric (decimal l)) c m p before early rest hs h g = one Decimal l before itself early _ h.decimal.1 g
   literal_sized (numeric (double l)) c m p before early rest hs h g = one Double l before itself early _ h.double.1 g
@@ -188,9 +190,11 @@ module _ (out : InForce → ℕ) (form : DocForm) where
     object_sized : (o : Object) (c : Setting) (m : Mode) (p : Place) (before early : Option Quad) (rest : List Event) (hs : List ℕ) →
         TakesObject form c m p before early (object_leaf o) → Sized c (After p) rest hs →
         Sized c m (give before (object_events c o (subject_at p) (verb_at p) early rest)) (object_held c.scope (place_over (out c.scope) p) o hs)
-    object_sized (iri_object i) c m p before early rest hs h g = iri_sized i c m c.scope before early (λ j. quad_at c p (resource (named j))) c (λ j. After p) rest hs h.iri g
+    object_sized (iri_object i) c m p before early rest hs h g =
+        iri_sized i c m c.scope before early (λ j. quad_at c p (resource (named j))) c (λ j. After p) rest hs h.iri g
     object_sized (blank_object (label l)) c m p before early rest hs h g = one LabelNode l before itself early _ h.label.1 g
-    object_sized (blank_object (anon l r)) c m p before early rest hs h g = one OpenBracket l before itself early _ h.property_list_start.1 (alone CloseBracket r refl g)
+    object_sized (blank_object (anon l r)) c m p before early rest hs h g =
+        one OpenBracket l before itself early _ h.property_list_start.1 (alone CloseBracket r refl g)
     object_sized (collection_object os) c m p before early rest hs h g = collection_object_sized os c m p before early rest hs h g
     object_sized (list_object ps) c m p before early rest hs h g = list_object_sized ps c m p before early rest hs h g
     object_sized (literal_object x) c m p before early rest hs h g = literal_sized x c m p before early rest hs h g
@@ -199,34 +203,43 @@ module _ (out : InForce → ℕ) (form : DocForm) where
         TakesObject form c m p before early (object_leaf (collection_object os)) → Sized c (After p) rest hs →
         Sized c m (give before (collection_events c os early (object_quad c (subject_at p) (verb_at p) (collection_object os)) rest))
         (collection_held c.scope (place_over (out c.scope) p) os hs)
-    collection_object_sized (collection l os r) c m p before early rest hs h g = one OpenParen l before itself early None h.list.1 (items_sized os c (At p) r rest hs g)
+    collection_object_sized (collection l os r) c m p before early rest hs h g =
+        one OpenParen l before itself early None h.list.1 (items_sized os c (At p) r rest hs g)
 
     list_object_sized : (ps : BlankNodePropertyList) (c : Setting) (m : Mode) (p : Place) (before early : Option Quad) (rest : List Event) (hs : List ℕ) →
         TakesObject form c m p before early (object_leaf (list_object ps)) → Sized c (After p) rest hs →
-        Sized c m (give before (list_events c ps early (object_quad c (subject_at p) (verb_at p) (list_object ps)) rest)) (list_held c.scope (place_over (out c.scope) p) ps hs)
+        Sized c m (give before (list_events c ps early (object_quad c (subject_at p) (verb_at p) (list_object ps)) rest))
+        (list_held c.scope (place_over (out c.scope) p) ps hs)
     list_object_sized (property_list l ps r) c m p before early rest hs h g =
         one OpenBracket l before itself early _ h.property_list_start.1
-        (predicates_sized ps c (PropertyListStart l.at.offset (At p)) (sized (node (anon_at l))) (InPropertyList (At p)) CloseBracket r c (After p) rest hs (brackets_verb form c l.at.offset (At p)) record { after = λ v. refl; after_semicolon = refl } g)
+        (predicates_sized ps c (PropertyListStart l.at.offset (At p)) (sized (node (anon_at l))) (InPropertyList (At p)) CloseBracket r c
+        (After p) rest hs (brackets_verb form c l.at.offset (At p)) record { after = λ v. refl; after_semicolon = refl } g)
 
     items_sized : (os : Items) (c : Setting) (u : Up) (r : Leaf) (rest : List Event) (hs : List ℕ) →
         Sized c (collection_closed u (unsized (Some (items_of os)))) rest hs →
-        Sized c (CollectionStart u) (give (quad_up c u (items_of os)) (items_events c os r rest)) (items_held c.scope (up_over (out c.scope) u) os (up_over (out c.scope) u ∷ hs))
+        Sized c (CollectionStart u) (give (quad_up c u (items_of os)) (items_events c os r rest))
+        (items_held c.scope (up_over (out c.scope) u) os (up_over (out c.scope) u ∷ hs))
     items_sized no_items c u r rest hs g = by_size (list_size (out c.scope) u (unsized (Some nil))) (one CloseParen r (quad_up c u nil) itself None None refl g)
     items_sized (item o os) c u r rest hs g =
         let l = object_leaf o in
-        object_sized o c (CollectionStart u) (InCollection l.at.offset l.at.offset u) (quad_up c u (Blank (cell_at l))) None _ _ (collection_start_takes form c u l) (rest_sized os c l.at.offset l.at.offset u r rest hs g)
+        object_sized o c (CollectionStart u) (InCollection l.at.offset l.at.offset u) (quad_up c u (Blank (cell_at l))) None _ _
+        (collection_start_takes form c u l) (rest_sized os c l.at.offset l.at.offset u r rest hs g)
 
-    rest_sized : (os : Items) (c : Setting) (f n : ℕ) (u : Up) (r : Leaf) (rest : List Event) (hs : List ℕ) → Sized c (collection_closed u (unsized (cell f))) rest hs →
+    rest_sized : (os : Items) (c : Setting) (f n : ℕ) (u : Up) (r : Leaf) (rest : List Event) (hs : List ℕ) →
+        Sized c (collection_closed u (unsized (cell f))) rest hs →
         Sized c (After (InCollection f n u)) (rest_events c os (Cell n) r rest) (items_held c.scope (up_over (out c.scope) u) os (up_over (out c.scope) u ∷ hs))
-    rest_sized no_items c f n u r rest hs g = by_size (list_size (out c.scope) u (unsized (cell f))) (one CloseParen r None itself None (rest_quad c (Cell n) nil) refl g)
+    rest_sized no_items c f n u r rest hs g =
+        by_size (list_size (out c.scope) u (unsized (cell f))) (one CloseParen r None itself None (rest_quad c (Cell n) nil) refl g)
     rest_sized (item o os) c f n u r rest hs g =
         let l = object_leaf o in
-        object_sized o c (After (InCollection f n u)) (InCollection f l.at.offset u) None (rest_quad c (Cell n) (Blank (cell_at l))) _ _ (item_takes form c f n u l) (rest_sized os c f l.at.offset u r rest hs g)
+        object_sized o c (After (InCollection f n u)) (InCollection f l.at.offset u) None (rest_quad c (Cell n) (Blank (cell_at l))) _ _
+        (item_takes form c f n u l) (rest_sized os c f l.at.offset u r rest hs g)
 
     predicates_sized : (ps : PredicateObjectList) (c : Setting) (m : Mode) (s : Topic) (a : Around) (k : Kind) (l : Leaf) (c' : Setting)
         (m' : Mode) (rest : List Event) (hs : List ℕ) →
         TakesVerb form c m s a → Ends form c s a k l c' m' → Sized c' m' rest hs →
-        Sized c m (predicates_events c ps s.term (take k l rest)) (predicates_held c.scope (around_over (out c.scope) a) s.size ps (mode_over (out c'.scope) m' ∷ hs))
+        Sized c m (predicates_events c ps s.term (take k l rest))
+        (predicates_held c.scope (around_over (out c.scope) a) s.size ps (mode_over (out c'.scope) m' ∷ hs))
     predicates_sized (predicate_objects v os ms) c m s a k l c' m' rest hs h e g =
         verb_sized v c m s a _ _ h (objects_sized os c s (verb_in c.scope v) a _ _ (more_sized ms c s (verb_in c.scope v) a k l c' m' rest hs e g))
 
@@ -234,31 +247,37 @@ module _ (out : InForce → ℕ) (form : DocForm) where
         Sized c (After (Listed s v a)) rest hs →
         Sized c (Want (Listed s v a)) (objects_events c os s.term v.iri rest) (objects_held c.scope (place_over (out c.scope) (Listed s v a)) os hs)
     objects_sized (objects o os) c s v a rest hs g =
-        object_sized o c (Want (Listed s v a)) (Listed s v a) None None _ _ (want_takes form c (Listed s v a) (object_leaf o)) (commas_sized os c s v a rest hs g)
+        object_sized o c (Want (Listed s v a)) (Listed s v a) None None _ _ (want_takes form c (Listed s v a) (object_leaf o))
+        (commas_sized os c s v a rest hs g)
 
     commas_sized : (os : Commas) (c : Setting) (s : Topic) (v : Spelt) (a : Around) (rest : List Event) (hs : List ℕ) →
         Sized c (After (Listed s v a)) rest hs →
         Sized c (After (Listed s v a)) (commas_events c os s.term v.iri rest) (commas_held c.scope (place_over (out c.scope) (Listed s v a)) os hs)
     commas_sized no_commas c s v a rest hs g = g
     commas_sized (comma l o os) c s v a rest hs g =
-        alone Comma l refl (object_sized o c (Want (Listed s v a)) (Listed s v a) None None _ _ (want_takes form c (Listed s v a) (object_leaf o)) (commas_sized os c s v a rest hs g))
+        alone Comma l refl (object_sized o c (Want (Listed s v a)) (Listed s v a) None None _ _
+        (want_takes form c (Listed s v a) (object_leaf o)) (commas_sized os c s v a rest hs g))
 
     more_sized : (ms : More) (c : Setting) (s : Topic) (v : Spelt) (a : Around) (k : Kind) (l : Leaf) (c' : Setting) (m' : Mode)
         (rest : List Event) (hs : List ℕ) →
         Ends form c s a k l c' m' → Sized c' m' rest hs →
-        Sized c (After (Listed s v a)) (more_events c ms s.term (take k l rest)) (more_held c.scope (around_over (out c.scope) a) s.size ms (mode_over (out c'.scope) m' ∷ hs))
+        Sized c (After (Listed s v a)) (more_events c ms s.term (take k l rest))
+        (more_held c.scope (around_over (out c.scope) a) s.size ms (mode_over (out c'.scope) m' ∷ hs))
     more_sized no_more c s v a k l c' m' rest hs e g = alone k l (e.after v) g
     more_sized (semicolon d ms) c s v a k l c' m' rest hs e g = alone Semicolon d refl (semicolon_sized ms c s a k l c' m' rest hs e g)
     more_sized (semicolon_objects d w os ms) c s v a k l c' m' rest hs e g =
-        alone Semicolon d refl (verb_sized w c (AfterSemicolon s a) s a _ _ (semicolon_verb form c s a) (objects_sized os c s (verb_in c.scope w) a _ _ (more_sized ms c s (verb_in c.scope w) a k l c' m' rest hs e g)))
+        alone Semicolon d refl (verb_sized w c (AfterSemicolon s a) s a _ _ (semicolon_verb form c s a)
+        (objects_sized os c s (verb_in c.scope w) a _ _ (more_sized ms c s (verb_in c.scope w) a k l c' m' rest hs e g)))
 
     semicolon_sized : (ms : More) (c : Setting) (s : Topic) (a : Around) (k : Kind) (l : Leaf) (c' : Setting) (m' : Mode) (rest : List Event) (hs : List ℕ) →
         Ends form c s a k l c' m' → Sized c' m' rest hs →
-        Sized c (AfterSemicolon s a) (more_events c ms s.term (take k l rest)) (more_held c.scope (around_over (out c.scope) a) s.size ms (mode_over (out c'.scope) m' ∷ hs))
+        Sized c (AfterSemicolon s a) (more_events c ms s.term (take k l rest))
+        (more_held c.scope (around_over (out c.scope) a) s.size ms (mode_over (out c'.scope) m' ∷ hs))
     semicolon_sized no_more c s a k l c' m' rest hs e g = alone k l e.after_semicolon g
     semicolon_sized (semicolon d ms) c s a k l c' m' rest hs e g = alone Semicolon d refl (semicolon_sized ms c s a k l c' m' rest hs e g)
     semicolon_sized (semicolon_objects d w os ms) c s a k l c' m' rest hs e g =
-        alone Semicolon d refl (verb_sized w c (AfterSemicolon s a) s a _ _ (semicolon_verb form c s a) (objects_sized os c s (verb_in c.scope w) a _ _ (more_sized ms c s (verb_in c.scope w) a k l c' m' rest hs e g)))
+        alone Semicolon d refl (verb_sized w c (AfterSemicolon s a) s a _ _ (semicolon_verb form c s a)
+        (objects_sized os c s (verb_in c.scope w) a _ _ (more_sized ms c s (verb_in c.scope w) a k l c' m' rest hs e g)))
 
   maybe_sized : (ps : Option PredicateObjectList) (c : Setting) (s : Topic) (v : Level) (k : Kind) (l : Leaf) (c' : Setting) (m' : Mode)
       (rest : List Event) (hs : List ℕ) →
@@ -266,14 +285,17 @@ module _ (out : InForce → ℕ) (form : DocForm) where
       Sized c (AfterPropertyList s v) (maybe_events c s.term ps (take k l rest)) (maybe_held c.scope (out c.scope) ps (mode_over (out c'.scope) m' ∷ hs))
   maybe_sized None c s v k l c' m' rest hs z e g = alone k l (e.property_list_start s) g
   maybe_sized (Some ps) c s v k l c' m' rest hs z e g =
-      subst (λ n. Sized c (AfterPropertyList s v) (predicates_events c ps s.term (take k l rest)) (predicates_held c.scope (out c.scope) n ps (mode_over (out c'.scope) m' ∷ hs))) z
+      subst (λ n. Sized c (AfterPropertyList s v) (predicates_events c ps s.term (take k l rest))
+      (predicates_held c.scope (out c.scope) n ps (mode_over (out c'.scope) m' ∷ hs))) z
       (predicates_sized ps c (AfterPropertyList s v) s (Statement v) k l c' m' rest hs (brackets_then_verb form c s v) (e.list s) g)
 
   list_sized : (p : BlankNodePropertyList) (c0 : Setting) (m : Mode) (c : Setting) (v : Level) (rest : List Event) (hs : List ℕ) → TakesSubject form c0 m c v →
       Sized c (AfterPropertyList (sized (Some (list_of p))) v) rest hs → Sized c0 m (list_events c p None None rest) (list_held c.scope (out c.scope) p hs)
   list_sized (property_list l ps r) c0 m c v rest hs h g =
       alone OpenBracket l (h.property_list_start l).1
-      (predicates_sized ps c (PropertyListStart l.at.offset (Subject v)) (sized (node (anon_at l))) (InPropertyList (Subject v)) CloseBracket r c (AfterPropertyList (sized (node (anon_at l))) v) rest hs (brackets_verb form c l.at.offset (Subject v)) record { after = λ x. refl; after_semicolon = refl } g)
+      (predicates_sized ps c (PropertyListStart l.at.offset (Subject v)) (sized (node (anon_at l)))
+      (InPropertyList (Subject v)) CloseBracket r c (AfterPropertyList (sized (node (anon_at l))) v) rest hs
+      (brackets_verb form c l.at.offset (Subject v)) record { after = λ x. refl; after_semicolon = refl } g)
 
   collection_sized : (x : Collection) (c0 : Setting) (m : Mode) (c : Setting) (v : Level) (rest : List Event) (hs : List ℕ) → TakesSubject form c0 m c v →
       Sized c (WantVerb (unsized (Some (collection_of x))) (Statement v)) rest hs →
@@ -284,7 +306,8 @@ module _ (out : InForce → ℕ) (form : DocForm) where
       Sized c (after_subject form v (sized (node (blank_of b)))) rest hs →
       Sized c0 m (blank_object_events b None None rest) (blank_held (out c.scope) b hs)
   blank_sized (label l) c0 m c v rest hs h g = by_size (subject_none form (out c.scope) v _) (alone LabelNode l (h.label l).1 g)
-  blank_sized (anon l r) c0 m c v rest hs h g = alone OpenBracket l (h.property_list_start l).1 (by_size (subject_none form (out c.scope) v _) (alone CloseBracket r refl g))
+  blank_sized (anon l r) c0 m c v rest hs h g =
+      alone OpenBracket l (h.property_list_start l).1 (by_size (subject_none form (out c.scope) v _) (alone CloseBracket r refl g))
 
   triples_sized : (t : Triples) (c0 : Setting) (m : Mode) (c : Setting) (v : Level) (k : Kind) (l : Leaf) (c' : Setting) (m' : Mode)
       (rest : List Event) (hs : List ℕ) →
@@ -300,7 +323,8 @@ module _ (out : InForce → ℕ) (form : DocForm) where
       blank_sized b c0 m c v _ _ h (predicates_sized ps c (after_subject form v s) s (Statement v) k l c' m' rest hs (subject_verb form v c s) (e.list s) g)
   triples_sized (subject_triples (collection_subject x) ps) c0 m c v k l c' m' rest hs h e g =
       let s = unsized (Some (collection_of x)) in
-      collection_sized x c0 m c v _ _ h (predicates_sized ps c (WantVerb s (Statement v)) s (Statement v) k l c' m' rest hs (want_verb form c s (Statement v)) (e.list s) g)
+      collection_sized x c0 m c v _ _ h (predicates_sized ps c (WantVerb s (Statement v)) s (Statement v) k l c' m' rest hs
+      (want_verb form c s (Statement v)) (e.list s) g)
   triples_sized (list_triples p ps) c0 m c v k l c' m' rest hs h e g =
       list_sized p c0 m c v _ _ h (maybe_sized ps c (sized (Some (list_of p))) v k l c' m' rest hs (node_none p) e g)
     where
@@ -309,9 +333,12 @@ module _ (out : InForce → ℕ) (form : DocForm) where
 
   block_sized : (b : TriplesBlock) (c : Setting) (r : Leaf) (rest : List Event) (hs : List ℕ) → Sized (in_default c.scope) Start rest hs →
       Sized c Inside (block_events c b (take CloseBrace r rest)) (block_held c.scope (out c.scope) b (out c.scope ∷ hs))
-  block_sized (last t) c r rest hs g = triples_sized t c Inside c InBlock CloseBrace r (in_default c.scope) Start rest hs (inside_takes form c) (brace_ends form c r) g
-  block_sized (last_dot t d) c r rest hs g = triples_sized t c Inside c InBlock Dot d c Inside _ _ (inside_takes form c) (dot_ends form c d) (alone CloseBrace r refl g)
-  block_sized (dot t d b) c r rest hs g = triples_sized t c Inside c InBlock Dot d c Inside _ _ (inside_takes form c) (dot_ends form c d) (block_sized b c r rest hs g)
+  block_sized (last t) c r rest hs g =
+      triples_sized t c Inside c InBlock CloseBrace r (in_default c.scope) Start rest hs (inside_takes form c) (brace_ends form c r) g
+  block_sized (last_dot t d) c r rest hs g =
+      triples_sized t c Inside c InBlock Dot d c Inside _ _ (inside_takes form c) (dot_ends form c d) (alone CloseBrace r refl g)
+  block_sized (dot t d b) c r rest hs g =
+      triples_sized t c Inside c InBlock Dot d c Inside _ _ (inside_takes form c) (dot_ends form c d) (block_sized b c r rest hs g)
 
   wrapped_sized : (w : WrappedGraph) (c0 : Setting) (m : Mode) (c : Setting) (rest : List Event) (hs : List ℕ) →
       ((l : Leaf) → step form c0 m OpenBrace l ≡ goes c Inside) →
@@ -324,48 +351,63 @@ label_sized : (out : InForce → ℕ) (x : LabelOrSubject) (c : Setting) (rest :
     Sized out TriG (in_default c.scope) (AfterLabel (sized (label_of c.scope x))) rest hs →
     Sized out TriG c Start (label_events c.scope x rest) (label_held (out c.scope) x hs)
 label_sized out (iri_label i) c rest hs g =
-    iri_sized out TriG i c Start c.scope None None (λ j. None) (in_default c.scope) (λ j. AfterLabel (sized (named j))) rest hs ((start_takes TriG c).iri (iri_leaf i)) g
+    iri_sized out TriG i c Start c.scope None None (λ j. None) (in_default c.scope) (λ j. AfterLabel (sized (named j))) rest hs
+    ((start_takes TriG c).iri (iri_leaf i)) g
 label_sized out (blank_label b) c rest hs g = blank_sized out TriG b c Start (in_default c.scope) Top rest hs (start_takes TriG c) g
 
 -- a label after GRAPH
-graph_sized : (out : InForce → ℕ) (x : LabelOrSubject) (c : Setting) (rest : List Event) (hs : List ℕ) → Sized out TriG c (WantBrace (label_of c.scope x)) rest hs →
+graph_sized : (out : InForce → ℕ) (x : LabelOrSubject) (c : Setting) (rest : List Event) (hs : List ℕ) →
+    Sized out TriG c (WantBrace (label_of c.scope x)) rest hs →
     Sized out TriG c GraphWord (label_events c.scope x rest) (label_held (out c.scope) x hs)
-graph_sized out (iri_label i) c rest hs g = iri_sized out TriG i c GraphWord c.scope None None (λ j. None) c (λ j. WantBrace (named j)) rest hs record { waits = (refl, refl, refl); ref = refl; ln = refl; ns = refl } g
+graph_sized out (iri_label i) c rest hs g = iri_sized out TriG i c GraphWord c.scope None None (λ j. None) c
+    (λ j. WantBrace (named j)) rest hs record { waits = (refl, refl, refl); ref = refl; ln = refl; ns = refl } g
 graph_sized out (blank_label (label l)) c rest hs g = alone out TriG LabelNode l refl g
 graph_sized out (blank_label (anon l r)) c rest hs g = alone out TriG OpenBracket l refl (alone out TriG CloseBracket r refl g)
 
 -- a statement or a block
-body_sized : (out : InForce → ℕ) (form : DocForm) (b : Body form) (c : Setting) (rest : List Event) (hs : List ℕ) → Sized out form (in_default c.scope) Start rest hs →
+body_sized : (out : InForce → ℕ) (form : DocForm) (b : Body form) (c : Setting) (rest : List Event) (hs : List ℕ) →
+    Sized out form (in_default c.scope) Start rest hs →
     Sized out form c Start (body_events form c.scope b rest) (body_held form c.scope (out c.scope) b hs)
 body_sized out Turtle b c rest hs g =
-    triples_sized out Turtle b.triples c Start (in_default c.scope) Top Dot b.dot (in_default c.scope) Start rest hs (start_takes Turtle c) (top_ends Turtle (in_default c.scope) b.dot) g
+    triples_sized out Turtle b.triples c Start (in_default c.scope) Top Dot b.dot (in_default c.scope) Start rest hs (start_takes Turtle c)
+    (top_ends Turtle (in_default c.scope) b.dot) g
 body_sized out TriG (triples_or_graph (named_graph x w)) c rest hs g =
-    label_sized out x c _ _ (wrapped_sized out TriG w (in_default c.scope) (AfterLabel (sized (label_of c.scope x))) (in_graph c.scope (label_of c.scope x)) rest hs (λ l. refl) g)
+    label_sized out x c _ _ (wrapped_sized out TriG w (in_default c.scope) (AfterLabel (sized (label_of c.scope x)))
+    (in_graph c.scope (label_of c.scope x)) rest hs (λ l. refl) g)
 body_sized out TriG (triples_or_graph (label_triples x ps d)) c rest hs g =
     let s = sized (label_of c.scope x) in
     label_sized out x c _ _
-    (predicates_sized out TriG ps (in_default c.scope) (AfterLabel s) s (Statement Top) Dot d (in_default c.scope) Start rest hs (label_verb TriG (in_default c.scope) s)
+    (predicates_sized out TriG ps (in_default c.scope) (AfterLabel s) s (Statement Top) Dot d (in_default c.scope) Start rest hs
+    (label_verb TriG (in_default c.scope) s)
     ((top_ends TriG (in_default c.scope) d).list s) g)
 body_sized out TriG (default_graph w) c rest hs g = wrapped_sized out TriG w c Start (in_default c.scope) rest hs (λ l. refl) g
 body_sized out TriG (triples2 (list_triples2 p ps d)) c rest hs g =
-    triples_sized out TriG (list_triples p ps) c Start (in_default c.scope) Top Dot d (in_default c.scope) Start rest hs (start_takes TriG c) (top_ends TriG (in_default c.scope) d) g
+    triples_sized out TriG (list_triples p ps) c Start (in_default c.scope) Top Dot d (in_default c.scope) Start rest hs
+    (start_takes TriG c) (top_ends TriG (in_default c.scope) d) g
 body_sized out TriG (triples2 (collection_triples2 x ps d)) c rest hs g =
-    triples_sized out TriG (subject_triples (collection_subject x) ps) c Start (in_default c.scope) Top Dot d (in_default c.scope) Start rest hs (start_takes TriG c) (top_ends TriG (in_default c.scope) d) g
+    triples_sized out TriG (subject_triples (collection_subject x) ps) c Start (in_default c.scope) Top Dot d
+    (in_default c.scope) Start rest hs (start_takes TriG c) (top_ends TriG (in_default c.scope) d) g
 body_sized out TriG (tree.graph_word l x w) c rest hs g =
-    alone out TriG Graph l refl (graph_sized out x c _ _ (wrapped_sized out TriG w c (WantBrace (label_of c.scope x)) (in_graph c.scope (label_of c.scope x)) rest hs (λ r. refl) g))
+    alone out TriG Graph l refl (graph_sized out x c _ _
+    (wrapped_sized out TriG w c (WantBrace (label_of c.scope x)) (in_graph c.scope (label_of c.scope x)) rest hs (λ r. refl) g))
 
 -- the machine reads a document with these sizes
-document_sized : (out : InForce → ℕ) {form : DocForm} (d : Document form) (c : Setting) → Sized out form c Start (document_events c.scope d) (document_held out c.scope d)
+document_sized : (out : InForce → ℕ) {form : DocForm} (d : Document form) (c : Setting) →
+    Sized out form c Start (document_events c.scope d) (document_held out c.scope d)
 document_sized out {form} (end l) c = alone out form End l refl record { has = refl }
 document_sized out {form} (with_directive (prefix_id w p i d) rest) c =
-    alone out form AtPrefix w refl (alone out form PnameNs p refl (one out form IriRef i None _ None None refl (alone out form Dot d refl (document_sized out rest (in_default (scope_after c.scope (prefix_id w p i d)))))))
+    alone out form AtPrefix w refl (alone out form PnameNs p refl (one out form IriRef i None _ None None refl
+    (alone out form Dot d refl (document_sized out rest (in_default (scope_after c.scope (prefix_id w p i d)))))))
 document_sized out {form} (with_directive (base w i d) rest) c =
-    alone out form AtBase w refl (one out form IriRef i None _ None None refl (alone out form Dot d refl (document_sized out rest (in_default (scope_after c.scope (base w i d))))))
+    alone out form AtBase w refl (one out form IriRef i None _ None None refl
+    (alone out form Dot d refl (document_sized out rest (in_default (scope_after c.scope (base w i d))))))
 document_sized out {form} (with_directive (sparql_prefix w p i) rest) c =
-    alone out form Prefix w refl (alone out form PnameNs p refl (one out form IriRef i None _ None None refl (document_sized out rest (in_default (scope_after c.scope (sparql_prefix w p i))))))
+    alone out form Prefix w refl (alone out form PnameNs p refl
+    (one out form IriRef i None _ None None refl (document_sized out rest (in_default (scope_after c.scope (sparql_prefix w p i))))))
 document_sized out {form} (with_directive (sparql_base w i) rest) c =
     alone out form Base w refl (one out form IriRef i None _ None None refl (document_sized out rest (in_default (scope_after c.scope (sparql_base w i)))))
-document_sized out {form} (with_body b rest) c = body_sized out form b c (document_events c.scope rest) (document_held out c.scope rest) (document_sized out rest (in_default c.scope))
+document_sized out {form} (with_body b rest) c =
+    body_sized out form b c (document_events c.scope rest) (document_held out c.scope rest) (document_sized out rest (in_default c.scope))
 
 -- what is held where the machine stands
 abbrev stood : (InForce → ℕ) → Stand → ℕ
@@ -379,7 +421,8 @@ walk out form (t ∷ ts) us c m n hs r e = by (λ c' k gs f h. walk out form ts 
   where
     later : ((c' : Setting) (k : Mode) (gs : List ℕ) → reach true form c' k ts ≡ Some n → sizes out form c' k (ts ++ us) ≡ Some gs →
         held_after (mode_over (out c'.scope) k) ts gs ≡ stood out n) →
-        (c' : Setting) (k : Mode) (o : Option (List ℕ)) (hs : List ℕ) → sizes out form c' k (ts ++ us) ≡ o → with_size (mode_over (out c'.scope) k) o ≡ Some hs →
+        (c' : Setting) (k : Mode) (o : Option (List ℕ)) (hs : List ℕ) → sizes out form c' k (ts ++ us) ≡ o →
+        with_size (mode_over (out c'.scope) k) o ≡ Some hs →
         reach true form c' k ts ≡ Some n → held_after (mode_over (out c.scope) m) (t ∷ ts) hs ≡ stood out n
     later ih c' k None hs h e r = absurd (let z : None ≡ Some hs = e in cc)
     later ih c' k (Some gs) hs h e r =
@@ -395,7 +438,8 @@ walk out form (t ∷ ts) us c m n hs r e = by (λ c' k gs f h. walk out form ts 
         later ih c' k (sizes out form c' k (ts ++ us)) hs refl e (lax_true (admits true u) (reach true form c' k ts) n r)
 
 -- what has to be held after tokens is what is held in the mode that they lead to
-held_in_mode : (out : InForce → ℕ) (form : DocForm) (start : InForce) (ts : List Token) (n : Stand) (size : ℕ) → reach true form (in_default start) Start ts ≡ Some n →
+held_in_mode : (out : InForce → ℕ) (form : DocForm) (start : InForce) (ts : List Token) (n : Stand) (size : ℕ) →
+    reach true form (in_default start) Start ts ≡ Some n →
     HasToHold out form start ts size → size ≡ stood out n
 held_in_mode out form start ts n size r o =
     let all : sizes out form (in_default start) Start (ts ++ o.more) ≡ Some (document_held out start o.tree) =

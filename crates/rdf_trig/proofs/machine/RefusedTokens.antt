@@ -179,7 +179,13 @@ use_why sizes s k r (binds full (Some i)) gs n x w e =
     (λ h. because sizes s k r iri_too_long x h.1 (binds full (Some i), refl, w, ltb-true sizes.iri (byte_len i) h.0))
     (λ h.
     ⊎_elim
-    (λ g. because sizes s k r too_many_bindings x g.1 (binds full (Some i), refl, w, g.0, λ l. let z : true ≡ false = sym (lt-ltb sizes.iri (byte_len i) l) ∙ h.0 in cc))
+    (λ g. because sizes s k r too_many_bindings x g.1 (
+      binds full (Some i),
+      refl,
+      w,
+      g.0,
+      λ l. let z : true ≡ false = sym (lt-ltb sizes.iri (byte_len i) l) ∙ h.0 in cc,
+    ))
     (λ g. absurd (let z : accepts gs n ≡ refuses x = g.1 in cc))
     (either full (refuses too_many_bindings) (accepts gs n) (refuses x) h.1))
     (either (too_long sizes i) (refuses iri_too_long) (cond full (refuses too_many_bindings) (accepts gs n)) (refuses x) e)
@@ -206,7 +212,8 @@ name_kind s k l n u = absurd (let z : stands None ≡ itself = u in cc)
 binding_kind : (s : InForce) (k : Kind) (l : Leaf) (full : Bool) (i : Option (List ℕ)) → IsUse s k l (binds full i) → k ≡ IriRef
 binding_kind s IriRef l full i u = refl
 binding_kind s PnameLn l full i u = absurd (let z : binds full i ≡ stands (name_in s l) = u in cc)
-binding_kind s PnameNs l full i u = absurd (⊎_elim (λ e. let z : binds full i ≡ stands (name_in s l) = e in cc) (λ e. let z : binds full i ≡ itself = e in cc) u)
+binding_kind s PnameNs l full i u =
+    absurd (⊎_elim (λ e. let z : binds full i ≡ stands (name_in s l) = e in cc) (λ e. let z : binds full i ≡ itself = e in cc) u)
 binding_kind s k l full i u = absurd (let z : binds full i ≡ itself = u in cc)
 
 -- a bracket stands for itself
@@ -222,7 +229,8 @@ use_of form c m k l u (early, now, c1, m1, e) = (subst (Facts (depth m) c.scope 
 pub refused_for : (form : DocForm) (start : InForce) (ts : List Token) (t : Token) (s : State) (x : Refusal) →
     reach true form (in_default start) Start ts ≡ Some (place s) →
     accept form s t.kind (leaf_of t) ≡ refuses x → RefusedFor form start ts t x
-refused_for form start ts t s x e a = by x (why s.setting.scope.limits s t.kind (waiting s.setting s.mode t.kind (leaf_of t)) (step form s.setting s.mode t.kind (leaf_of t)) x a)
+refused_for form start ts t s x e a =
+    by x (why s.setting.scope.limits s t.kind (waiting s.setting s.mode t.kind (leaf_of t)) (step form s.setting s.mode t.kind (leaf_of t)) x a)
   where
     r : Reply
     r = step form s.setting s.mode t.kind (leaf_of t)
@@ -246,8 +254,10 @@ refused_for form start ts t s x e a = by x (why s.setting.scope.limits s t.kind 
     by unexpected w = (reached.unexpected form start ts t (place s) e w).1
     by unbound w = (excluded (stands None) refl w.1, (name_kind s.setting.scope t.kind (leaf_of t) w.0 (used (stands None) w.1), placed (stands None) w.1))
     by no_base (inl w) = (excluded (stands None) refl w.1, (w.0, inl (placed (stands None) w.1)))
-    by no_base (inr w) =
-        (excluded (binds w.0 None) refl w.1, (binding_kind s.setting.scope t.kind (leaf_of t) w.0 None (used (binds w.0 None) w.1), inr (w.0, placed (binds w.0 None) w.1)))
+    by no_base (inr w) = (
+      excluded (binds w.0 None) refl w.1,
+      (binding_kind s.setting.scope t.kind (leaf_of t) w.0 None (used (binds w.0 None) w.1), inr (w.0, placed (binds w.0 None) w.1)),
+    )
     by too_deep w =
         let p = and_parts _ _ w.0 in
         let o = deepens_kind t.kind p.0 in

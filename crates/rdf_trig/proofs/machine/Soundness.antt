@@ -138,7 +138,8 @@ abbrev brace_events : (form : DocForm) → Setting → Option term.Subject → W
 brace_events form c g r = wrapped_events (in_graph c.scope g) r.0 (document_events c.scope r.1)
 
 -- the events of what follows a '['
-abbrev brackets_events : (form : DocForm) → Setting → ℕ → (u : Up) → (Leaf × RestUp form u was_node) ⊎ (PredicateObjectList × RestAround form (InPropertyList u)) → List Event
+abbrev brackets_events : (form : DocForm) → Setting → ℕ → (u : Up) →
+    (Leaf × RestUp form u was_node) ⊎ (PredicateObjectList × RestAround form (InPropertyList u)) → List Event
 brackets_events form c n u (inl r) = take CloseBracket r.0 (up_events form c u was_node (node (Anon n)) r.1)
 brackets_events form c n u (inr r) = predicates_events c r.0 (node (Anon n)) (around_events form c (InPropertyList u) (node (Anon n)) r.1)
 
@@ -269,7 +270,8 @@ module _ (form : DocForm) (next : Setting → Mode → Option (List Event))
   list_end_found c s (Statement Top) Dot l w es e = let b = after_it Dot l w itself None None c Start es e in ((l, b.0), b.1)
   list_end_found c s (Statement Top) k l w es e = absurd (let z : None ≡ Some es = e in cc)
   list_end_found c s (Statement InBlock) Dot l w es e = let b = after_it Dot l w itself None None c Inside es e in (inl (l, b.0.0, b.0.1, b.0.2), b.1)
-  list_end_found c s (Statement InBlock) CloseBrace l w es e = let b = after_it CloseBrace l w itself None None (in_default c.scope) Start es e in (inr (l, b.0), b.1)
+  list_end_found c s (Statement InBlock) CloseBrace l w es e = let b =
+      after_it CloseBrace l w itself None None (in_default c.scope) Start es e in (inr (l, b.0), b.1)
   list_end_found c s (Statement InBlock) k l w es e = absurd (let z : None ≡ Some es = e in cc)
   list_end_found c s (InPropertyList u) CloseBracket l w es e =
       let b = after_it CloseBracket l w itself None None c (property_list_closed u s) es e in
@@ -309,15 +311,21 @@ module _ (form : DocForm) (next : Setting → Mode → Option (List Event))
   object_found c p early w IriRef l es e = let b = after_it IriRef l w _ early _ c (After p) es e in iri_found (iri_ref l) c p early w es b.0 b.1
   object_found c p early w PnameLn l es e = let b = after_it PnameLn l w _ early _ c (After p) es e in iri_found (prefixed (pname_ln l)) c p early w es b.0 b.1
   object_found c p early w PnameNs l es e = let b = after_it PnameNs l w _ early _ c (After p) es e in iri_found (prefixed (pname_ns l)) c p early w es b.0 b.1
-  object_found c p early w LabelNode l es e = let b = after_it LabelNode l w _ early _ c (After p) es e in record { obj = blank_object (label l); rest = b.0; first = refl; events = b.1 }
-  object_found c p early w ShortString l es e = let b = after_it ShortString l w itself early None c (AfterText (short_value l) p) es e in text_found (short l) c p early w es b.0.0 b.0.1 b.1
-  object_found c p early w LongString l es e = let b = after_it LongString l w itself early None c (AfterText (long_value l) p) es e in text_found (long l) c p early w es b.0.0 b.0.1 b.1
-  object_found c p early w Integer l es e = let b = after_it Integer l w _ early _ c (After p) es e in literal_found (numeric (integer l)) c p early w es b.0 b.1
-  object_found c p early w Decimal l es e = let b = after_it Decimal l w _ early _ c (After p) es e in literal_found (numeric (decimal l)) c p early w es b.0 b.1
+  object_found c p early w LabelNode l es e = let b = after_it LabelNode l w _ early _ c (After p) es e in
+      record { obj = blank_object (label l); rest = b.0; first = refl; events = b.1 }
+  object_found c p early w ShortString l es e = let b = after_it ShortString l w itself early None c (AfterText (short_value l) p) es e in
+      text_found (short l) c p early w es b.0.0 b.0.1 b.1
+  object_found c p early w LongString l es e = let b = after_it LongString l w itself early None c (AfterText (long_value l) p) es e in
+      text_found (long l) c p early w es b.0.0 b.0.1 b.1
+  object_found c p early w Integer l es e = let b = after_it Integer l w _ early _ c (After p) es e in
+      literal_found (numeric (integer l)) c p early w es b.0 b.1
+  object_found c p early w Decimal l es e = let b = after_it Decimal l w _ early _ c (After p) es e in
+      literal_found (numeric (decimal l)) c p early w es b.0 b.1
   object_found c p early w Double l es e = let b = after_it Double l w _ early _ c (After p) es e in literal_found (numeric (double l)) c p early w es b.0 b.1
   object_found c p early w True l es e = let b = after_it True l w _ early _ c (After p) es e in literal_found (boolean (true_word l)) c p early w es b.0 b.1
   object_found c p early w False l es e = let b = after_it False l w _ early _ c (After p) es e in literal_found (boolean (false_word l)) c p early w es b.0 b.1
-  object_found c p early w OpenBracket l es e = let b = after_it OpenBracket l w _ early _ c (PropertyListStart l.at.offset (At p)) es e in brackets_found c p early w l es b.0 b.1
+  object_found c p early w OpenBracket l es e = let b = after_it OpenBracket l w _ early _ c (PropertyListStart l.at.offset (At p)) es e in
+      brackets_found c p early w l es b.0 b.1
   object_found c p early w OpenParen l es e =
       let b = after_it OpenParen l w _ early None c (CollectionStart (At p)) es e in
       record { obj = collection_object (collection l b.0.0 b.0.1); rest = b.0.2; first = refl; events = b.1 }
@@ -339,7 +347,9 @@ module _ (form : DocForm) (next : Setting → Mode → Option (List Event))
   after_found c (InCollection f n u) w k l es e =
       let x = object_found c (InCollection f l.at.offset u) (rest_quad c (Cell n) (Blank (cell_at l))) w k l es e in (
         (item x.obj x.rest.0, x.rest.1, x.rest.2),
-        x.events ∙ ap (λ y. give w (object_events c x.obj (node (cell_at y)) (Some (known_chars RdfFirst)) (rest_quad c (Cell n) (Blank (cell_at y))) (rest_events c x.rest.0 (cell_at y) x.rest.1 (up_events form c u was_list (cell f) x.rest.2)))) (sym x.first),
+        x.events ∙ ap (λ y. give w (object_events c x.obj (node (cell_at y)) (Some (known_chars RdfFirst))
+            (rest_quad c (Cell n) (Blank (cell_at y)))
+            (rest_events c x.rest.0 (cell_at y) x.rest.1 (up_events form c u was_list (cell f) x.rest.2)))) (sym x.first),
       )
 
   -- a predicate list from its verb
@@ -352,9 +362,12 @@ module _ (form : DocForm) (next : Setting → Mode → Option (List Event))
 
   verb_found : (c : Setting) (s : Topic) (a : Around) (k : Kind) (l : Leaf) (es : List Event) →
       fronted None (go_on (token k l) (verb_start c s a k l) next) ≡ Some es → PredicatesFound c s a es
-  verb_found c s a IriRef l es e = let b = after_it IriRef l None _ None None c (Want (Listed s (spelt (reference_in c.scope l)) a)) es e in predicate_found (iri_ref l) c s a es b.0 b.1
-  verb_found c s a PnameLn l es e = let b = after_it PnameLn l None _ None None c (Want (Listed s (spelt (name_in c.scope l)) a)) es e in predicate_found (prefixed (pname_ln l)) c s a es b.0 b.1
-  verb_found c s a PnameNs l es e = let b = after_it PnameNs l None _ None None c (Want (Listed s (spelt (name_in c.scope l)) a)) es e in predicate_found (prefixed (pname_ns l)) c s a es b.0 b.1
+  verb_found c s a IriRef l es e = let b = after_it IriRef l None _ None None c (Want (Listed s (spelt (reference_in c.scope l)) a)) es e in
+      predicate_found (iri_ref l) c s a es b.0 b.1
+  verb_found c s a PnameLn l es e = let b = after_it PnameLn l None _ None None c (Want (Listed s (spelt (name_in c.scope l)) a)) es e in
+      predicate_found (prefixed (pname_ln l)) c s a es b.0 b.1
+  verb_found c s a PnameNs l es e = let b = after_it PnameNs l None _ None None c (Want (Listed s (spelt (name_in c.scope l)) a)) es e in
+      predicate_found (prefixed (pname_ns l)) c s a es b.0 b.1
   verb_found c s a A l es e =
       let b = after_it A l None itself None None c (Want (Listed s type_verb a)) es e in
       ((predicate_objects (type_word l) (objects b.0.0 b.0.1.0) b.0.1.1, b.0.1.2), b.1)
@@ -388,7 +401,8 @@ module _ (form : DocForm) (next : Setting → Mode → Option (List Event))
   collection_start_found c u k l es e =
       let x = object_found c (InCollection l.at.offset l.at.offset u) None (quad_up c u (Blank (cell_at l))) k l es e in (
         (item x.obj x.rest.0, x.rest.1, x.rest.2),
-        x.events ∙ ap (λ y. give (quad_up c u (Blank (cell_at y))) (object_events c x.obj (node (cell_at y)) (Some (known_chars RdfFirst)) None (rest_events c x.rest.0 (cell_at y) x.rest.1 (up_events form c u was_list (node (cell_at y)) x.rest.2)))) (sym x.first),
+        x.events ∙ ap (λ y. give (quad_up c u (Blank (cell_at y))) (object_events c x.obj (node (cell_at y)) (Some (known_chars RdfFirst))
+            None (rest_events c x.rest.0 (cell_at y) x.rest.1 (up_events form c u was_list (node (cell_at y)) x.rest.2)))) (sym x.first),
       )
 
   after_text_found : (c : Setting) (w : List ℕ) (p : Place) (k : Kind) (l : Leaf) (es : List Event) →
@@ -430,14 +444,20 @@ module _ (form : DocForm) (next : Setting → Mode → Option (List Event))
 
   block_triples : (c : Setting) (k : Kind) (l : Leaf) (es : List Event) → fronted None (go_on (token k l) (subject_start form c InBlock k l) next) ≡ Some es →
       TriplesFound c es
-  block_triples c IriRef l es e = let b = after_it IriRef l None _ None None c (WantVerb (sized (named (reference_in c.scope l))) (Statement InBlock)) es e in block_iri (iri_ref l) c es b.0 b.1
-  block_triples c PnameLn l es e = let b = after_it PnameLn l None _ None None c (WantVerb (sized (named (name_in c.scope l))) (Statement InBlock)) es e in block_iri (prefixed (pname_ln l)) c es b.0 b.1
-  block_triples c PnameNs l es e = let b = after_it PnameNs l None _ None None c (WantVerb (sized (named (name_in c.scope l))) (Statement InBlock)) es e in block_iri (prefixed (pname_ns l)) c es b.0 b.1
+  block_triples c IriRef l es e = let b = after_it IriRef l None _ None None c
+      (WantVerb (sized (named (reference_in c.scope l))) (Statement InBlock)) es e in block_iri (iri_ref l) c es b.0 b.1
+  block_triples c PnameLn l es e = let b = after_it PnameLn l None _ None None c
+      (WantVerb (sized (named (name_in c.scope l))) (Statement InBlock)) es e in block_iri (prefixed (pname_ln l)) c es b.0 b.1
+  block_triples c PnameNs l es e = let b = after_it PnameNs l None _ None None c
+      (WantVerb (sized (named (name_in c.scope l))) (Statement InBlock)) es e in block_iri (prefixed (pname_ns l)) c es b.0 b.1
   block_triples c LabelNode l es e =
-      let b = after_it LabelNode l None itself None None c (WantVerb (sized (node (labelled l))) (Statement InBlock)) es e in (subject_triples (blank_subject (label l)) b.0.0, b.0.1, b.1)
-  block_triples c OpenBracket l es e = let b = after_it OpenBracket l None itself None None c (PropertyListStart l.at.offset (Subject InBlock)) es e in block_brackets c l es b.0 b.1
+      let b = after_it LabelNode l None itself None None c (WantVerb (sized (node (labelled l))) (Statement InBlock)) es e in
+      (subject_triples (blank_subject (label l)) b.0.0, b.0.1, b.1)
+  block_triples c OpenBracket l es e = let b =
+      after_it OpenBracket l None itself None None c (PropertyListStart l.at.offset (Subject InBlock)) es e in block_brackets c l es b.0 b.1
   block_triples c OpenParen l es e =
-      let b = after_it OpenParen l None itself None None c (CollectionStart (Subject InBlock)) es e in (subject_triples (collection_subject (collection l b.0.0 b.0.1)) b.0.2.0, b.0.2.1, b.1)
+      let b = after_it OpenParen l None itself None None c (CollectionStart (Subject InBlock)) es e in
+      (subject_triples (collection_subject (collection l b.0.0 b.0.1)) b.0.2.0, b.0.2.1, b.1)
   block_triples c k l es e = absurd (let z : None ≡ Some es = e in cc)
 
   block_of : (c : Setting) (es : List Event) (t : Triples) (r : RestLevel form InBlock) → es ≡ triples_events c t (level_events form c InBlock r) →
@@ -454,7 +474,8 @@ module _ (form : DocForm) (next : Setting → Mode → Option (List Event))
   -- statements at the top
   start_iri : (i : Iri) (c : Setting) (es : List Event) (r : Rest form (after_subject form Top (sized (named (iri_in c.scope i))))) →
       es ≡ iri_events c.scope i (all_events form (in_default c.scope) (after_subject form Top (sized (named (iri_in c.scope i)))) r) → Found form c Start es
-  start_iri i c es r e = let x = as_subject form Top (sized (named (iri_in c.scope i))) (in_default c.scope) r in iri_body form i c.scope es x.0 (e ∙ ap (iri_events c.scope i) x.1)
+  start_iri i c es r e = let x = as_subject form Top (sized (named (iri_in c.scope i))) (in_default c.scope) r in
+      iri_body form i c.scope es x.0 (e ∙ ap (iri_events c.scope i) x.1)
 
   start_brackets : (c : Setting) (l : Leaf) (es : List Event) (r : Rest form (PropertyListStart l.at.offset (Subject Top))) →
       es ≡ take OpenBracket l (brackets_events form (in_default c.scope) l.at.offset (Subject Top) r) →
@@ -464,16 +485,21 @@ module _ (form : DocForm) (next : Setting → Mode → Option (List Event))
 
   subject_found : (c : Setting) (k : Kind) (l : Leaf) (es : List Event) →
       fronted None (go_on (token k l) (subject_start form (in_default c.scope) Top k l) next) ≡ Some es → Found form c Start es
-  subject_found c IriRef l es e = let b = after_it IriRef l None _ None None (in_default c.scope) (after_subject form Top (sized (named (reference_in c.scope l)))) es e in start_iri (iri_ref l) c es b.0 b.1
-  subject_found c PnameLn l es e = let b = after_it PnameLn l None _ None None (in_default c.scope) (after_subject form Top (sized (named (name_in c.scope l)))) es e in start_iri (prefixed (pname_ln l)) c es b.0 b.1
-  subject_found c PnameNs l es e = let b = after_it PnameNs l None _ None None (in_default c.scope) (after_subject form Top (sized (named (name_in c.scope l)))) es e in start_iri (prefixed (pname_ns l)) c es b.0 b.1
+  subject_found c IriRef l es e = let b = after_it IriRef l None _ None None (in_default c.scope)
+      (after_subject form Top (sized (named (reference_in c.scope l)))) es e in start_iri (iri_ref l) c es b.0 b.1
+  subject_found c PnameLn l es e = let b = after_it PnameLn l None _ None None (in_default c.scope)
+      (after_subject form Top (sized (named (name_in c.scope l)))) es e in start_iri (prefixed (pname_ln l)) c es b.0 b.1
+  subject_found c PnameNs l es e = let b = after_it PnameNs l None _ None None (in_default c.scope)
+      (after_subject form Top (sized (named (name_in c.scope l)))) es e in start_iri (prefixed (pname_ns l)) c es b.0 b.1
   subject_found c LabelNode l es e =
       let b = after_it LabelNode l None itself None None (in_default c.scope) (after_subject form Top (sized (node (labelled l)))) es e in
       let x = as_subject form Top (sized (node (labelled l))) (in_default c.scope) b.0 in
       blank_body form (label l) c.scope es x.0 (b.1 ∙ ap (take LabelNode l) x.1)
-  subject_found c OpenBracket l es e = let b = after_it OpenBracket l None itself None None (in_default c.scope) (PropertyListStart l.at.offset (Subject Top)) es e in start_brackets c l es b.0 b.1
+  subject_found c OpenBracket l es e = let b = after_it OpenBracket l None itself None None (in_default c.scope)
+      (PropertyListStart l.at.offset (Subject Top)) es e in start_brackets c l es b.0 b.1
   subject_found c OpenParen l es e =
-      let b = after_it OpenParen l None itself None None (in_default c.scope) (CollectionStart (Subject Top)) es e in collection_body form (collection l b.0.0 b.0.1) c.scope es b.0.2.0 b.0.2.1 b.1
+      let b = after_it OpenParen l None itself None None (in_default c.scope) (CollectionStart (Subject Top)) es e in
+      collection_body form (collection l b.0.0 b.0.1) c.scope es b.0.2.0 b.0.2.1 b.1
   subject_found c k l es e = absurd (let z : None ≡ Some es = e in cc)
 
   prefix_found : (c : Setting) (k : Kind) (w : Spelling) (l : Leaf) (es : List Event) →
@@ -488,17 +514,21 @@ module _ (form : DocForm) (next : Setting → Mode → Option (List Event))
 
   after_label_found : (c : Setting) (g : Topic) (k : Kind) (l : Leaf) (es : List Event) →
       fronted None (go_on (token k l) (after_label c g k l) next) ≡ Some es → Found form c (AfterLabel g) es
-  after_label_found c g OpenBrace l es e = let b = after_it OpenBrace l None itself None None (in_graph c.scope g.term) Inside es e in (inr (wrapped l b.0.0 b.0.1, b.0.2), b.1)
+  after_label_found c g OpenBrace l es e = let b = after_it OpenBrace l None itself None None (in_graph c.scope g.term) Inside es e in
+      (inr (wrapped l b.0.0 b.0.1, b.0.2), b.1)
   after_label_found c g k l es e = let x = verb_found c g (Statement Top) k l es e in (inl (x.0.0, x.0.1), x.1)
 
   want_brace_found : (c : Setting) (g : Option term.Subject) (k : Kind) (l : Leaf) (es : List Event) →
       fronted None (go_on (token k l) (want_brace c g k l) next) ≡ Some es → Found form c (WantBrace g) es
-  want_brace_found c g OpenBrace l es e = let b = after_it OpenBrace l None itself None None (in_graph c.scope g) Inside es e in ((wrapped l b.0.0 b.0.1, b.0.2), b.1)
+  want_brace_found c g OpenBrace l es e = let b = after_it OpenBrace l None itself None None (in_graph c.scope g) Inside es e in
+      ((wrapped l b.0.0 b.0.1, b.0.2), b.1)
   want_brace_found c g k l es e = absurd (let z : None ≡ Some es = e in cc)
 
-  graph_brackets_found : (c : Setting) (n : ℕ) (k : Kind) (l : Leaf) (es : List Event) → fronted None (go_on (token k l) (graph_bracket c n k l) next) ≡ Some es →
+  graph_brackets_found : (c : Setting) (n : ℕ) (k : Kind) (l : Leaf) (es : List Event) →
+      fronted None (go_on (token k l) (graph_bracket c n k l) next) ≡ Some es →
       Found form c (GraphBracket n) es
-  graph_brackets_found c n CloseBracket l es e = let b = after_it CloseBracket l None itself None None c (WantBrace (node (Anon n))) es e in ((l, b.0.0, b.0.1), b.1)
+  graph_brackets_found c n CloseBracket l es e = let b = after_it CloseBracket l None itself None None c (WantBrace (node (Anon n))) es e in
+      ((l, b.0.0, b.0.1), b.1)
   graph_brackets_found c n k l es e = absurd (let z : None ≡ Some es = e in cc)
 
   graph_iri : (i : Iri) (c : Setting) (es : List Event) (r : Rest form (WantBrace (named (iri_in c.scope i)))) →
@@ -507,11 +537,16 @@ module _ (form : DocForm) (next : Setting → Mode → Option (List Event))
 
   graph_word_found : (c : Setting) (k : Kind) (l : Leaf) (es : List Event) → fronted None (go_on (token k l) (graph_word c k l) next) ≡ Some es →
       Found form c GraphWord es
-  graph_word_found c IriRef l es e = let b = after_it IriRef l None _ None None c (WantBrace (named (reference_in c.scope l))) es e in graph_iri (iri_ref l) c es b.0 b.1
-  graph_word_found c PnameLn l es e = let b = after_it PnameLn l None _ None None c (WantBrace (named (name_in c.scope l))) es e in graph_iri (prefixed (pname_ln l)) c es b.0 b.1
-  graph_word_found c PnameNs l es e = let b = after_it PnameNs l None _ None None c (WantBrace (named (name_in c.scope l))) es e in graph_iri (prefixed (pname_ns l)) c es b.0 b.1
-  graph_word_found c LabelNode l es e = let b = after_it LabelNode l None itself None None c (WantBrace (node (labelled l))) es e in ((blank_label (label l), b.0.0, b.0.1), b.1)
-  graph_word_found c OpenBracket l es e = let b = after_it OpenBracket l None itself None None c (GraphBracket l.at.offset) es e in ((blank_label (anon l b.0.0), b.0.1, b.0.2), b.1)
+  graph_word_found c IriRef l es e = let b = after_it IriRef l None _ None None c (WantBrace (named (reference_in c.scope l))) es e in
+      graph_iri (iri_ref l) c es b.0 b.1
+  graph_word_found c PnameLn l es e = let b = after_it PnameLn l None _ None None c (WantBrace (named (name_in c.scope l))) es e in
+      graph_iri (prefixed (pname_ln l)) c es b.0 b.1
+  graph_word_found c PnameNs l es e = let b = after_it PnameNs l None _ None None c (WantBrace (named (name_in c.scope l))) es e in
+      graph_iri (prefixed (pname_ns l)) c es b.0 b.1
+  graph_word_found c LabelNode l es e = let b = after_it LabelNode l None itself None None c (WantBrace (node (labelled l))) es e in
+      ((blank_label (label l), b.0.0, b.0.1), b.1)
+  graph_word_found c OpenBracket l es e = let b = after_it OpenBracket l None itself None None c (GraphBracket l.at.offset) es e in
+      ((blank_label (anon l b.0.0), b.0.1, b.0.2), b.1)
   graph_word_found c k l es e = absurd (let z : None ≡ Some es = e in cc)
 
   want_prefix_found : (c : Setting) (w : Spelling) (k : Kind) (l : Leaf) (es : List Event) →
@@ -523,13 +558,16 @@ module _ (form : DocForm) (next : Setting → Mode → Option (List Event))
       fronted None (go_on (token k l) (want_prefix_iri c w p k l) next) ≡ Some es → Found form c (WantPrefixIri w p) es
   want_prefix_iri_found c Dotted p IriRef l es e =
       let b = after_it IriRef l None _ None None (in_default (with_binding c.scope p (reference_in c.scope l))) WantDot es e in ((l, (b.0.0, b.0.1)), b.1)
-  want_prefix_iri_found c Sparql p IriRef l es e = let b = after_it IriRef l None _ None None (in_default (with_binding c.scope p (reference_in c.scope l))) Start es e in ((l, b.0), b.1)
+  want_prefix_iri_found c Sparql p IriRef l es e = let b =
+      after_it IriRef l None _ None None (in_default (with_binding c.scope p (reference_in c.scope l))) Start es e in ((l, b.0), b.1)
   want_prefix_iri_found c w p k l es e = absurd (let z : None ≡ Some es = e in cc)
 
   want_base_iri_found : (c : Setting) (w : Spelling) (k : Kind) (l : Leaf) (es : List Event) →
       fronted None (go_on (token k l) (want_base_iri c w k l) next) ≡ Some es → Found form c (WantBaseIri w) es
-  want_base_iri_found c Dotted IriRef l es e = let b = after_it IriRef l None _ None None (in_default (with_base c.scope (reference_in c.scope l))) WantDot es e in ((l, (b.0.0, b.0.1)), b.1)
-  want_base_iri_found c Sparql IriRef l es e = let b = after_it IriRef l None _ None None (in_default (with_base c.scope (reference_in c.scope l))) Start es e in ((l, b.0), b.1)
+  want_base_iri_found c Dotted IriRef l es e = let b = after_it IriRef l None _ None None
+      (in_default (with_base c.scope (reference_in c.scope l))) WantDot es e in ((l, (b.0.0, b.0.1)), b.1)
+  want_base_iri_found c Sparql IriRef l es e = let b =
+      after_it IriRef l None _ None None (in_default (with_base c.scope (reference_in c.scope l))) Start es e in ((l, b.0), b.1)
   want_base_iri_found c w k l es e = absurd (let z : None ≡ Some es = e in cc)
 
   want_dot_found : (c : Setting) (k : Kind) (l : Leaf) (es : List Event) → fronted None (go_on (token k l) (want_dot c k l) next) ≡ Some es →
@@ -549,7 +587,8 @@ brace_start_found : (next : Setting → Mode → Option (List Event))
     (ih : (c : Setting) (m : Mode) (es : List Event) → next c m ≡ Some es → Found TriG c m es) (c : Setting) (l : Leaf) (es : List Event) →
     fronted None (go_on (token OpenBrace l) (start TriG c OpenBrace l) next) ≡ Some es → Found TriG c Start es
 brace_start_found next ih c l es e =
-    let b = after_it TriG next ih OpenBrace l None itself None None (in_default c.scope) Inside es e in (with_body (default_graph (wrapped l b.0.0 b.0.1)) b.0.2, b.1)
+    let b = after_it TriG next ih OpenBrace l None itself None None (in_default c.scope) Inside es e in
+    (with_body (default_graph (wrapped l b.0.0 b.0.1)) b.0.2, b.1)
 
 -- between statements a rest is found, if one is found after the token
 start_found : (form : DocForm) (next : Setting → Mode → Option (List Event))
@@ -618,7 +657,8 @@ stop_tokens m es e = absurd (let z : None ≡ Some es = e in cc)
 -- the events of a run have the tokens that were read
 pub same_tokens : (form : DocForm) (ts : List Token) (c : Setting) (m : Mode) (es : List Event) → run form c m ts ≡ Some es → tokens es ≡ ts
 same_tokens form [] c m es e = stop_tokens m es e
-same_tokens form (t ∷ ts) c m es e = reply_tokens t (waiting c m t.kind (leaf_of t)) (step form c m t.kind (leaf_of t)) (λ c' m'. run form c' m' ts) ts (same_tokens form ts) es e
+same_tokens form (t ∷ ts) c m es e = reply_tokens t (waiting c m t.kind (leaf_of t)) (step form c m t.kind (leaf_of t))
+    (λ c' m'. run form c' m' ts) ts (same_tokens form ts) es e
 
 -- What is read is a document's tokens, with its events.
 pub read_found : (form : DocForm) (ts : List Token) (c : Setting) (es : List Event) → run form c Start ts ≡ Some es →

@@ -242,7 +242,8 @@ accept_few form s n t qs e =
     let few = few.most in
     let twice = by (is_end t.kind) in
     let wait = waiting_few s.setting s.mode t.kind (leaf_of t) in
-    let given : length qs ≡ length s.held + size w = ap length a.given ∙ (length-append s.held (kept w []) ∙ ap (λ n. length s.held + n) (kept_length w [] ∙ omega arith)) in
+    let given : length qs ≡ length s.held + size w =
+    ap length a.given ∙ (length-append s.held (kept w []) ∙ ap (λ n. length s.held + n) (kept_length w [] ∙ omega arith)) in
     let held : length n.held ≡ size a.early + size a.now =
     ap (λ (x : State). length x.held) a.state ∙ (kept_length a.early (kept a.now []) ∙ ap (λ n. size a.early + n) (kept_length a.now [] ∙ omega arith)) in
     let mode : owes n.mode ≡ owes a.mode = ap (λ (x : State). owes x.mode) a.state in
@@ -265,7 +266,8 @@ run_few form [] s n qs e =
     omega (arith, size, held, mode)
 run_few form (t ∷ ts) s n qs e = by (λ m rest x. run_few form ts m n rest x) (accept form s t.kind (leaf_of t)) refl e
   where
-    by : ((m : State) (rest : List Quad) → accept_all form m ts ≡ ran n rest → length rest + length n.held + owes n.mode ≤ length m.held + owes m.mode + 2 * counted ts) →
+    by : ((m : State) (rest : List Quad) → accept_all form m ts ≡ ran n rest →
+        length rest + length n.held + owes n.mode ≤ length m.held + owes m.mode + 2 * counted ts) →
         (a : Answer) → accept form s t.kind (leaf_of t) ≡ a → go a (λ x. accept_all form x ts) ≡ ran n qs →
         length qs + length n.held + owes n.mode ≤ length s.held + owes s.mode + 2 * counted (t ∷ ts)
     by ih (refuses r) h x = absurd (let z : refused r ≡ ran n qs = x in cc)

@@ -55,8 +55,11 @@ module _ (strict : Bool) (form : DocForm) where
   reply_front t w No next ts us s1 ih e = absurd (let z : None ≡ Some s1 = e in cc)
   reply_front t w (Go u early now c m) next ts us s1 ih e =
       let p = was_true (admits strict u) (next c m) s1 e in
-      let a = ih c m p.1 in
-      (give w (Took t u ∷ give early (give now a.events)), ap (λ o. fronted w (put t u early now o)) a.runs, passing_give strict form w _ (p.0, passing_give strict form early _ (passing_give strict form now _ a.bound)))
+      let a = ih c m p.1 in (
+        give w (Took t u ∷ give early (give now a.events)),
+        ap (λ o. fronted w (put t u early now o)) a.runs,
+        passing_give strict form w _ (p.0, passing_give strict form early _ (passing_give strict form now _ a.bound)),
+      )
 
   pub front : (ts us : List Token) (c : Setting) (m : Mode) (s1 : Stand) → Accepts strict form s1.setting s1.mode us → reach strict form c m ts ≡ Some s1 →
       Accepts strict form c m (ts ++ us)
@@ -64,7 +67,8 @@ module _ (strict : Bool) (form : DocForm) where
       let h : stand c m ≡ s1 = cc in
       record { events = a.events; runs = ap (λ s. run form (Stand.setting s) (Stand.mode s) us) h ∙ a.runs; bound = a.bound }
   front (t ∷ ts) us c m s1 a e =
-      let r = reply_front t (waiting c m t.kind (leaf_of t)) (step form c m t.kind (leaf_of t)) (λ c' m'. reach strict form c' m' ts) ts us s1 (λ c' m' h. front ts us c' m' s1 a h) e in
+      let r = reply_front t (waiting c m t.kind (leaf_of t)) (step form c m t.kind (leaf_of t))
+      (λ c' m'. reach strict form c' m' ts) ts us s1 (λ c' m' h. front ts us c' m' s1 a h) e in
       record { events = r.0; runs = r.1; bound = r.2 }
 
   -- a state that is reached has a completion
@@ -88,7 +92,8 @@ module _ (strict : Bool) (form : DocForm) where
   back : (ts us : List Token) (c : Setting) (m : Mode) (es : List Event) → run form c m (ts ++ us) ≡ Some es → AllAdmitted strict es →
       (s : Stand) × (reach strict form c m ts ≡ Some s)
   back [] us c m es e b = (stand c m, refl)
-  back (t ∷ ts) us c m es e b = reply_back t (waiting c m t.kind (leaf_of t)) (step form c m t.kind (leaf_of t)) (λ c' m'. reach strict form c' m' ts) ts us (back ts us) es e b
+  back (t ∷ ts) us c m es e b = reply_back t (waiting c m t.kind (leaf_of t)) (step form c m t.kind (leaf_of t))
+      (λ c' m'. reach strict form c' m' ts) ts us (back ts us) es e b
 
   -- the run over a tree's tokens
   pub run_tree : (d : Document form) (start : InForce) (ts : List Token) → tokens (document_events start d) ≡ ts →
@@ -237,8 +242,11 @@ not_shaped form ts t start s e n v = not_begins false form ts t start s e n (sha
 pub unexpected : (form : DocForm) (start : InForce) (ts : List Token) (t : Token) (s : Stand) → reach true form (in_default start) Start ts ≡ Some s →
     step form s.setting s.mode t.kind (leaf_of t) ≡ No →
     Viable (documents form start) ts × (Shaped (trees form start) (ts ++ t ∷ []) → ⊥)
-unexpected form start ts t s e n =
-    (reached_viable form start ts s e, not_shaped form ts t start s (lax form ts (in_default start) Start s e) (ap (λ r. on_reply false r (λ c' m'. Some (stand c' m'))) n))
+unexpected form start ts t s e n = (
+  reached_viable form start ts s e,
+  not_shaped form ts t start s (lax form ts (in_default start) Start s e)
+      (ap (λ r. on_reply false r (λ c' m'. Some (stand c' m'))) n),
+)
 
 -- A name that stands for nothing begins a tree with those before it, and no document.
 pub nameless : (form : DocForm) (start : InForce) (ts : List Token) (t : Token) (s : Stand) (u : Use) (early now : Option Quad) (c : Setting) (m : Mode) →
@@ -248,7 +256,8 @@ pub nameless : (form : DocForm) (start : InForce) (ts : List Token) (t : Token) 
 nameless form start ts t s u early now c m e n h = (
   reached_viable form start ts s e,
   reached_shaped form start (ts ++ t ∷ []) (stand c m)
-      (reach-snoc false form ts t (in_default start) Start ∙ ap (λ o. and_on false form o t) (lax form ts (in_default start) Start s e) ∙ ap (λ r. on_reply false r (λ c' m'. Some (stand c' m'))) n),
+      (reach-snoc false form ts t (in_default start) Start ∙ ap (λ o. and_on false form o t) (lax form ts (in_default start) Start s e)
+      ∙ ap (λ r. on_reply false r (λ c' m'. Some (stand c' m'))) n),
   not_viable form ts t start s e (ap (λ r. on_reply true r (λ c' m'. Some (stand c' m'))) n ∙ ap (λ b. if_true b (Some (stand c m))) h),
 )
 
@@ -258,4 +267,5 @@ pub goes_on : (form : DocForm) (start : InForce) (ts : List Token) (t : Token) (
     step form s.setting s.mode t.kind (leaf_of t) ≡ Go u early now c m → has_iri u ≡ true →
     reach true form (in_default start) Start (ts ++ t ∷ []) ≡ Some (stand c m)
 goes_on form start ts t s u early now c m e n h =
-    reach-snoc true form ts t (in_default start) Start ∙ ap (λ o. and_on true form o t) e ∙ ap (λ r. on_reply true r (λ c' m'. Some (stand c' m'))) n ∙ ap (λ b. if_true b (Some (stand c m))) h
+    reach-snoc true form ts t (in_default start) Start ∙ ap (λ o. and_on true form o t) e
+    ∙ ap (λ r. on_reply true r (λ c' m'. Some (stand c' m'))) n ∙ ap (λ b. if_true b (Some (stand c m))) h

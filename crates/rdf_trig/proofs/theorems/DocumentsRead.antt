@@ -16,4 +16,5 @@ documents_read form start bytes qs d w = L.document_read (language form start) b
 
 -- The same of what is refused, since no document within the limits goes on with it.
 pub refused_no_document : RefusedIsNoDocument
-refused_no_document form start bytes qs reason at y d w = L.refused_no_document (language form start) (lawful.ends (record { form = form; start = start })) bytes qs reason at y d w
+refused_no_document form start bytes qs reason at y d w =
+    L.refused_no_document (language form start) (lawful.ends (record { form = form; start = start })) bytes qs reason at y d w

@@ -57,11 +57,16 @@ front_below (q ∷ qs) m k r = ⊎_elim (below (front_below qs q.mark k r.1)) af
   where
     below : (rest : List Quad) × (unmarked qs ≡ items_below k qs ++ rest) → q.mark < k →
         (rest : List Quad) × (unmarked (q ∷ qs) ≡ items_below k (q ∷ qs) ++ rest)
-    below ih l = (ih.0, ap (λ x. q.item ∷ x) ih.1 ∙ sym (ap (λ x. x ++ ih.0) (cond-true (nat_lt q.mark k) (q.item ∷ items_below k qs) (items_below k qs) (lt-ltb _ _ l))))
+    below ih l = (
+      ih.0,
+      ap (λ x. q.item ∷ x) ih.1
+          ∙ sym (ap (λ x. x ++ ih.0) (cond-true (nat_lt q.mark k) (q.item ∷ items_below k qs) (items_below k qs) (lt-ltb _ _ l))),
+    )
 
     after : k ≤ q.mark → (rest : List Quad) × (unmarked (q ∷ qs) ≡ items_below k (q ∷ qs) ++ rest)
     after l =
-        let e : items_below k (q ∷ qs) ≡ [] = cond-false (nat_lt q.mark k) (q.item ∷ items_below k qs) (items_below k qs) (le-ltb _ _ l) ∙ none_below qs q.mark k l r.1 in
+        let e : items_below k (q ∷ qs) ≡ [] = cond-false (nat_lt q.mark k) (q.item ∷ items_below k qs) (items_below k qs) (le-ltb _ _ l)
+        ∙ none_below qs q.mark k l r.1 in
         (unmarked (q ∷ qs), sym (ap (λ x. x ++ unmarked (q ∷ qs)) e))
 
 -- the law of due quads that begin a document's

@@ -65,7 +65,8 @@ bound_reached form [] us c m es r b = (stand c m, refl)
 bound_reached form (t ∷ ts) us c m es r b = by (step form c m t.kind (leaf_of t)) r (λ c' m' fs a b. bound_reached form ts us c' m' fs a b)
   where
     by : (x : Reply) → fronted (waiting c m t.kind (leaf_of t)) (go_on t x (λ c' m'. run form c' m' (ts ++ us))) ≡ Some es →
-        ((c' : Setting) (m' : Mode) (fs : List Event) → run form c' m' (ts ++ us) ≡ Some fs → BoundFront (length ts) fs → (s : Stand) × (reach true form c' m' ts ≡ Some s)) →
+        ((c' : Setting) (m' : Mode) (fs : List Event) → run form c' m' (ts ++ us) ≡ Some fs → BoundFront (length ts) fs →
+        (s : Stand) × (reach true form c' m' ts ≡ Some s)) →
         (s : Stand) × (on_reply true x (λ c' m'. reach true form c' m' ts) ≡ Some s)
     by No r ih = absurd (let z : None ≡ Some es = r in cc)
     by (Go u early now c' m') r ih =
@@ -96,7 +97,8 @@ viable_bound form start ts = record {
 pub settled : (form : DocForm) (start : InForce) (ahead : List Token) (t : Token) (u v : Use) → InTree form start ahead t u → InTree form start ahead t v →
     u ≡ v
 settled form start ahead t u v p q =
-    let told : tokens (document_events start p.tree) ≡ ahead ++ t ∷ tokens p.rest = ap tokens p.events ∙ tokens_after p.front t u p.rest ∙ ap (λ x. x ++ t ∷ tokens p.rest) p.read in
+    let told : tokens (document_events start p.tree) ≡ ahead ++ t ∷ tokens p.rest =
+    ap tokens p.events ∙ tokens_after p.front t u p.rest ∙ ap (λ x. x ++ t ∷ tokens p.rest) p.read in
     let all = any_passing (document_events start p.tree) in
     let s = begins_reached false form ahead start (p.tree, t ∷ tokens p.rest, told, all) in
     let n = begins_reached false form (ahead ++ t ∷ []) start (p.tree, tokens p.rest, told ∙ sym (append_assoc ahead (t ∷ []) (tokens p.rest)), all) in
@@ -106,4 +108,5 @@ settled form start ahead t u v p q =
     by : (s n : Stand) → reach false form (in_default start) Start ahead ≡ Some s → (r : Reply) → step form s.setting s.mode t.kind (leaf_of t) ≡ r →
         on_reply false r (λ c' m'. Some (stand c' m')) ≡ Some n → u ≡ v
     by s n e No h z = absurd (let y : None ≡ Some n = z in cc)
-    by s n e (Go x early now c m) h z = same_sense false form start ahead t s x u early now c m e h p ∙ sym (same_sense false form start ahead t s x v early now c m e h q)
+    by s n e (Go x early now c m) h z = same_sense false form start ahead t s x u early now c m e h p
+        ∙ sym (same_sense false form start ahead t s x v early now c m e h q)

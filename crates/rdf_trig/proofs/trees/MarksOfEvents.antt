@@ -88,17 +88,27 @@ one_token n j early q rest e = marked_both early q (n + 1) rest ∙ ap (λ k. ma
 -- the quad of a literal has the number of its last token, and one that waited that of its first
 literal_marks : (x : Literal) (s : InForce) (n j : ℕ) (early q : Option Quad) (rest : List Event) → j ≡ n + length (literal_tokens x) →
     Behind n j early q (literal_events s x early q rest) rest
-literal_marks (rdf (plain w)) s n j early q rest e = string_marks w n (give early (give q rest)) ∙ one_token n j early q rest (e ∙ ap (λ k. n + k) (string_one w))
+literal_marks (rdf (plain w)) s n j early q rest e =
+    string_marks w n (give early (give q rest)) ∙ one_token n j early q rest (e ∙ ap (λ k. n + k) (string_one w))
 literal_marks (rdf (tagged w t)) s n j early q rest e =
     let size : n + 1 + 1 ≡ j = omega (arith, e, length-append (string_tokens w) (tag_tokens t), string_one w, tag_one t) in
     string_marks w n (give early (tag_events t (give q rest)))
     ∙ marked_give early (n + 1) (tag_events t (give q rest))
-    ∙ ap (λ x. marked_at (n + 1) early ++ x) (tag_marks t (n + 1) (give q rest) ∙ marked_give q (n + 1 + 1) rest ∙ ap (λ k. marked_at k q ++ event_quads k rest) size)
+    ∙ ap (λ x. marked_at (n + 1) early ++ x) (tag_marks t (n + 1) (give q rest) ∙ marked_give q (n + 1 + 1) rest
+    ∙ ap (λ k. marked_at k q ++ event_quads k rest) size)
 literal_marks (rdf (typed w c i)) s n j early q rest e =
-    let size : n + 1 + 1 + 1 ≡ j = omega (arith, e, length-append (string_tokens w ++ token Carets c ∷ []) (iri_tokens i), length-append (string_tokens w) (token Carets c ∷ []), string_one w, iri_one i) in
+    let size : n + 1 + 1 + 1 ≡ j = omega (
+      arith,
+      e,
+      length-append (string_tokens w ++ token Carets c ∷ []) (iri_tokens i),
+      length-append (string_tokens w) (token Carets c ∷ []),
+      string_one w,
+      iri_one i,
+    ) in
     string_marks w n (give early (take Carets c (iri_events s i (give q rest))))
     ∙ marked_give early (n + 1) (take Carets c (iri_events s i (give q rest)))
-    ∙ ap (λ x. marked_at (n + 1) early ++ x) (iri_marks i s (n + 1 + 1) (give q rest) ∙ marked_give q (n + 1 + 1 + 1) rest ∙ ap (λ k. marked_at k q ++ event_quads k rest) size)
+    ∙ ap (λ x. marked_at (n + 1) early ++ x) (iri_marks i s (n + 1 + 1) (give q rest) ∙ marked_give q (n + 1 + 1 + 1) rest
+    ∙ ap (λ k. marked_at k q ++ event_quads k rest) size)
 literal_marks (numeric (integer l)) s n j early q rest e = one_token n j early q rest e
 literal_marks (numeric (decimal l)) s n j early q rest e = one_token n j early q rest e
 literal_marks (numeric (double l)) s n j early q rest e = one_token n j early q rest e
@@ -108,14 +118,16 @@ literal_marks (boolean (false_word l)) s n j early q rest e = one_token n j earl
 -- the quad of a blank node has the number of its first token, also where it is ANON
 blank_marks : (b : BlankNode) (n j : ℕ) (early q : Option Quad) (rest : List Event) → j ≡ n + length (blank_tokens b) →
     event_quads n (blank_object_events b early q rest) ≡ marked_at (n + 1) early ++ (marked_at (n + 1) q ++ event_quads j rest)
-blank_marks (label l) n j early q rest e = marked_both early q (n + 1) rest ∙ ap (λ k. marked_at (n + 1) early ++ (marked_at (n + 1) q ++ event_quads k rest)) (sym e)
+blank_marks (label l) n j early q rest e =
+    marked_both early q (n + 1) rest ∙ ap (λ k. marked_at (n + 1) early ++ (marked_at (n + 1) q ++ event_quads k rest)) (sym e)
 blank_marks (anon l r) n j early q rest e =
     let size : n + 1 + 1 ≡ j = omega (arith, e) in
     marked_both early q (n + 1) (take CloseBracket r rest) ∙ ap (λ k. marked_at (n + 1) early ++ (marked_at (n + 1) q ++ event_quads k rest)) size
 
 -- what an object gives, where j tokens are after it
 abbrev ObjectMarks : Setting → ℕ → ℕ → Option term.Subject → Option (List ℕ) → Option Quad → Object → List Event → Type 0
-ObjectMarks c n j s p early o rest = event_quads n (object_events c o s p early rest) ≡ marked_at (n + 1) early ++ (own_quad c n s p o ++ (inner_quads c n o ++ event_quads j rest))
+ObjectMarks c n j s p early o rest = event_quads n (object_events c o s p early rest) ≡ marked_at (n + 1) early
+    ++ (own_quad c n s p o ++ (inner_quads c n o ++ event_quads j rest))
 
 mutual
   object_marks : (o : Object) (c : Setting) (n j : ℕ) (s : Option term.Subject) (p : Option (List ℕ)) (early : Option Quad) (rest : List Event) →
@@ -135,7 +147,8 @@ mutual
       event_quads n (collection_events c x early q rest) ≡ marked_at (n + 1) early ++ (marked_at (n + 1) q ++ (collection_quads c n x ++ event_quads j rest))
   collection_marks (collection l os r) c n j early q rest e =
       marked_both early q (n + 1) (items_events c os r rest)
-      ∙ ap (λ x. marked_at (n + 1) early ++ (marked_at (n + 1) q ++ x)) (items_marks os c (n + 1) j r rest (omega (arith, e, length-append (items_tokens os) (token CloseParen r ∷ []))))
+      ∙ ap (λ x. marked_at (n + 1) early ++ (marked_at (n + 1) q ++ x))
+      (items_marks os c (n + 1) j r rest (omega (arith, e, length-append (items_tokens os) (token CloseParen r ∷ []))))
 
   items_marks : (os : Items) (c : Setting) (n j : ℕ) (r : Leaf) (rest : List Event) → j ≡ n + length (items_tokens os) + 1 →
       event_quads n (items_events c os r rest) ≡ items_quads c n os ++ event_quads j rest
@@ -143,17 +156,20 @@ mutual
   items_marks (item o os) c n j r rest e =
       let i = n + length (object_tokens o) in
       object_marks o c n i (node (cell_of o)) (Some (known_chars RdfFirst)) None (rest_events c os (cell_of o) r rest) refl
-      ∙ ap (λ x. first_quad c n o ++ (inner_quads c n o ++ x)) (rest_marks os c i j (cell_of o) r rest (omega (arith, e, length-append (object_tokens o) (items_tokens os))))
+      ∙ ap (λ x. first_quad c n o ++ (inner_quads c n o ++ x))
+      (rest_marks os c i j (cell_of o) r rest (omega (arith, e, length-append (object_tokens o) (items_tokens os))))
       ∙ simp append_assoc
 
   rest_marks : (os : Items) (c : Setting) (n j : ℕ) (cell : Node) (r : Leaf) (rest : List Event) → j ≡ n + length (items_tokens os) + 1 →
       event_quads n (rest_events c os cell r rest) ≡ marked_at (n + 1) (rest_quad c cell (items_of os)) ++ (items_quads c n os ++ event_quads j rest)
-  rest_marks no_items c n j cell r rest e = marked_give (rest_quad c cell (items_of no_items)) (n + 1) rest ∙ moved (marked_at (n + 1) (rest_quad c cell (items_of no_items))) (n + 1) j rest (omega (arith, e))
+  rest_marks no_items c n j cell r rest e = marked_give (rest_quad c cell (items_of no_items)) (n + 1) rest
+      ∙ moved (marked_at (n + 1) (rest_quad c cell (items_of no_items))) (n + 1) j rest (omega (arith, e))
   rest_marks (item o os) c n j cell r rest e =
       let i = n + length (object_tokens o) in
       let q = rest_quad c cell (items_of (item o os)) in
       object_marks o c n i (node (cell_of o)) (Some (known_chars RdfFirst)) q (rest_events c os (cell_of o) r rest) refl
-      ∙ ap (λ x. marked_at (n + 1) q ++ (first_quad c n o ++ (inner_quads c n o ++ x))) (rest_marks os c i j (cell_of o) r rest (omega (arith, e, length-append (object_tokens o) (items_tokens os))))
+      ∙ ap (λ x. marked_at (n + 1) q ++ (first_quad c n o ++ (inner_quads c n o ++ x)))
+      (rest_marks os c i j (cell_of o) r rest (omega (arith, e, length-append (object_tokens o) (items_tokens os))))
       ∙ simp append_assoc
 
   list_marks : (x : BlankNodePropertyList) (c : Setting) (n j : ℕ) (early q : Option Quad) (rest : List Event) → j ≡ n + length (list_tokens x) →
@@ -163,7 +179,8 @@ mutual
       marked_both early q (n + 1) (predicates_events c ps (node (anon_at l)) (take CloseBracket r rest))
       ∙ ap (λ x. marked_at (n + 1) early ++ (marked_at (n + 1) q ++ x))
       (predicates_marks ps c (n + 1) i (node (anon_at l)) (take CloseBracket r rest) refl
-      ∙ moved (predicates_quads c (n + 1) (node (anon_at l)) ps) (i + 1) j rest (omega (arith, e, length-append (predicates_tokens ps) (token CloseBracket r ∷ []))))
+      ∙ moved (predicates_quads c (n + 1) (node (anon_at l)) ps) (i + 1) j rest
+      (omega (arith, e, length-append (predicates_tokens ps) (token CloseBracket r ∷ []))))
 
   predicates_marks : (ps : PredicateObjectList) (c : Setting) (n j : ℕ) (s : Option term.Subject) (rest : List Event) → j ≡ n + length (predicates_tokens ps) →
       event_quads n (predicates_events c ps s rest) ≡ predicates_quads c n s ps ++ event_quads j rest
@@ -172,7 +189,13 @@ mutual
       verb_marks v c.scope n (objects_events c os s (verb_of c.scope v) (more_events c m s rest))
       ∙ objects_marks os c (n + 1) i s (verb_of c.scope v) (more_events c m s rest) refl
       ∙ ap (λ x. objects_quads c (n + 1) s (verb_of c.scope v) os ++ x)
-      (more_marks m c i j s rest (omega (arith, e, verb_one v, length-append (verb_tokens v ++ objects_tokens os) (more_tokens m), length-append (verb_tokens v) (objects_tokens os))))
+      (more_marks m c i j s rest (omega (
+        arith,
+        e,
+        verb_one v,
+        length-append (verb_tokens v ++ objects_tokens os) (more_tokens m),
+        length-append (verb_tokens v) (objects_tokens os),
+      )))
       ∙ sym (append_assoc (objects_quads c (n + 1) s (verb_of c.scope v) os) (more_quads c i s m) (event_quads j rest))
 
   more_marks : (m : More) (c : Setting) (n j : ℕ) (s : Option term.Subject) (rest : List Event) → j ≡ n + length (more_tokens m) →
@@ -186,7 +209,13 @@ mutual
       ∙ ap (λ k. event_quads k (objects_events c os s (verb_of c.scope v) (more_events c m s rest))) two
       ∙ objects_marks os c (n + 2) i s (verb_of c.scope v) (more_events c m s rest) refl
       ∙ ap (λ x. objects_quads c (n + 2) s (verb_of c.scope v) os ++ x)
-      (more_marks m c i j s rest (omega (arith, e, verb_one v, length-append (verb_tokens v ++ objects_tokens os) (more_tokens m), length-append (verb_tokens v) (objects_tokens os))))
+      (more_marks m c i j s rest (omega (
+        arith,
+        e,
+        verb_one v,
+        length-append (verb_tokens v ++ objects_tokens os) (more_tokens m),
+        length-append (verb_tokens v) (objects_tokens os),
+      )))
       ∙ sym (append_assoc (objects_quads c (n + 2) s (verb_of c.scope v) os) (more_quads c i s m) (event_quads j rest))
 
   objects_marks : (os : ObjectList) (c : Setting) (n j : ℕ) (s : Option term.Subject) (p : Option (List ℕ)) (rest : List Event) →
@@ -195,7 +224,8 @@ mutual
   objects_marks (objects o os) c n j s p rest e =
       let i = n + length (object_tokens o) in
       object_marks o c n i s p None (commas_events c os s p rest) refl
-      ∙ ap (λ x. own_quad c n s p o ++ (inner_quads c n o ++ x)) (commas_marks os c i j s p rest (omega (arith, e, length-append (object_tokens o) (commas_tokens os))))
+      ∙ ap (λ x. own_quad c n s p o ++ (inner_quads c n o ++ x))
+      (commas_marks os c i j s p rest (omega (arith, e, length-append (object_tokens o) (commas_tokens os))))
       ∙ simp append_assoc
 
   commas_marks : (os : Commas) (c : Setting) (n j : ℕ) (s : Option term.Subject) (p : Option (List ℕ)) (rest : List Event) → j ≡ n + length (commas_tokens os) →
@@ -204,7 +234,8 @@ mutual
   commas_marks (comma l o os) c n j s p rest e =
       let i = n + 1 + length (object_tokens o) in
       object_marks o c (n + 1) i s p None (commas_events c os s p rest) refl
-      ∙ ap (λ x. own_quad c (n + 1) s p o ++ (inner_quads c (n + 1) o ++ x)) (commas_marks os c i j s p rest (omega (arith, e, length-append (object_tokens o) (commas_tokens os))))
+      ∙ ap (λ x. own_quad c (n + 1) s p o ++ (inner_quads c (n + 1) o ++ x))
+      (commas_marks os c i j s p rest (omega (arith, e, length-append (object_tokens o) (commas_tokens os))))
       ∙ simp append_assoc
 
 -- the quads of a predicate list that may be left out
@@ -253,11 +284,18 @@ block_marks : (b : TriplesBlock) (c : Setting) (n j : ℕ) (rest : List Event) �
 block_marks (last t) c n j rest e = triples_marks t c n j rest e
 block_marks (last_dot t d) c n j rest e =
     let i = n + length (triples_tokens t) in
-    triples_marks t c n i (take Dot d rest) refl ∙ dotted (triples_quads c n t) n i j Dot d rest (omega (arith, e, length-append (triples_tokens t) (token Dot d ∷ [])))
+    triples_marks t c n i (take Dot d rest) refl ∙ dotted (triples_quads c n t) n i j Dot d rest
+    (omega (arith, e, length-append (triples_tokens t) (token Dot d ∷ [])))
 block_marks (dot t d b) c n j rest e =
     let i = n + length (triples_tokens t) in
     triples_marks t c n i (take Dot d (block_events c b rest)) refl
-    ∙ ap (λ y. triples_quads c n t ++ y) (block_marks b c (i + 1) j rest (omega (arith, e, length-append (triples_tokens t ++ token Dot d ∷ []) (block_tokens b), length-append (triples_tokens t) (token Dot d ∷ []))))
+    ∙ ap (λ y. triples_quads c n t ++ y)
+    (block_marks b c (i + 1) j rest (omega (
+      arith,
+      e,
+      length-append (triples_tokens t ++ token Dot d ∷ []) (block_tokens b),
+      length-append (triples_tokens t) (token Dot d ∷ []),
+    )))
     ∙ sym (append_assoc (triples_quads c n t) (block_quads c (i + 1) b) (event_quads j rest))
 
 -- the quads of a block that may be empty
@@ -301,7 +339,12 @@ body_marks TriG (triples2 (list_triples2 x ps d)) s n j rest e =
     ∙ ap (λ y. list_quads c n x ++ y) (maybe_marks ps c i k (Some (list_of x)) (take Dot d rest) refl)
     ∙ sym (append_assoc (list_quads c n x) (maybe_quads c i (Some (list_of x)) ps) (event_quads k (take Dot d rest)))
     ∙ dotted (list_quads c n x ++ maybe_quads c i (Some (list_of x)) ps) n k j Dot d rest
-    (omega (arith, e, length-append (list_tokens x ++ maybe_tokens predicates_tokens ps) (token Dot d ∷ []), length-append (list_tokens x) (maybe_tokens predicates_tokens ps)))
+    (omega (
+      arith,
+      e,
+      length-append (list_tokens x ++ maybe_tokens predicates_tokens ps) (token Dot d ∷ []),
+      length-append (list_tokens x) (maybe_tokens predicates_tokens ps),
+    ))
 body_marks TriG (triples2 (collection_triples2 x ps d)) s n j rest e =
     let c = in_default s in
     let i = n + length (collection_tokens x) in
@@ -310,7 +353,12 @@ body_marks TriG (triples2 (collection_triples2 x ps d)) s n j rest e =
     ∙ ap (λ y. collection_quads c n x ++ y) (predicates_marks ps c i k (Some (collection_of x)) (take Dot d rest) refl)
     ∙ sym (append_assoc (collection_quads c n x) (predicates_quads c i (Some (collection_of x)) ps) (event_quads k (take Dot d rest)))
     ∙ dotted (collection_quads c n x ++ predicates_quads c i (Some (collection_of x)) ps) n k j Dot d rest
-    (omega (arith, e, length-append (collection_tokens x ++ predicates_tokens ps) (token Dot d ∷ []), length-append (collection_tokens x) (predicates_tokens ps)))
+    (omega (
+      arith,
+      e,
+      length-append (collection_tokens x ++ predicates_tokens ps) (token Dot d ∷ []),
+      length-append (collection_tokens x) (predicates_tokens ps),
+    ))
 body_marks TriG (graph_word l x w) s n j rest e =
     let i = n + 1 + length (label_tokens x) in
     let c = in_graph s (label_of s x) in

@@ -70,7 +70,8 @@ bind_bound (e ∷ es) p i q = by (equal p e.0) refl (bind_bound es p i q)
         ∙ once (equal p q) (equal q e.0) (Some i) (Some e.1) (bound_to es q) (λ a. equal-from p q (equal-true p e.0 h ∙ sym (equal-true q e.0 a)))
     by false h ih =
         ap (cond (equal q e.0) (Some e.1)) ih
-        ∙ swap (equal q e.0) (equal p q) (Some e.1) (Some i) (bound_to es q) (λ a b. let z : true ≡ false = sym (equal-from p e.0 (equal-true p q b ∙ equal-true q e.0 a)) ∙ h in cc)
+        ∙ swap (equal q e.0) (equal p q) (Some e.1) (Some i) (bound_to es q)
+        (λ a b. let z : true ≡ false = sym (equal-from p e.0 (equal-true p q b ∙ equal-true q e.0 a)) ∙ h in cc)
 
 -- a binding of a new prefix makes the list one longer
 pub bind_length : (es : List (List ℕ × List ℕ)) (p i : List ℕ) → length (bind es p i) ≡ length es + cond (is_some (bound_to es p)) 0 1

@@ -42,5 +42,6 @@ same_binding s t u p i h b =
       base = b.base ∙ h.base;
       limits = b.limits ∙ h.limits;
       bound = λ q. b.bound q ∙ ap (cond (equal p q) (Some i)) (h.bound q) ∙ sym (c.bound q);
-      count = b.count ∙ ap (λ n. n + cond (is_some (bound_to s.bindings p)) 0 1) h.count ∙ ap (λ o. length t.bindings + cond (is_some o) 0 1) (h.bound p) ∙ sym c.count;
+      count = b.count ∙ ap (λ n. n + cond (is_some (bound_to s.bindings p)) 0 1) h.count
+          ∙ ap (λ o. length t.bindings + cond (is_some o) 0 1) (h.bound p) ∙ sym c.count;
     }

@@ -51,7 +51,13 @@ gave_first q s = record { front = Gave q ∷ s.front; sense = s.sense; rest = s.
 
 -- events can be split at a token, if those after a first token can
 took_first : (x : Token) (v : Use) {es : List Event} {ts : List Token} {t : Token} → Split es ts t → Split (Took x v ∷ es) (x ∷ ts) t
-took_first x v s = record { front = Took x v ∷ s.front; sense = s.sense; rest = s.rest; events = ap (λ y. Took x v ∷ y) s.events; read = ap (λ y. x ∷ y) s.read }
+took_first x v s = record {
+  front = Took x v ∷ s.front;
+  sense = s.sense;
+  rest = s.rest;
+  events = ap (λ y. Took x v ∷ y) s.events;
+  read = ap (λ y. x ∷ y) s.read;
+}
 
 -- events can be split at each of their tokens
 split : (es : List Event) (ts : List Token) (t : Token) (us : List Token) → tokens es ≡ ts ++ t ∷ us → Split es ts t
@@ -82,7 +88,8 @@ sense_run : (strict : Bool) (form : DocForm) (ts : List Token) (t : Token) (us :
     sense_at (length ts) es ≡ Some u
 sense_run strict form [] t us c m es s u early now c1 m1 r e n =
     let z : stand c m ≡ s = cc in
-    let n1 : step form c m t.kind (leaf_of t) ≡ Go u early now c1 m1 = subst (λ x. step form (Stand.setting x) (Stand.mode x) t.kind (leaf_of t) ≡ Go u early now c1 m1) (sym z) n in
+    let n1 : step form c m t.kind (leaf_of t) ≡ Go u early now c1 m1 =
+    subst (λ x. step form (Stand.setting x) (Stand.mode x) t.kind (leaf_of t) ≡ Go u early now c1 m1) (sym z) n in
     let r1 = sym (ap (λ x. fronted (waiting c m t.kind (leaf_of t)) (go_on t x (λ c' m'. run form c' m' us))) n1) ∙ r in
     let x = unput (waiting c m t.kind (leaf_of t)) t u early now (run form c1 m1 us) es r1 in
     first_sense (waiting c m t.kind (leaf_of t)) t u early now x.0 es x.2
@@ -95,7 +102,8 @@ sense_run strict form (y ∷ ts) t us c m es s u early now c1 m1 r e n =
 
     by : (x : Reply) → fronted (waiting c m y.kind (leaf_of y)) (go_on y x (λ c' m'. run form c' m' (ts ++ t ∷ us))) ≡ Some es →
         on_reply strict x (λ c' m'. reach strict form c' m' ts) ≡ Some s →
-        ((c' : Setting) (m' : Mode) (fs : List Event) → run form c' m' (ts ++ t ∷ us) ≡ Some fs → reach strict form c' m' ts ≡ Some s → sense_at (length ts) fs ≡ Some u) →
+        ((c' : Setting) (m' : Mode) (fs : List Event) → run form c' m' (ts ++ t ∷ us) ≡ Some fs → reach strict form c' m' ts ≡ Some s →
+        sense_at (length ts) fs ≡ Some u) →
         sense_at (suc (length ts)) es ≡ Some u
     by No r e ih = absurd (let z : None ≡ Some s = e in cc)
     by (Go v e1 n1 c' m') r e ih =
@@ -108,9 +116,12 @@ pub same_sense : (strict : Bool) (form : DocForm) (start : InForce) (ts : List T
     reach strict form (in_default start) Start ts ≡ Some s → step form s.setting s.mode t.kind (leaf_of t) ≡ Go u early now c m →
     InTree form start ts t v → v ≡ u
 same_sense strict form start ts t s u v early now c m e n p =
-    let told : tokens (document_events start p.tree) ≡ ts ++ t ∷ tokens p.rest = ap tokens p.events ∙ tokens_after p.front t v p.rest ∙ ap (λ x. x ++ t ∷ tokens p.rest) p.read in
-    let a = sense_run strict form ts t (tokens p.rest) (in_default start) Start (document_events start p.tree) s u early now c m (run_tree strict form p.tree start (ts ++ t ∷ tokens p.rest) told) e n in
-    let b : sense_at (length ts) (document_events start p.tree) ≡ Some v = ap (λ x. sense_at (length ts) x) p.events ∙ ap (λ x. sense_at (length x) (p.front ++ Took t v ∷ p.rest)) (sym p.read) ∙ sense_after p.front t v p.rest in
+    let told : tokens (document_events start p.tree) ≡ ts ++ t ∷ tokens p.rest =
+    ap tokens p.events ∙ tokens_after p.front t v p.rest ∙ ap (λ x. x ++ t ∷ tokens p.rest) p.read in
+    let a = sense_run strict form ts t (tokens p.rest) (in_default start) Start (document_events start p.tree) s u early now c m
+    (run_tree strict form p.tree start (ts ++ t ∷ tokens p.rest) told) e n in
+    let b : sense_at (length ts) (document_events start p.tree) ≡ Some v = ap (λ x. sense_at (length ts) x) p.events
+    ∙ ap (λ x. sense_at (length x) (p.front ++ Took t v ∷ p.rest)) (sym p.read) ∙ sense_after p.front t v p.rest in
     let z : Some v ≡ Some u = sym b ∙ a in
     cc
 
@@ -132,7 +143,8 @@ pub in_tree : (form : DocForm) (start : InForce) (ts : List Token) (t : Token) (
     step form s.setting s.mode t.kind (leaf_of t) ≡ Go u early now c m → InTree form start ts t u
 in_tree form start ts t s u early now c m e n =
     let f = lax form ts (in_default start) Start s e in
-    let g = reach-snoc false form ts t (in_default start) Start ∙ ap (λ o. and_on false form o t) f ∙ ap (λ r. on_reply false r (λ c' m'. Some (stand c' m'))) n in
+    let g = reach-snoc false form ts t (in_default start) Start ∙ ap (λ o. and_on false form o t) f
+    ∙ ap (λ r. on_reply false r (λ c' m'. Some (stand c' m'))) n in
     (placed false form start ts t s u early now c m f n (reached_begins false form (ts ++ t ∷ []) start (stand c m) g)).0
 
 -- where its name is bound there is such a document

@@ -61,12 +61,14 @@ literal_told : (x : Literal) (s : InForce) (early q : Option Quad) (rest : List 
 literal_told (rdf (plain w)) s early q rest = string_told w (give early (give q rest)) ∙ ap (λ x. string_tokens w ++ x) (give_both early q rest)
 literal_told (rdf (tagged w t)) s early q rest =
     string_told w (give early (tag_events t (give q rest)))
-    ∙ ap (λ x. string_tokens w ++ x) (tokens_give early (tag_events t (give q rest)) ∙ tag_told t (give q rest) ∙ ap (λ x. tag_tokens t ++ x) (tokens_give q rest))
+    ∙ ap (λ x. string_tokens w ++ x) (tokens_give early (tag_events t (give q rest)) ∙ tag_told t (give q rest)
+    ∙ ap (λ x. tag_tokens t ++ x) (tokens_give q rest))
     ∙ sym (append_assoc (string_tokens w) (tag_tokens t) (tokens rest))
 literal_told (rdf (typed w c i)) s early q rest =
     string_told w (give early (take Carets c (iri_events s i (give q rest))))
     ∙ ap (λ x. string_tokens w ++ x)
-    (tokens_give early (take Carets c (iri_events s i (give q rest))) ∙ ap (λ x. token Carets c ∷ x) (iri_told i s (give q rest) ∙ ap (λ x. iri_tokens i ++ x) (tokens_give q rest)))
+    (tokens_give early (take Carets c (iri_events s i (give q rest)))
+    ∙ ap (λ x. token Carets c ∷ x) (iri_told i s (give q rest) ∙ ap (λ x. iri_tokens i ++ x) (tokens_give q rest)))
     ∙ simp append_assoc
 literal_told (numeric (integer l)) s early q rest = ap (λ x. token Integer l ∷ x) (give_both early q rest)
 literal_told (numeric (decimal l)) s early q rest = ap (λ x. token Decimal l ∷ x) (give_both early q rest)
@@ -77,7 +79,8 @@ literal_told (boolean (false_word l)) s early q rest = ap (λ x. token False l �
 mutual
   object_told : (o : Object) (c : Setting) (s : Option term.Subject) (p : Option (List ℕ)) (early : Option Quad) (rest : List Event) →
       tokens (object_events c o s p early rest) ≡ object_tokens o ++ tokens rest
-  object_told (iri_object i) c s p early rest = iri_told i c.scope (give early (give (object_quad c s p (iri_object i)) rest)) ∙ ap (λ x. iri_tokens i ++ x) (give_both early (object_quad c s p (iri_object i)) rest)
+  object_told (iri_object i) c s p early rest = iri_told i c.scope (give early (give (object_quad c s p (iri_object i)) rest))
+      ∙ ap (λ x. iri_tokens i ++ x) (give_both early (object_quad c s p (iri_object i)) rest)
   object_told (blank_object b) c s p early rest = blank_told b early (object_quad c s p (blank_object b)) rest
   object_told (collection_object x) c s p early rest = collection_told x c early (object_quad c s p (collection_object x)) rest
   object_told (list_object x) c s p early rest = list_told x c early (object_quad c s p (list_object x)) rest
@@ -86,7 +89,8 @@ mutual
   collection_told : (x : Collection) (c : Setting) (early q : Option Quad) (rest : List Event) →
       tokens (collection_events c x early q rest) ≡ collection_tokens x ++ tokens rest
   collection_told (collection l os r) c early q rest =
-      ap (λ x. token OpenParen l ∷ x) (give_both early q (items_events c os r rest) ∙ items_told os c r rest ∙ sym (append_assoc (items_tokens os) (token CloseParen r ∷ []) (tokens rest)))
+      ap (λ x. token OpenParen l ∷ x) (give_both early q (items_events c os r rest) ∙ items_told os c r rest
+      ∙ sym (append_assoc (items_tokens os) (token CloseParen r ∷ []) (tokens rest)))
 
   items_told : (os : Items) (c : Setting) (r : Leaf) (rest : List Event) →
       tokens (items_events c os r rest) ≡ items_tokens os ++ token CloseParen r ∷ tokens rest
@@ -108,14 +112,16 @@ mutual
       tokens (list_events c x early q rest) ≡ list_tokens x ++ tokens rest
   list_told (property_list l ps r) c early q rest =
       ap (λ x. token OpenBracket l ∷ x)
-      (give_both early q (predicates_events c ps (node (anon_at l)) (take CloseBracket r rest)) ∙ predicates_told ps c (node (anon_at l)) (take CloseBracket r rest)
+      (give_both early q (predicates_events c ps (node (anon_at l)) (take CloseBracket r rest))
+      ∙ predicates_told ps c (node (anon_at l)) (take CloseBracket r rest)
       ∙ sym (append_assoc (predicates_tokens ps) (token CloseBracket r ∷ []) (tokens rest)))
 
   predicates_told : (ps : PredicateObjectList) (c : Setting) (s : Option term.Subject) (rest : List Event) →
       tokens (predicates_events c ps s rest) ≡ predicates_tokens ps ++ tokens rest
   predicates_told (predicate_objects v os m) c s rest =
       verb_told v c.scope (objects_events c os s (verb_of c.scope v) (more_events c m s rest))
-      ∙ ap (λ x. verb_tokens v ++ x) (objects_told os c s (verb_of c.scope v) (more_events c m s rest) ∙ ap (λ x. objects_tokens os ++ x) (more_told m c s rest))
+      ∙ ap (λ x. verb_tokens v ++ x) (objects_told os c s (verb_of c.scope v) (more_events c m s rest)
+      ∙ ap (λ x. objects_tokens os ++ x) (more_told m c s rest))
       ∙ three (verb_tokens v) (objects_tokens os) (more_tokens m) (tokens rest)
 
   more_told : (m : More) (c : Setting) (s : Option term.Subject) (rest : List Event) → tokens (more_events c m s rest) ≡ more_tokens m ++ tokens rest
@@ -124,20 +130,23 @@ mutual
   more_told (semicolon_objects l v os m) c s rest =
       ap (λ x. token Semicolon l ∷ x)
       (verb_told v c.scope (objects_events c os s (verb_of c.scope v) (more_events c m s rest))
-      ∙ ap (λ x. verb_tokens v ++ x) (objects_told os c s (verb_of c.scope v) (more_events c m s rest) ∙ ap (λ x. objects_tokens os ++ x) (more_told m c s rest))
+      ∙ ap (λ x. verb_tokens v ++ x) (objects_told os c s (verb_of c.scope v) (more_events c m s rest)
+      ∙ ap (λ x. objects_tokens os ++ x) (more_told m c s rest))
       ∙ three (verb_tokens v) (objects_tokens os) (more_tokens m) (tokens rest))
 
   objects_told : (os : ObjectList) (c : Setting) (s : Option term.Subject) (p : Option (List ℕ)) (rest : List Event) →
       tokens (objects_events c os s p rest) ≡ objects_tokens os ++ tokens rest
   objects_told (objects o os) c s p rest =
-      object_told o c s p None (commas_events c os s p rest) ∙ ap (λ x. object_tokens o ++ x) (commas_told os c s p rest) ∙ sym (append_assoc (object_tokens o) (commas_tokens os) (tokens rest))
+      object_told o c s p None (commas_events c os s p rest) ∙ ap (λ x. object_tokens o ++ x) (commas_told os c s p rest)
+      ∙ sym (append_assoc (object_tokens o) (commas_tokens os) (tokens rest))
 
   commas_told : (os : Commas) (c : Setting) (s : Option term.Subject) (p : Option (List ℕ)) (rest : List Event) →
       tokens (commas_events c os s p rest) ≡ commas_tokens os ++ tokens rest
   commas_told no_commas c s p rest = refl
   commas_told (comma l o os) c s p rest =
       ap (λ x. token Comma l ∷ x)
-      (object_told o c s p None (commas_events c os s p rest) ∙ ap (λ x. object_tokens o ++ x) (commas_told os c s p rest) ∙ sym (append_assoc (object_tokens o) (commas_tokens os) (tokens rest)))
+      (object_told o c s p None (commas_events c os s p rest) ∙ ap (λ x. object_tokens o ++ x) (commas_told os c s p rest)
+      ∙ sym (append_assoc (object_tokens o) (commas_tokens os) (tokens rest)))
 
 maybe_told : (ps : Option PredicateObjectList) (c : Setting) (s : Option term.Subject) (rest : List Event) →
     tokens (maybe_events c s ps rest) ≡ maybe_tokens predicates_tokens ps ++ tokens rest
@@ -152,10 +161,12 @@ subject_told (collection_subject x) c rest = collection_told x c None None rest
 triples_told : (t : Triples) (c : Setting) (rest : List Event) → tokens (triples_events c t rest) ≡ triples_tokens t ++ tokens rest
 triples_told (subject_triples x ps) c rest =
     let s = subject_of c.scope x in
-    subject_told x c (predicates_events c ps s rest) ∙ ap (λ y. subject_tokens x ++ y) (predicates_told ps c s rest) ∙ sym (append_assoc (subject_tokens x) (predicates_tokens ps) (tokens rest))
+    subject_told x c (predicates_events c ps s rest) ∙ ap (λ y. subject_tokens x ++ y) (predicates_told ps c s rest)
+    ∙ sym (append_assoc (subject_tokens x) (predicates_tokens ps) (tokens rest))
 triples_told (list_triples x ps) c rest =
     let s = Some (list_of x) in
-    list_told x c None None (maybe_events c s ps rest) ∙ ap (λ y. list_tokens x ++ y) (maybe_told ps c s rest) ∙ sym (append_assoc (list_tokens x) (maybe_tokens predicates_tokens ps) (tokens rest))
+    list_told x c None None (maybe_events c s ps rest) ∙ ap (λ y. list_tokens x ++ y) (maybe_told ps c s rest)
+    ∙ sym (append_assoc (list_tokens x) (maybe_tokens predicates_tokens ps) (tokens rest))
 
 label_told : (x : LabelOrSubject) (s : InForce) (rest : List Event) → tokens (label_events s x rest) ≡ label_tokens x ++ tokens rest
 label_told (iri_label i) s rest = iri_told i s rest
@@ -174,16 +185,20 @@ maybe_block_told (Some b) c rest = block_told b c rest
 
 wrapped_told : (w : WrappedGraph) (c : Setting) (rest : List Event) → tokens (wrapped_events c w rest) ≡ wrapped_tokens w ++ tokens rest
 wrapped_told (wrapped l b r) c rest =
-    ap (λ x. token OpenBrace l ∷ x) (maybe_block_told b c (take CloseBrace r rest) ∙ sym (append_assoc (maybe_tokens block_tokens b) (token CloseBrace r ∷ []) (tokens rest)))
+    ap (λ x. token OpenBrace l ∷ x) (maybe_block_told b c (take CloseBrace r rest)
+    ∙ sym (append_assoc (maybe_tokens block_tokens b) (token CloseBrace r ∷ []) (tokens rest)))
 
 -- the events of a statement or a block have the tokens that it derives
 body_told : (form : DocForm) (b : Body form) (s : InForce) (rest : List Event) → tokens (body_events form s b rest) ≡ body_tokens form b ++ tokens rest
-body_told Turtle b s rest = triples_told b.triples (in_default s) (take Dot b.dot rest) ∙ sym (append_assoc (triples_tokens b.triples) (token Dot b.dot ∷ []) (tokens rest))
+body_told Turtle b s rest = triples_told b.triples (in_default s) (take Dot b.dot rest)
+    ∙ sym (append_assoc (triples_tokens b.triples) (token Dot b.dot ∷ []) (tokens rest))
 body_told TriG (triples_or_graph (named_graph x w)) s rest =
     let c = in_graph s (label_of s x) in
-    label_told x s (wrapped_events c w rest) ∙ ap (λ y. label_tokens x ++ y) (wrapped_told w c rest) ∙ sym (append_assoc (label_tokens x) (wrapped_tokens w) (tokens rest))
+    label_told x s (wrapped_events c w rest) ∙ ap (λ y. label_tokens x ++ y) (wrapped_told w c rest)
+    ∙ sym (append_assoc (label_tokens x) (wrapped_tokens w) (tokens rest))
 body_told TriG (triples_or_graph (label_triples x ps d)) s rest =
-    label_told x s (predicates_events (in_default s) ps (label_of s x) (take Dot d rest)) ∙ ap (λ y. label_tokens x ++ y) (predicates_told ps (in_default s) (label_of s x) (take Dot d rest)) ∙ simp append_assoc
+    label_told x s (predicates_events (in_default s) ps (label_of s x) (take Dot d rest))
+    ∙ ap (λ y. label_tokens x ++ y) (predicates_told ps (in_default s) (label_of s x) (take Dot d rest)) ∙ simp append_assoc
 body_told TriG (default_graph w) s rest = wrapped_told w (in_default s) rest
 body_told TriG (triples2 (list_triples2 x ps d)) s rest =
     list_told x (in_default s) None None (maybe_events (in_default s) (Some (list_of x)) ps (take Dot d rest))
@@ -193,7 +208,8 @@ body_told TriG (triples2 (collection_triples2 x ps d)) s rest =
     ∙ ap (λ y. collection_tokens x ++ y) (predicates_told ps (in_default s) (Some (collection_of x)) (take Dot d rest)) ∙ simp append_assoc
 body_told TriG (graph_word l x w) s rest =
     let c = in_graph s (label_of s x) in
-    ap (λ y. token Graph l ∷ y) (label_told x s (wrapped_events c w rest) ∙ ap (λ y. label_tokens x ++ y) (wrapped_told w c rest) ∙ sym (append_assoc (label_tokens x) (wrapped_tokens w) (tokens rest)))
+    ap (λ y. token Graph l ∷ y) (label_told x s (wrapped_events c w rest) ∙ ap (λ y. label_tokens x ++ y) (wrapped_told w c rest)
+    ∙ sym (append_assoc (label_tokens x) (wrapped_tokens w) (tokens rest)))
 
 directive_told : (d : Directive) (s : InForce) (rest : List Event) → tokens (directive_events s d rest) ≡ directive_tokens d ++ tokens rest
 directive_told (prefix_id w p i d) s rest = refl
@@ -204,5 +220,6 @@ directive_told (sparql_base w i) s rest = refl
 -- the events of a document have its tokens, as the law of events says
 pub document_told : {form : DocForm} (d : Document form) (s : InForce) → tokens (document_events s d) ≡ document_tokens d
 document_told (end l) s = refl
-document_told (with_directive d rest) s = directive_told d s (document_events (scope_after s d) rest) ∙ ap (λ x. directive_tokens d ++ x) (document_told rest (scope_after s d))
+document_told (with_directive d rest) s = directive_told d s (document_events (scope_after s d) rest)
+    ∙ ap (λ x. directive_tokens d ++ x) (document_told rest (scope_after s d))
 document_told {form} (with_body b rest) s = body_told form b s (document_events s rest) ∙ ap (λ x. body_tokens form b ++ x) (document_told rest s)

@@ -22,6 +22,8 @@ returns-in-Err-convert_skipping-clause-none g c =
       evidence = _;
       none = c.none.ensures;
       unasked = refl;
-      reported = broken_among (g.E.Drain.contents c.args.err.now) (g.E.Drain.contents err) (g.E.Drain.has_failed err) how.explain (g.D.Drain.has_failed drain) how.document.now how.output.now how.bad.now
-          _ _ _ _ _ _ stop _ (λ why tells. (source, refl, tells)) (λ why tells. (drain, refl, tells)) (λ why tells. (bad, refl, tells)) c.tell_stop_aside.ensures;
+      reported = broken_among (g.E.Drain.contents c.args.err.now) (g.E.Drain.contents err) (g.E.Drain.has_failed err) how.explain
+          (g.D.Drain.has_failed drain) how.document.now how.output.now how.bad.now
+          _ _ _ _ _ _ stop _ (λ why tells. (source, refl, tells)) (λ why tells. (drain, refl, tells))
+          (λ why tells. (bad, refl, tells)) c.tell_stop_aside.ensures;
     })

@@ -10,7 +10,8 @@ pub returns-in-Ok-keep : goal.returns-in-Ok-keep
 returns-in-Ok-keep g c =
     let s = c.in-Ok-put_aside.summary in
     let err = c.tell_counts.new.err in
-    let reported = subst (λ e. ReportsCounts s (g.E.Drain.contents e) (g.E.Drain.contents err) (g.E.Drain.has_failed err)) c.in-Ok-put_aside.ensures.untold c.tell_counts.ensures.reported in
+    let reported = subst (λ e. ReportsCounts s (g.E.Drain.contents e) (g.E.Drain.contents err) (g.E.Drain.has_failed err))
+    c.in-Ok-put_aside.ensures.untold c.tell_counts.ensures.reported in
     inl (
       g.H.Output.Drain.contents c.in-Ok.output,
       c.in-Ok.ensures.empty,
@@ -21,7 +22,10 @@ returns-in-Ok-keep g c =
 pub returns-in-Err-keep : goal.returns-in-Err-keep
 returns-in-Err-keep g c =
     let err = c.refuse_name.new.err in
-    let reported = subst (λ e. ReportsFailed c.args.how.now.explain (report_text Write) (device c.args.name.now (g.H.Host.has_reason c.args.host.now c.args.name.now)) (g.E.Drain.contents e) (g.E.Drain.contents err) (g.E.Drain.has_failed err)) c.in-Ok-put_aside.ensures.untold c.refuse_name.ensures.reported in
+    let reported =
+    subst (λ e. ReportsFailed c.args.how.now.explain (report_text Write)
+    (device c.args.name.now (g.H.Host.has_reason c.args.host.now c.args.name.now)) (g.E.Drain.contents e) (g.E.Drain.contents err)
+    (g.E.Drain.has_failed err)) c.in-Ok-put_aside.ensures.untold c.refuse_name.ensures.reported in
     inl (
       g.H.Output.Drain.contents c.in-Ok.output,
       c.in-Ok.ensures.empty,

@@ -23,8 +23,10 @@ returns g c =
     c.output_called.ensures ∙ ap output_called (c.as_deref-3.ensures.value ∙ ap (option_map string_bytes) c.take-output.ensures.value) in
     let output : option_map (λ s. s.now) c.as_deref-4.result ≡ output_of c.args.task =
     c.as_deref-4.ensures.value ∙ ap (option_map string_bytes) c.take-output.ensures.value in
-    aside_ends (outputs_of g.H.Host c.args.host.now (drain_tells g.H.Output.Drain g.H.Output.Explains)) (devices_of g.I.Source g.I.Explains g.O.Drain g.O.Explains) c.args.bad.now c.args.task _ _ _ (told g.I.Source c.skip_to.new.source)
-    (ending _ _ (written g.O.Drain c.skip_to.new.out) _ (written g.E.Drain c.skip_to.new.err)) h.0 h.1 c.in-Ok.job h.2 _ document _ called _ output c.skip_to.ensures
+    aside_ends (outputs_of g.H.Host c.args.host.now (drain_tells g.H.Output.Drain g.H.Output.Explains))
+    (devices_of g.I.Source g.I.Explains g.O.Drain g.O.Explains) c.args.bad.now c.args.task _ _ _ (told g.I.Source c.skip_to.new.source)
+    (ending _ _ (written g.O.Drain c.skip_to.new.out) _ (written g.E.Drain c.skip_to.new.err)) h.0 h.1 c.in-Ok.job h.2 _ document _ called _
+    output c.skip_to.ensures
 
 pub returns-in-Err : goal.returns-in-Err
 returns-in-Err g c =
@@ -35,12 +37,14 @@ returns-in-Err g c =
     let name : c.name_by.result.now ≡ name_by (option_map string_bytes c.args.task.prefixes) =
     c.name_by.ensures ∙ ap name_by (c.as_deref.ensures.value ∙ ap (option_map string_bytes) c.take-prefixes.ensures.value) in
     let told_so =
-    bindings_among old new failed c.args.task.explain c.name_by.result.now _ _ c.in-Err.fault (one_among g.I.Source g.I.Explains file) c.refuse_bindings.ensures.reported in
+    bindings_among old new failed c.args.task.explain c.name_by.result.now _ _ c.in-Err.fault
+    (one_among g.I.Source g.I.Explains file) c.refuse_bindings.ensures.reported in
     inr (record {
       fault = c.in-Err.fault;
       stops = c.in-Err.ensures.stops;
       status_is = c.refuse_bindings.ensures.status;
       unwritten = refl;
-      reported = subst (λ n. ReportsBindings c.args.task.explain (device n (OneTells (source_tells g.I.Source g.I.Explains) (option_map (told g.I.Source) file))) c.in-Err.fault old new failed)
+      reported = subst (λ n. ReportsBindings c.args.task.explain
+          (device n (OneTells (source_tells g.I.Source g.I.Explains) (option_map (told g.I.Source) file))) c.in-Err.fault old new failed)
           name told_so;
     })

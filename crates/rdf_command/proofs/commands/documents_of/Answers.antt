@@ -16,13 +16,15 @@ pub returns-in_err-document-clause-refused : goal.returns-in_err-document-clause
 returns-in_err-document-clause-refused c =
     passed_up c.from_residual.result c.in_err-document.field-0.0 _ c.from_residual.ensures.1
     (formless_among c.args.word.now _ _ _ _ c.in_err-document.field-0.0
-    (name_among c.args.names.now c.loop-name.name-index _ _ (drop_more c.args.names.now c.loop-name.name-index _ c.loop-name-test.true)) c.in_err-document.ensures.refused)
+    (name_among c.args.names.now c.loop-name.name-index _ _ (drop_more c.args.names.now c.loop-name.name-index _ c.loop-name-test.true))
+    c.in_err-document.ensures.refused)
 
 pub loop-name-preserved : goal.loop-name-preserved
 loop-name-preserved c =
     subst (λ docs. (tail : List (Form × Text)) → AreDocuments c.args.word.now (map (λ s. s.now) (drop (c.loop-name.name-index + 1) c.args.names.now)) tail
     → AreDocuments c.args.word.now (map (λ s. s.now) c.args.names.now) (further_of docs ++ tail)) (sym c.in-Ok.ensures.items)
-    (next_document c.args.word.now _ _ _ _ c.loop-name.documents.items c.in_ok-document.document (drop_more c.args.names.now c.loop-name.name-index _ c.loop-name-test.true)
+    (next_document c.args.word.now _ _ _ _ c.loop-name.documents.items c.in_ok-document.document
+    (drop_more c.args.names.now c.loop-name.name-index _ c.loop-name-test.true)
     c.in_ok-document.ensures.form c.in_ok-document.ensures.name c.loop-name.invariant)
 
 pub returns-clause-documents : goal.returns-clause-documents

@@ -19,7 +19,8 @@ returns-in-BadBase c =
     let given = c.is_given.ensures ∙ ap is_given (c.get_str.ensures ∙ first_value-rows found (codes "explain")) in
     let text = c.base_by.ensures ∙ ap base_by (c.get_str-in-BadBase.ensures ∙ first_value-rows found (codes "base")) in
     IfOk-weaker c.lines_of.result _ _
-    (λ lines h. h ∙ lines_of_base (rows_of found) c.args.fault.now c.limit_of-most.result _ (sym given ∙ c.if-not-is_given.false) c.limit_of-most.ensures c.in-BadBase.is text) c.lines_of.ensures
+    (λ lines h. h ∙ lines_of_base (rows_of found) c.args.fault.now c.limit_of-most.result _
+    (sym given ∙ c.if-not-is_given.false) c.limit_of-most.ensures c.in-BadBase.is text) c.lines_of.ensures
 
 pub returns-in-BadGraph : goal.returns-in-BadGraph
 returns-in-BadGraph c =
@@ -27,4 +28,5 @@ returns-in-BadGraph c =
     let given = c.is_given.ensures ∙ ap is_given (c.get_str.ensures ∙ first_value-rows found (codes "explain")) in
     let text = c.get_str-in-BadGraph.ensures ∙ first_value-rows found (codes "graph") in
     IfOk-weaker c.lines_of-in-BadGraph.result _ _
-    (λ lines h. h ∙ lines_of_graph (rows_of found) c.args.fault.now c.limit_of-most.result _ (sym given ∙ c.if-not-is_given.false) c.limit_of-most.ensures c.in-BadGraph.is text) c.lines_of-in-BadGraph.ensures
+    (λ lines h. h ∙ lines_of_graph (rows_of found) c.args.fault.now c.limit_of-most.result _
+    (sym given ∙ c.if-not-is_given.false) c.limit_of-most.ensures c.in-BadGraph.is text) c.lines_of-in-BadGraph.ensures

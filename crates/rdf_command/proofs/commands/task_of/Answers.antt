@@ -13,7 +13,8 @@ unwrap-word-requires c = text_given (found_of c.args.found.now) (codes "format")
 
 pub form_in-requires : goal.form_in-requires
 form_in-requires c =
-    subst IsFormatWord (sym (text_is (found_of c.args.found.now) (codes "format") _ c.get_str.result c.get_str.ensures c.requires.format.1 c.unwrap-word.result c.unwrap-word.ensures)) c.requires.format.2
+    subst IsFormatWord (sym (text_is (found_of c.args.found.now) (codes "format") _ c.get_str.result c.get_str.ensures c.requires.format.1
+    c.unwrap-word.result c.unwrap-word.ensures)) c.requires.format.2
 
 pub returns-in_err-form-clause-refused : goal.returns-in_err-form-clause-refused
 returns-in_err-form-clause-refused c =
@@ -30,7 +31,8 @@ returns-in_err-base-clause-refused c =
     let found = found_of c.args.found.now in
     let base = c.base_by.ensures ∙ ap base_by (c.get_str-3.ensures ∙ first_value-rows found (codes "base")) in
     passed_up c.from_residual-in_err-base.result c.in_err-base.field-0.0 _ c.from_residual-in_err-base.ensures.1
-    (no_task (c.args.name.now, rows_of found) c.iri.result _ c.in_err-base.field-0.0 base (c.limits_of-limits.ensures.iri ∙ ap (λ n. Some n) (sym c.iri.ensures)) c.in_err-base.ensures.bad)
+    (no_task (c.args.name.now, rows_of found) c.iri.result _ c.in_err-base.field-0.0 base
+    (c.limits_of-limits.ensures.iri ∙ ap (λ n. Some n) (sym c.iri.ensures)) c.in_err-base.ensures.bad)
 
 pub returns-in_err-node_prefix-clause-refused : goal.returns-in_err-node_prefix-clause-refused
 returns-in_err-node_prefix-clause-refused c =
@@ -44,7 +46,8 @@ returns-in_err-graph-clause-refused c =
     let found = found_of c.args.found.now in
     let graph = c.get_str-7.ensures ∙ first_value-rows found (codes "graph") in
     passed_up c.from_residual-in_err-graph.result c.in_err-graph.field-0.0 _ c.from_residual-in_err-graph.ensures.1
-    (no_graph (c.args.name.now, rows_of found) c.iri-2.result _ c.in_err-graph.field-0.0 graph (c.limits_of-limits.ensures.iri ∙ ap (λ n. Some n) (sym c.iri-2.ensures)) c.in_err-graph.ensures.bad)
+    (no_graph (c.args.name.now, rows_of found) c.iri-2.result _ c.in_err-graph.field-0.0 graph
+    (c.limits_of-limits.ensures.iri ∙ ap (λ n. Some n) (sym c.iri-2.ensures)) c.in_err-graph.ensures.bad)
 
 pub returns-clause-task : goal.returns-clause-task
 returns-clause-task c =
@@ -66,9 +69,11 @@ returns-clause-task c =
       forms = record {
         word = c.requires.format.0;
         given = c.requires.format.1;
-        form = subst (λ name. IsFormBy c.requires.format.0 name c.in_ok-form.form) first (subst (λ w. IsFormBy w c.name_by.result.now c.in_ok-form.form) format c.in_ok-form.ensures.form);
+        form = subst (λ name. IsFormBy c.requires.format.0 name c.in_ok-form.form) first
+            (subst (λ w. IsFormBy w c.name_by.result.now c.in_ok-form.form) format c.in_ok-form.ensures.form);
         more = subst (λ names. AreDocuments c.requires.format.0 names (further_of c.in_ok-more.more.items)) further
-            (subst (λ w. AreDocuments w (map (λ s. s.now) c.further_by-further.result.now) (further_of c.in_ok-more.more.items)) format c.in_ok-more.ensures.documents);
+            (subst (λ w. AreDocuments w (map (λ s. s.now) c.further_by-further.result.now) (further_of c.in_ok-more.more.items)) format
+            c.in_ok-more.ensures.documents);
       };
       base = c.in_ok-base.ensures.base ∙ ap (option_map chars) base;
       good_base = subst (λ text. IfSome text (IsBase c.limits_of-limits.result.iri)) base (rw c.iri.ensures at c.in_ok-base.ensures.good);
@@ -103,7 +108,9 @@ returns-in_err-skip-clause-refused c =
     let word = text_is found (codes "format") _ c.get_str.result c.get_str.ensures c.requires.format.1 c.unwrap-word.result c.unwrap-word.ensures in
     let first = c.name_by.ensures ∙ ap name_by (c.get_str-2.ensures ∙ first_value-rows found (codes "file")) in
     let further = c.further_by-further.ensures ∙ ap (further_by c.args.name.now) (c.get_strs.ensures ∙ raw_values-rows found (codes "file")) in
-    let form = subst (λ name. IsFormBy c.requires.format.0 name c.in_ok-form.form) first (subst (λ w. IsFormBy w c.name_by.result.now c.in_ok-form.form) word c.in_ok-form.ensures.form) in
+    let form = subst (λ name. IsFormBy c.requires.format.0 name c.in_ok-form.form) first
+    (subst (λ w. IsFormBy w c.name_by.result.now c.in_ok-form.form) word c.in_ok-form.ensures.form) in
     passed_up c.from_residual-in_err-skip.result c.in_err-skip.field-0.0 _ c.from_residual-in_err-skip.ensures.1
-    (no_skip (c.args.name.now, rows_of found) c.requires.format.0 c.in_ok-form.form _ _ c.in_err-skip.field-0.0 c.requires.format.1 form (c.get_str-12.ensures ∙ first_value-rows found (codes "skip"))
+    (no_skip (c.args.name.now, rows_of found) c.requires.format.0 c.in_ok-form.form _ _ c.in_err-skip.field-0.0 c.requires.format.1 form
+    (c.get_str-12.ensures ∙ first_value-rows found (codes "skip"))
     further c.in_err-skip.ensures.bad)

@@ -14,7 +14,11 @@ returns g c =
     inl (
       _,
       refl,
-      fate (outputs_of g.H.Host c.args.host.now (drain_tells g.H.Output.Drain g.H.Output.Explains)) (source_tells g.H.Input.Source g.H.Input.Explains) c.args.name.now c.args.task _ _ _ (g.H.Output.Drain.contents c.in-Ok.output) (written g.H.Output.Drain c.run_to_output-status.new.out)
-          (g.E.Drain.contents c.args.err.now) (told c.run_to_output-status.new.err) (told c.finish.new.err) c.in-Ok.ensures.empty c.run_to_output-status.result c.finish.result c.run_to_output-status.ensures.ends
-          (λ some. let s = c.finish.ensures.stopped some in (s.0, ap told s.1)) (λ none. let k = c.finish.ensures.kept none in (k.0, ap told k.1, k.2)) c.finish.ensures.left c.finish.ensures.unnamed,
+      fate (outputs_of g.H.Host c.args.host.now (drain_tells g.H.Output.Drain g.H.Output.Explains))
+          (source_tells g.H.Input.Source g.H.Input.Explains) c.args.name.now c.args.task _ _ _ (g.H.Output.Drain.contents c.in-Ok.output)
+          (written g.H.Output.Drain c.run_to_output-status.new.out)
+          (g.E.Drain.contents c.args.err.now) (told c.run_to_output-status.new.err) (told c.finish.new.err) c.in-Ok.ensures.empty
+          c.run_to_output-status.result c.finish.result c.run_to_output-status.ensures.ends
+          (λ some. let s = c.finish.ensures.stopped some in (s.0, ap told s.1)) (λ none. let k = c.finish.ensures.kept none in
+          (k.0, ap told k.1, k.2)) c.finish.ensures.left c.finish.ensures.unnamed,
     )

@@ -10,7 +10,8 @@ use Rattle.rdf_command.proofs.runs.run_to_output.Goals as goal
 pub returns-in-Ok-act-clause-ends : goal.returns-in-Ok-act-clause-ends
 returns-in-Ok-act-clause-ends g c =
     let h = c.in-Ok.ensures.job in
-    run_done (devices_of g.I.Source g.I.Explains g.O.Drain g.O.Explains) c.args.name.now c.args.task _ _ h.0 h.1 c.in-Ok.job h.2 _ (told g.I.Source c.act.new.source) _ _ _ _ c.act.ensures.prompt
+    run_done (devices_of g.I.Source g.I.Explains g.O.Drain g.O.Explains) c.args.name.now c.args.task _ _ h.0 h.1 c.in-Ok.job h.2 _
+    (told g.I.Source c.act.new.source) _ _ _ _ c.act.ensures.prompt
     c.in-Ok-act.ensures.accepted c.in-Ok-act.ensures.flushed
 
 pub returns-clause-ends : goal.returns-clause-ends
@@ -30,7 +31,8 @@ returns-clause-ends g c =
     let named =
     subst (λ n. ReportsStop c.args.task.explain (device n (source_tells g.I.Source g.I.Explains (told g.I.Source source)))
     (device c.args.name.now (drain_tells g.O.Drain g.O.Explains (written g.O.Drain out))) stop.fault stop.evidence old new failed) name told_so in
-    run_stopped (devices_of g.I.Source g.I.Explains g.O.Drain g.O.Explains) c.args.name.now c.args.task _ _ h.0 h.1 c.in-Ok.job h.2 _ (told g.I.Source source) _ _ _ _ c.act.ensures.prompt stop.fault _ c.status.ensures
+    run_stopped (devices_of g.I.Source g.I.Explains g.O.Drain g.O.Explains) c.args.name.now c.args.task _ _ h.0 h.1 c.in-Ok.job h.2 _
+    (told g.I.Source source) _ _ _ _ c.act.ensures.prompt stop.fault _ c.status.ensures
     c.in-Err-act.ensures.stops c.in-Err-act.ensures.sent stop.evidence c.in-Err-act.ensures.expected named
 
 pub returns-clause-untold : goal.returns-clause-untold
@@ -45,13 +47,15 @@ returns-in-Err-clause-ends g c =
     let name : c.name_by.result.now ≡ name_by (option_map string_bytes c.args.task.prefixes) =
     c.name_by.ensures ∙ ap name_by (c.as_deref.ensures.value ∙ ap (option_map string_bytes) c.take-prefixes.ensures.value) in
     let told_so =
-    bindings_among old new failed c.args.task.explain c.name_by.result.now _ _ c.in-Err.fault (one_among g.I.Source g.I.Explains file) c.refuse_bindings.ensures.reported in
+    bindings_among old new failed c.args.task.explain c.name_by.result.now _ _ c.in-Err.fault
+    (one_among g.I.Source g.I.Explains file) c.refuse_bindings.ensures.reported in
     inr (record {
       fault = c.in-Err.fault;
       stops = c.in-Err.ensures.stops;
       status_is = c.refuse_bindings.ensures.status;
       unwritten = refl;
-      reported = subst (λ n. ReportsBindings c.args.task.explain (device n (OneTells (source_tells g.I.Source g.I.Explains) (option_map (told g.I.Source) file))) c.in-Err.fault old new failed)
+      reported = subst (λ n. ReportsBindings c.args.task.explain
+          (device n (OneTells (source_tells g.I.Source g.I.Explains) (option_map (told g.I.Source) file))) c.in-Err.fault old new failed)
           name told_so;
     })
 

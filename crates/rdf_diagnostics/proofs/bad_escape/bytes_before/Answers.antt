@@ -35,7 +35,8 @@ loop-c-preserved c =
     omega (arith, l.invariant.bytes, ap length step, length-append (encode_utf8 c.in-Some.c) rest, length-encode c.in-Some.c, len) in
     let stand = c.match-moved.stand in
     let now = l.now + c.len_utf8.result in
-    let told : stop_from i (stand_of stand) (begun_at s l.begun l.now) (l.now + len_utf8 c.in-Some.c) w ≡ stop_from i (stand_of stand) c.begun_at-begun.result now w =
+    let told : stop_from i (stand_of stand) (begun_at s l.begun l.now) (l.now + len_utf8 c.in-Some.c) w ≡ stop_from i
+    (stand_of stand) c.begun_at-begun.result now w =
     ap (λ b. stop_from i (stand_of stand) b (l.now + len_utf8 c.in-Some.c) w) (sym c.begun_at-begun.ensures)
     ∙ ap (λ k. stop_from i (stand_of stand) c.begun_at-begun.result (l.now + k) w) (sym len) in
     elim c.match-moved.branch [

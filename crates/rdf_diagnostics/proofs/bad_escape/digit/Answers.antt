@@ -16,4 +16,6 @@ overflow_add-number c =
 pub returns-in-Some-clause-is : goal.returns-in-Some-clause-is
 returns-in-Some-clause-is c =
     let d = some_digit c.hex_value.result c.in-Some.value c.args.c c.in-Some.is c.hex_value.ensures.value c.hex_value.ensures.small in
-    c.after_digit.ensures.is ∙ ap step_for (sym (move_digit (inside_of c.args.is_iri) c.args.left c.args.number c.args.c c.from.result c.if-left-gt0.true d.0 (c.from.ensures ∙ d.1)))
+    c.after_digit.ensures.is
+    ∙ ap step_for (sym (move_digit (inside_of c.args.is_iri) c.args.left c.args.number c.args.c c.from.result c.if-left-gt0.true d.0
+    (c.from.ensures ∙ d.1)))

@@ -13,7 +13,8 @@ ends-init g c =
     let begun = c.in_ok-front.ensures in
     let e = c.in_ok-see_to.ensures in
     let s = c.in_ok-see_to.field-0 in
-    let seen : IsSeen (reading_from c.args.dialect c.args.limit (take c.args.known rest) false) s = by_equal c.args.dialect first.dialect c.args.limit first.limit
+    let seen : IsSeen (reading_from c.args.dialect c.args.limit (take c.args.known rest) false) s =
+    by_equal c.args.dialect first.dialect c.args.limit first.limit
     (λ d m. IsSeen (reading_from d m (take c.args.known rest) false) s) begun.dialect begun.limit e.seen in
     record {
       dialect = e.same.dialect ∙ begun.dialect;

@@ -21,5 +21,6 @@ pub returns-in-Ok-Some : goal.returns-in-Ok-Some
 returns-in-Ok-Some g c =
     let old = c.args.scanner.now in
     let new = c.next.follows.lender-at-none in
-    sees_token old new c.in-Ok-Some.token c.seen_of.result (subst (λ r. Gives old r new) (c.in-Ok-Some.is ∙ ap Ok c.in-Ok-Some.field-0-is) c.next.follows.holds-at-none)
+    sees_token old new c.in-Ok-Some.token c.seen_of.result
+    (subst (λ r. Gives old r new) (c.in-Ok-Some.is ∙ ap Ok c.in-Ok-Some.field-0-is) c.next.follows.holds-at-none)
     c.seen_of.ensures

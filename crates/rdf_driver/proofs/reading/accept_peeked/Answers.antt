@@ -8,7 +8,8 @@ use Rattle.rdf_driver.proofs.reading.accept_peeked.Goals as goal
 pub accept-requires-clause-short : goal.accept-requires-clause-short
 accept-requires-clause-short g c =
     let p = c.args.progress.now in
-    is_short g.G.Grammar.words p.scanner c.take-seen.follows.lender-at-none p.grammar p.so_far (token_of c.take-seen.result) c.requires.ready c.take-seen.follows.holds-at-none.given
+    is_short g.G.Grammar.words p.scanner c.take-seen.follows.lender-at-none p.grammar p.so_far
+    (token_of c.take-seen.result) c.requires.ready c.take-seen.follows.holds-at-none.given
 
 pub count_token-requires-clause-room : goal.count_token-requires-clause-room
 count_token-requires-clause-room g c =

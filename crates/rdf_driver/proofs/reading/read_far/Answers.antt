@@ -5,14 +5,16 @@ use Rattle.rdf_driver.proofs.reading.read_far.Goals as goal
 
 pub returns-in-None-clause-reads : goal.returns-in-None-clause-reads
 returns-in-None-clause-reads g c =
-    (runs_none g.G.Grammar.words g.G.Accepts.takes g.G.Accepts.has_failed (moment_of c.args.progress.now c.args.sink.now) c.requires.ready c.requires.live).reads
+    (runs_none g.G.Grammar.words g.G.Accepts.takes g.G.Accepts.has_failed
+    (moment_of c.args.progress.now c.args.sink.now) c.requires.ready c.requires.live).reads
 
 pub returns-in-Ok-clause-reads : goal.returns-in-Ok-clause-reads
 returns-in-Ok-clause-reads g c =
     let old = moment_of c.args.progress.now c.args.sink.now in
     let new = moment_of c.accept_far.new.progress c.accept_far.new.sink in
     let k = c.in-Ok.ensures.reads in
-    (runs_token g.G.Grammar.words g.G.Accepts.takes g.G.Accepts.has_failed old new k.0 c.requires.ready k.1 k.2 c.in-Ok.ensures.limits c.in-Ok.ensures.live).reads
+    (runs_token g.G.Grammar.words g.G.Accepts.takes g.G.Accepts.has_failed old new k.0 c.requires.ready k.1 k.2 c.in-Ok.ensures.limits
+    c.in-Ok.ensures.live).reads
 
 pub returns-in-Ok-clause-less : goal.returns-in-Ok-clause-less
 returns-in-Ok-clause-less g c = λ _. c.in-Ok.ensures.reads.1.given.less

@@ -21,7 +21,8 @@ near-preserved-in-Ok g c =
     let next = moment_of c.read_peeked.new.progress c.read_peeked.new.sink in
     let runs = c.near.invariant.0 in
     let k = c.in-Ok.ensures.reads in (
-      runs_both words takes failed first now next runs (runs_token words takes failed now next k.0 runs.reads.ready k.1 k.2 c.in-Ok.ensures.limits c.in-Ok.ensures.live),
+      runs_both words takes failed first now next runs
+          (runs_token words takes failed now next k.0 runs.reads.ready k.1 k.2 c.in-Ok.ensures.limits c.in-Ok.ensures.live),
       c.in-Ok.ensures.again,
     )
 
@@ -36,11 +37,13 @@ near-preserved g c = (
 -- nothing is seen
 pub returns-in-Nothing-clause-reads : goal.returns-in-Nothing-clause-reads
 returns-in-Nothing-clause-reads g c =
-    (runs_past g.G.Grammar.words g.G.Accepts.takes g.G.Accepts.has_failed (moment_of c.args.progress.now c.args.sink.now) (moment_of c.near.progress c.near.sink)
+    (runs_past g.G.Grammar.words g.G.Accepts.takes g.G.Accepts.has_failed (moment_of c.args.progress.now c.args.sink.now)
+    (moment_of c.near.progress c.near.sink)
     c.pass_blanks.new.self c.near.invariant.0 c.pass_blanks.ensures.passes).reads
 
 -- a comment is open
 pub returns-in-InComment-clause-reads : goal.returns-in-InComment-clause-reads
 returns-in-InComment-clause-reads g c =
-    (runs_past g.G.Grammar.words g.G.Accepts.takes g.G.Accepts.has_failed (moment_of c.args.progress.now c.args.sink.now) (moment_of c.near.progress c.near.sink)
+    (runs_past g.G.Grammar.words g.G.Accepts.takes g.G.Accepts.has_failed (moment_of c.args.progress.now c.args.sink.now)
+    (moment_of c.near.progress c.near.sink)
     c.pass_blanks.new.self c.near.invariant.0 c.pass_blanks.ensures.passes).reads

@@ -13,7 +13,8 @@ returns-in-Err-clause-reads g c =
     let first = moment_of c.args.progress.now c.args.sink.now in
     let now = moment_of c.seen.progress c.seen.sink in
     let new = c.read_near.new in
-    fails_both g.G.Grammar.words g.G.Accepts.takes g.G.Accepts.leaves g.G.Accepts.has_failed c.in-Err.reason _ _ first now new.progress.scanner new.progress.grammar
+    fails_both g.G.Grammar.words g.G.Accepts.takes g.G.Accepts.leaves g.G.Accepts.has_failed c.in-Err.reason _ _ first now
+    new.progress.scanner new.progress.grammar
     new.sink c.seen.invariant c.in-Err.ensures.reads
 
 pub returns-in-Ok-false-clause-reads : goal.returns-in-Ok-false-clause-reads
@@ -50,7 +51,8 @@ seen-preserved g c =
     let next = moment_of c.read_far.new.progress c.read_far.new.sink in
     let e = c.in-Ok-true.ensures in
     let f = c.in-Ok-true-read_far.ensures in
-    runs_after words takes failed first near next (runs_after words takes failed first now near c.seen.invariant e.reads e.limits e.live) f.reads f.limits f.live
+    runs_after words takes failed first near next (runs_after words takes failed first now near c.seen.invariant e.reads e.limits e.live)
+    f.reads f.limits f.live
 
 pub returns-in-Ok-false-read_far-clause-reads : goal.returns-in-Ok-false-read_far-clause-reads
 returns-in-Ok-false-read_far-clause-reads g c =
@@ -63,4 +65,5 @@ returns-in-Ok-false-read_far-clause-reads g c =
     let next = moment_of c.read_far.new.progress c.read_far.new.sink in
     let e = c.in-Ok-true.ensures in
     let f = c.in-Ok-false-read_far.ensures in
-    (runs_after words takes failed first near next (runs_after words takes failed first now near c.seen.invariant e.reads e.limits e.live) f.reads f.limits f.live).reads
+    (runs_after words takes failed first near next (runs_after words takes failed first now near c.seen.invariant e.reads e.limits e.live)
+    f.reads f.limits f.live).reads

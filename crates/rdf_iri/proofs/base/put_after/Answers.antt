@@ -21,11 +21,13 @@ put_onward-requires-else-as_bytes-eq47-clause-cut g c = IsCharBoundary-from_drop
 pub returns-in_ok-put : goal.returns-in_ok-put
 returns-in_ok-put g c = on_ok_weaker c.put_onward.result
     (after-first c.args.base.now c.args.reference.now _ _ c.args.root c.requires.root c.requires.path c.requires.no_scheme
-    (ap (λ x. get_or x 0 0) (sym c.as_bytes.ensures.value) ∙ c.if-as_bytes-eq47.true) (c.in_ok-put.ensures ∙ (c.range.ensures.value ∙ front-slice c.args.base.now c.args.root.first)))
+    (ap (λ x. get_or x 0 0) (sym c.as_bytes.ensures.value) ∙ c.if-as_bytes-eq47.true)
+    (c.in_ok-put.ensures ∙ (c.range.ensures.value ∙ front-slice c.args.base.now c.args.root.first)))
     c.put_onward.ensures
 
 pub returns-in_ok-put-2 : goal.returns-in_ok-put-2
 returns-in_ok-put-2 g c = on_ok_weaker c.put_onward-else-as_bytes-eq47.result
     (after-last c.args.base.now c.args.reference.now _ _ c.args.root c.requires.root c.requires.path c.requires.no_scheme
-    (λ e. c.if-as_bytes-eq47.false (ap (λ x. get_or x 0 0) c.as_bytes.ensures.value ∙ e)) (c.in_ok-put-2.ensures ∙ (c.range-else-as_bytes-eq47.ensures.value ∙ front-slice c.args.base.now c.args.root.last)))
+    (λ e. c.if-as_bytes-eq47.false (ap (λ x. get_or x 0 0) c.as_bytes.ensures.value ∙ e))
+    (c.in_ok-put-2.ensures ∙ (c.range-else-as_bytes-eq47.ensures.value ∙ front-slice c.args.base.now c.args.root.last)))
     c.put_onward-else-as_bytes-eq47.ensures

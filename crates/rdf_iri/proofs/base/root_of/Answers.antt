@@ -18,14 +18,16 @@ overflow_add-result c =
 pub overflow_add-result-2 : goal.overflow_add-result-2
 overflow_add-result-2 c =
     let e = ap (λ p. length (front_text p)) c.cut_parts-parts.ensures in
-    let n : length c.as_bytes-path.result.now ≡ length (parts_of c.args.text.now).path = ap length c.as_bytes-path.ensures.value ∙ ap (λ p. length p.path) c.cut_parts-parts.ensures in
+    let n : length c.as_bytes-path.result.now ≡ length (parts_of c.args.text.now).path =
+    ap length c.as_bytes-path.ensures.value ∙ ap (λ p. length p.path) c.cut_parts-parts.ensures in
     let l = c.directory_len-len.ensures.within in
     omega (arith, e, n, l, c.front_len-front.ensures, front-within c.args.text.now)
 
 pub overflow_add-end : goal.overflow_add-end
 overflow_add-end c =
     let e = ap (λ p. length (front_text p)) c.cut_parts-parts.ensures in
-    let n : length c.as_bytes-path.result.now ≡ length (parts_of c.args.text.now).path = ap length c.as_bytes-path.ensures.value ∙ ap (λ p. length p.path) c.cut_parts-parts.ensures in
+    let n : length c.as_bytes-path.result.now ≡ length (parts_of c.args.text.now).path =
+    ap length c.as_bytes-path.ensures.value ∙ ap (λ p. length p.path) c.cut_parts-parts.ensures in
     omega (arith, e, n, c.front_len-front.ensures, front-within c.args.text.now)
 
 pub query_len-requires : goal.query_len-requires
@@ -37,7 +39,8 @@ pub overflow_add-result-3 : goal.overflow_add-result-3
 overflow_add-result-3 c =
     let e = ap (λ p. length (front_text p)) c.cut_parts-parts.ensures in
     let q = ap (λ p. length (suffix 63 p.query)) c.cut_parts-parts.ensures in
-    let n : length c.as_bytes-path.result.now ≡ length (parts_of c.args.text.now).path = ap length c.as_bytes-path.ensures.value ∙ ap (λ p. length p.path) c.cut_parts-parts.ensures in
+    let n : length c.as_bytes-path.result.now ≡ length (parts_of c.args.text.now).path =
+    ap length c.as_bytes-path.ensures.value ∙ ap (λ p. length p.path) c.cut_parts-parts.ensures in
     omega (arith, e, n, q, c.front_len-front.ensures, c.query_len.ensures, query-within c.args.text.now)
 
 pub returns : goal.returns

@@ -8,7 +8,8 @@ use Rattle.rdf_iri.proofs.binding_lines.declaration.Goals as goal
 
 pub returns-in_err-after_keyword-in-None : goal.returns-in_err-after_keyword-in-None
 returns-in_err-after_keyword-in-None c = passed_none c.from_residual.result _ _ c.from_residual.ensures (no_word (chars c.args.text.now)
-    (λ rest e. c.in-None.ensures.cases (encode_utf8_all rest) (bytes_ascii c.after_blanks-text.result.now (codes "@prefix") rest refl c.after_blanks-text.utf8 (c.after_blanks-text.ensures ∙ e)))
+    (λ rest e. c.in-None.ensures.cases (encode_utf8_all rest)
+    (bytes_ascii c.after_blanks-text.result.now (codes "@prefix") rest refl c.after_blanks-text.utf8 (c.after_blanks-text.ensures ∙ e)))
     (λ k rest m e. c.in_err-after_keyword-in-None.ensures k rest m (c.after_blanks-text.ensures ∙ e)))
 
 pub returns-in-Some : goal.returns-in-Some

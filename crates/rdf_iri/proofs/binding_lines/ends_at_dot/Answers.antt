@@ -21,5 +21,6 @@ returns-in-None c =
     let text = c.after_blanks.result.now in
     let none = rw c.in-None.is at (strip_prefix_char 46 text c.strip_prefix.result c.strip_prefix.ensures.cases (omega arith)) in (
       λ t. absurd (false≢true t),
-      λ d. absurd (none (encode_utf8_all d.0) (bytes_ascii text (46 ∷ []) d.0 refl c.after_blanks.utf8 (c.after_blanks.ensures ∙ token_there (chars c.args.text.now) 46 [] d.0 refl d.1))),
+      λ d. absurd (none (encode_utf8_all d.0) (bytes_ascii text (46 ∷ []) d.0 refl c.after_blanks.utf8
+          (c.after_blanks.ensures ∙ token_there (chars c.args.text.now) 46 [] d.0 refl d.1))),
     )

@@ -12,13 +12,16 @@ use Rattle.rdf_iri.proofs.binding_lines.iri_in.Goals.{else-iri_text-via-then-iri
 
 pub returns-in_err-strip_prefix : goal.returns-in_err-strip_prefix
 returns-in_err-strip_prefix c = passed_none c.from_residual.result _ _ c.from_residual.ensures (λ j n b.
-    let none = rw c.in_err-strip_prefix.was at (strip_prefix_char 60 c.after_blanks.result.now c.strip_prefix.result c.strip_prefix.ensures.cases (omega arith)) in
+    let none = rw c.in_err-strip_prefix.was
+    at (strip_prefix_char 60 c.after_blanks.result.now c.strip_prefix.result c.strip_prefix.ensures.cases (omega arith)) in
     none (encode_utf8_all (j ++ 62 ∷ n))
-    (bytes_ascii c.after_blanks.result.now (60 ∷ []) (j ++ 62 ∷ n) refl c.after_blanks.utf8 (c.after_blanks.ensures ∙ iri_there (chars c.args.text.now) j n b.reference)))
+    (bytes_ascii c.after_blanks.result.now (60 ∷ []) (j ++ 62 ∷ n) refl c.after_blanks.utf8
+    (c.after_blanks.ensures ∙ iri_there (chars c.args.text.now) j n b.reference)))
 
 pub returns-then-has_scheme : goal.returns-then-has_scheme
 returns-then-has_scheme c =
-    let cut = rw c.in_ok-strip_prefix.was at (strip_prefix_char 60 c.after_blanks.result.now c.strip_prefix.result c.strip_prefix.ensures.cases (omega arith)) in
+    let cut = rw c.in_ok-strip_prefix.was
+    at (strip_prefix_char 60 c.after_blanks.result.now c.strip_prefix.result c.strip_prefix.ensures.cases (omega arith)) in
     let inside = c.in_ok-strip_prefix.field-0.now in
     let a = after_ascii c.after_blanks.result.now (60 ∷ []) inside refl c.after_blanks.utf8 cut in
     is_iri (chars c.args.text.now) inside c.cut.result.0.now c.in-Some.rest.now (sym c.after_blanks.ensures ∙ a.chars)
@@ -27,10 +30,12 @@ returns-then-has_scheme c =
 
 pub returns-else-iri_text : goal.returns-else-iri_text
 returns-else-iri_text c =
-    let cut = rw c.in_ok-strip_prefix.was at (strip_prefix_char 60 c.after_blanks.result.now c.strip_prefix.result c.strip_prefix.ensures.cases (omega arith)) in
+    let cut = rw c.in_ok-strip_prefix.was
+    at (strip_prefix_char 60 c.after_blanks.result.now c.strip_prefix.result c.strip_prefix.ensures.cases (omega arith)) in
     let inside = c.in_ok-strip_prefix.field-0.now in
     let a = after_ascii c.after_blanks.result.now (60 ∷ []) inside refl c.after_blanks.utf8 cut in
-    let m = at_mark 62 inside c.cut.result.0.now c.in-Some.rest.now (omega arith) a.utf8 c.cut.ensures.front (sym (ap text_of c.in-Some.is) ∙ c.cut.ensures.rest) in
+    let m = at_mark 62 inside c.cut.result.0.now c.in-Some.rest.now (omega arith) a.utf8 c.cut.ensures.front
+    (sym (ap text_of c.in-Some.is) ∙ c.cut.ensures.rest) in
     elim c.else-iri_text.branch [
       | else-iri_text-via-then-iri_text+else-has_scheme w ↦ λ j n b.
           let same = m.ahead ∙ (iri_cut (chars c.args.text.now) inside j n (sym c.after_blanks.ensures ∙ a.chars) b).0 in
@@ -42,7 +47,8 @@ returns-else-iri_text c =
 
 pub returns-in-None : goal.returns-in-None
 returns-in-None c = λ j n b.
-    let cut = rw c.in_ok-strip_prefix.was at (strip_prefix_char 60 c.after_blanks.result.now c.strip_prefix.result c.strip_prefix.ensures.cases (omega arith)) in
+    let cut = rw c.in_ok-strip_prefix.was
+    at (strip_prefix_char 60 c.after_blanks.result.now c.strip_prefix.result c.strip_prefix.ensures.cases (omega arith)) in
     let inside = c.in_ok-strip_prefix.field-0.now in
     let a = after_ascii c.after_blanks.result.now (60 ∷ []) inside refl c.after_blanks.utf8 cut in
     let none = no_mark 62 inside (omega arith) a.utf8 (sym (ap text_of c.in-None.is) ∙ c.cut.ensures.rest) in

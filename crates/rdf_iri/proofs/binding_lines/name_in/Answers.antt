@@ -11,14 +11,16 @@ use Rattle.rdf_iri.proofs.binding_lines.name_in.Goals as goal
 
 pub split_at-requires : goal.split_at-requires
 split_at-requires c =
-    (at_colon c.after_blanks-named.result.now c.cut.result.0.now c.in-Some.rest.now c.after_blanks-named.utf8 c.cut.ensures.front (sym (ap text_of c.in-Some.is) ∙ c.cut.ensures.rest)).boundary
+    (at_colon c.after_blanks-named.result.now c.cut.result.0.now c.in-Some.rest.now c.after_blanks-named.utf8 c.cut.ensures.front
+    (sym (ap text_of c.in-Some.is) ∙ c.cut.ensures.rest)).boundary
 
 pub returns-then-is_pname_ns : goal.returns-then-is_pname_ns
 returns-then-is_pname_ns c =
     let named = c.after_blanks-named.result.now in
     let back = sym (ap text_of c.in-Some.is) ∙ c.cut.ensures.rest in
     let a = at_colon named c.cut.result.0.now c.in-Some.rest.now c.after_blanks-named.utf8 c.cut.ensures.front back in
-    is_name (chars c.args.text.now) named c.cut.result.0.now c.in-Some.rest.now (c.begins_blank.ensures.0 c.if-not-begins_blank.false) c.after_blanks-named.ensures
+    is_name (chars c.args.text.now) named c.cut.result.0.now c.in-Some.rest.now
+    (c.begins_blank.ensures.0 c.if-not-begins_blank.false) c.after_blanks-named.ensures
     (at_mark 58 named c.cut.result.0.now c.in-Some.rest.now (omega arith) c.after_blanks-named.utf8 c.cut.ensures.front back)
     (subst (Shape Turtle PnameNs) (ap chars c.split_at.ensures.front ∙ a.name) (c.is_pname_ns.ensures.0 c.if-is_pname_ns.true))
 

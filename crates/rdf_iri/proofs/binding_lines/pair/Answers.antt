@@ -11,4 +11,5 @@ returns-in_err-prefix c = passed_none c.from_residual.result _ _ c.from_residual
 pub returns-in_err-iri : goal.returns-in_err-iri
 returns-in_err-iri c = passed_none c.from_residual-in_err-iri.result _ _ c.from_residual-in_err-iri.ensures (λ p d.
     c.in_err-iri.ensures p.1 p.2
-    (subst (λ m. IriThen m p.1 p.2) (one_name (chars c.args.text.now) p.0 d.0 (chars c.in_ok-prefix.prefix.now) (chars c.in_ok-prefix.rest.now) d.1 c.in_ok-prefix.ensures).1 d.2))
+    (subst (λ m. IriThen m p.1 p.2) (one_name (chars c.args.text.now) p.0 d.0 (chars c.in_ok-prefix.prefix.now)
+    (chars c.in_ok-prefix.rest.now) d.1 c.in_ok-prefix.ensures).1 d.2))

@@ -11,7 +11,8 @@ without_colon-requires c = c.is_pname_ns.ensures.0 c.if-is_pname_ns.true
 
 pub returns-then-has_scheme : goal.returns-then-has_scheme
 returns-then-has_scheme c =
-    is_plain c.args.text.now c.cut.result.0.now c.without_colon.result.now c.in-Some.iri.now c.utf8.text c.cut.ensures.front (sym (ap text_of c.in-Some.is) ∙ c.cut.ensures.rest)
+    is_plain c.args.text.now c.cut.result.0.now c.without_colon.result.now c.in-Some.iri.now c.utf8.text c.cut.ensures.front
+    (sym (ap text_of c.in-Some.is) ∙ c.cut.ensures.rest)
     c.without_colon.ensures (c.is_pname_ns.ensures.0 c.if-is_pname_ns.true)
     (record { characters = sym c.iri_text.ensures ∙ c.if-iri_text.true; scheme = sym c.has_scheme.ensures ∙ c.if-has_scheme.true })
 
@@ -20,11 +21,14 @@ returns-else-is_pname_ns c =
     let rest = sym (ap text_of c.in-Some.is) ∙ c.cut.ensures.rest in
     elim c.else-is_pname_ns.branch [
       | else-is_pname_ns-via-then-is_pname_ns+then-iri_text+else-has_scheme w ↦ λ p i b.
-          false≢true (sym w.if-has_scheme.false ∙ (w.has_scheme.ensures ∙ (plain_iri c.args.text.now c.cut.result.0.now c.in-Some.iri.now p i c.utf8.text c.cut.ensures.front rest b).scheme))
+          false≢true (sym w.if-has_scheme.false ∙ (w.has_scheme.ensures
+          ∙ (plain_iri c.args.text.now c.cut.result.0.now c.in-Some.iri.now p i c.utf8.text c.cut.ensures.front rest b).scheme))
       | else-is_pname_ns-via-then-is_pname_ns+else-iri_text w ↦ λ p i b.
-          false≢true (sym w.if-iri_text.false ∙ (w.iri_text.ensures ∙ (plain_iri c.args.text.now c.cut.result.0.now c.in-Some.iri.now p i c.utf8.text c.cut.ensures.front rest b).characters))
+          false≢true (sym w.if-iri_text.false ∙ (w.iri_text.ensures
+          ∙ (plain_iri c.args.text.now c.cut.result.0.now c.in-Some.iri.now p i c.utf8.text c.cut.ensures.front rest b).characters))
       | else-is_pname_ns-via-else-is_pname_ns w ↦ λ p i b.
-          false≢true (sym w.if-is_pname_ns.false ∙ c.is_pname_ns.ensures.1 (plain_name c.args.text.now c.cut.result.0.now c.in-Some.iri.now p i c.utf8.text c.cut.ensures.front rest b))
+          false≢true (sym w.if-is_pname_ns.false ∙ c.is_pname_ns.ensures.1
+          (plain_name c.args.text.now c.cut.result.0.now c.in-Some.iri.now p i c.utf8.text c.cut.ensures.front rest b))
     ]
 
 pub returns-in-None : goal.returns-in-None

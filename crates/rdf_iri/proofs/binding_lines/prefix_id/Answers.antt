@@ -11,5 +11,9 @@ returns-in_err-prefix c = passed_none c.from_residual.result _ _ c.from_residual
 
 pub returns-else-ends_at_dot : goal.returns-else-ends_at_dot
 returns-else-ends_at_dot c = λ p i d.
-    let same = one_pair (chars c.args.text.now) (p, i, d.0) (chars c.in_ok-prefix.prefix.now, chars c.in_ok-prefix.iri.now, chars c.in_ok-prefix.rest.now) d.1 c.in_ok-prefix.ensures in
+    let same = one_pair (chars c.args.text.now) (p, i, d.0) (
+      chars c.in_ok-prefix.prefix.now,
+      chars c.in_ok-prefix.iri.now,
+      chars c.in_ok-prefix.rest.now,
+    ) d.1 c.in_ok-prefix.ensures in
     false≢true (sym c.if-ends_at_dot.false ∙ c.ends_at_dot.ensures.1 (subst EndsAtDot same.rest d.2))

@@ -18,7 +18,8 @@ pub returns-then-char_count-token-clause-err : goal.returns-then-char_count-toke
 returns-then-char_count-token-clause-err g c = (
   (chars c.in-Some.prefix.now, chars c.in-Some.iri.now),
   c.in-Some.ensures,
-  long_name (chars c.in-Some.prefix.now) _ _ _ c.char_count.ensures.count (c.token.ensures ∙ ap (λ (s : Sizes). s.token) c.limits.ensures) c.if-char_count-token.true,
+  long_name (chars c.in-Some.prefix.now) _ _ _ c.char_count.ensures.count
+      (c.token.ensures ∙ ap (λ (s : Sizes). s.token) c.limits.ensures) c.if-char_count-token.true,
 )
 
 pub bind-requires-clause-short : goal.bind-requires-clause-short
@@ -29,19 +30,24 @@ bind-requires-clause-short g c =
 pub returns-in-Ok-clause-ok : goal.returns-in-Ok-clause-ok
 returns-in-Ok-clause-ok g c =
     let b = bound_line _ _ _ _ c.in-Some.ensures.absolute.scheme c.in-Ok.ensures.bound in
-    let short = short_name (chars c.in-Some.prefix.now) _ _ _ c.char_count.ensures.count (c.token.ensures ∙ ap (λ (s : Sizes). s.token) c.limits.ensures) c.if-char_count-token.false in
+    let short = short_name (chars c.in-Some.prefix.now) _ _ _ c.char_count.ensures.count
+    (c.token.ensures ∙ ap (λ (s : Sizes). s.token) c.limits.ensures) c.if-char_count-token.false in
     (Some (chars c.in-Some.prefix.now, chars c.in-Some.iri.now), c.in-Some.ensures, (short, b.short), (b.room, b.binds))
 
 pub returns-in-Err-IriTooLong-clause-err : goal.returns-in-Err-IriTooLong-clause-err
 returns-in-Err-IriTooLong-clause-err g c =
-    let short = short_name (chars c.in-Some.prefix.now) _ _ _ c.char_count.ensures.count (c.token.ensures ∙ ap (λ (s : Sizes). s.token) c.limits.ensures) c.if-char_count-token.false in
+    let short = short_name (chars c.in-Some.prefix.now) _ _ _ c.char_count.ensures.count
+    (c.token.ensures ∙ ap (λ (s : Sizes). s.token) c.limits.ensures) c.if-char_count-token.false in
     let l = long_line c.args.scope.now (chars c.in-Some.prefix.now) (chars c.in-Some.iri.now) c.in-Some.ensures.absolute.scheme
-    (subst (NotBound c.args.scope.now (chars c.in-Some.prefix.now) (chars c.in-Some.iri.now)) c.in-Err-IriTooLong.field-0-is c.in-Err-IriTooLong.ensures.refused) in
+    (subst (NotBound c.args.scope.now (chars c.in-Some.prefix.now) (chars c.in-Some.iri.now)) c.in-Err-IriTooLong.field-0-is
+    c.in-Err-IriTooLong.ensures.refused) in
     ((chars c.in-Some.prefix.now, chars c.in-Some.iri.now), c.in-Some.ensures, short, l)
 
 pub returns-in-Err-TooManyBindings-clause-err : goal.returns-in-Err-TooManyBindings-clause-err
 returns-in-Err-TooManyBindings-clause-err g c =
-    let short = short_name (chars c.in-Some.prefix.now) _ _ _ c.char_count.ensures.count (c.token.ensures ∙ ap (λ (s : Sizes). s.token) c.limits.ensures) c.if-char_count-token.false in
+    let short = short_name (chars c.in-Some.prefix.now) _ _ _ c.char_count.ensures.count
+    (c.token.ensures ∙ ap (λ (s : Sizes). s.token) c.limits.ensures) c.if-char_count-token.false in
     let f = full_line c.args.scope.now (chars c.in-Some.prefix.now) (chars c.in-Some.iri.now) c.in-Some.ensures.absolute.scheme
-    (subst (NotBound c.args.scope.now (chars c.in-Some.prefix.now) (chars c.in-Some.iri.now)) c.in-Err-TooManyBindings.field-0-is c.in-Err-TooManyBindings.ensures.refused) in
+    (subst (NotBound c.args.scope.now (chars c.in-Some.prefix.now) (chars c.in-Some.iri.now)) c.in-Err-TooManyBindings.field-0-is
+    c.in-Err-TooManyBindings.ensures.refused) in
     ((chars c.in-Some.prefix.now, chars c.in-Some.iri.now), c.in-Some.ensures, (short, f.0), f.1)

@@ -14,9 +14,11 @@ plain c = ap fits_D (sym c.bytes_before.ensures.front) ∙ (ap fits_D (sym c.spl
 pub loop-after-preserved : goal.loop-after-preserved
 loop-after-preserved c =
     c.loop-after.invariant
-    ∙ dots-next c.loop-after.rest.now _ _ (plain (goal.at.loop-after-preserved c).After-split_first) (sym c.bytes_before.ensures.rest ∙ (sym c.split_at.ensures.back ∙ c.in-Some.ensures.cases.0))
+    ∙ dots-next c.loop-after.rest.now _ _ (plain (goal.at.loop-after-preserved c).After-split_first)
+    (sym c.bytes_before.ensures.rest ∙ (sym c.split_at.ensures.back ∙ c.in-Some.ensures.cases.0))
 
 pub returns-in-None : goal.returns-in-None
 returns-in-None c =
     sym (c.loop-after.invariant
-    ∙ dots-last c.loop-after.rest.now (plain (goal.at.returns-in-None c).After-split_first) (sym c.bytes_before.ensures.rest ∙ (sym c.split_at.ensures.back ∙ no_items _ c.in-None.ensures.cases)))
+    ∙ dots-last c.loop-after.rest.now (plain (goal.at.returns-in-None c).After-split_first)
+    (sym c.bytes_before.ensures.rest ∙ (sym c.split_at.ensures.back ∙ no_items _ c.in-None.ensures.cases)))

@@ -12,7 +12,13 @@ cut_up : (text rest upper middle path : List ℕ) (s a q f : Option (List ℕ)) 
     record { scheme = s; authority = a; path = path; query = q; fragment = f } ≡ parts_of text
 cut_up text rest upper middle path s a q f h e1 e2 e3 e4 e5 e6 =
     ap (λ x. record { scheme = s; authority = x; path = path; query = q; fragment = f }) e5
-    ∙ (ap (λ x. record { scheme = s; authority = cond (begins (47 ∷ 47 ∷ []) middle) (Some (before 47 (drop 2 middle))) None; path = x; query = q; fragment = f }) e6
+    ∙ (ap (λ x. record {
+      scheme = s;
+      authority = cond (begins (47 ∷ 47 ∷ []) middle) (Some (before 47 (drop 2 middle))) None;
+      path = x;
+      query = q;
+      fragment = f;
+    }) e6
     ∙ (ap (λ x. hierarchy_parts s x f middle) e4
     ∙ (ap (λ x. hierarchy_parts s (after 63 upper) f x) e3
     ∙ (ap (λ x. query_parts s x upper) e2

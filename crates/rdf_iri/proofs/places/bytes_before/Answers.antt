@@ -5,11 +5,13 @@ use Rattle.rdf_iri.proofs.places.bytes_before.Goals as goal
 
 pub returns-then-byte-mark-clause-front : goal.returns-then-byte-mark-clause-front
 returns-then-byte-mark-clause-front c =
-    (cut_there c.args.mark c.args.text.now c.loop-i.i c.loop-i.invariant (starts_there c.args.mark c.args.text.now c.loop-i.i (omega arith) c.if-byte-mark.true)).0
+    (cut_there c.args.mark c.args.text.now c.loop-i.i c.loop-i.invariant
+    (starts_there c.args.mark c.args.text.now c.loop-i.i (omega arith) c.if-byte-mark.true)).0
 
 pub returns-then-byte-mark-clause-rest : goal.returns-then-byte-mark-clause-rest
 returns-then-byte-mark-clause-rest c =
-    (cut_there c.args.mark c.args.text.now c.loop-i.i c.loop-i.invariant (starts_there c.args.mark c.args.text.now c.loop-i.i (omega arith) c.if-byte-mark.true)).1
+    (cut_there c.args.mark c.args.text.now c.loop-i.i c.loop-i.invariant
+    (starts_there c.args.mark c.args.text.now c.loop-i.i (omega arith) c.if-byte-mark.true)).1
 
 pub loop-i-preserved : goal.loop-i-preserved
 loop-i-preserved c = Lacks-more c.args.mark c.args.text.now c.loop-i.i c.loop-i.invariant (omega arith) c.if-byte-mark.false

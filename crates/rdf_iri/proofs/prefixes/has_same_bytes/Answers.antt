@@ -9,5 +9,6 @@ returns c =
     let a = c.args.a.now in
     let b = c.args.b.now in
     let n : c.loop-place.place ≡ length a = omega (arith, c.loop-place.auto.place-end, c.loop-place-test.false) in
-    let e : a ≡ b = sym (take_all c.loop-place.place a (omega (arith, n))) ∙ (c.loop-place.invariant ∙ take_all c.loop-place.place b (omega (arith, n, c.requires))) in
+    let e : a ≡ b = sym (take_all c.loop-place.place a (omega (arith, n)))
+    ∙ (c.loop-place.invariant ∙ take_all c.loop-place.place b (omega (arith, n, c.requires))) in
     sym ((bytes_eq-Decides a b).1 e)

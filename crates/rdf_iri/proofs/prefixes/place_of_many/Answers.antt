@@ -13,4 +13,5 @@ returns-in-Some g c = stands_where c.args.row.now c.args.prefix.now c.in-Some.pl
 pub returns-in-None : goal.returns-in-None
 returns-in-None g c =
     first_or_none c.args.slots.now c.args.row.now c.args.prefix.now c.utf8.prefix c.requires.slots c.in-None.ensures c.place_in.result
-    (subst (λ r. MatchOption c.place_in.result (bound_to (entries_of r) (chars c.args.prefix.now) ≡ None) (StandsAt (entries_of r) (chars c.args.prefix.now))) c.split_at.ensures.front c.place_in.ensures)
+    (subst (λ r. MatchOption c.place_in.result (bound_to (entries_of r) (chars c.args.prefix.now) ≡ None)
+    (StandsAt (entries_of r) (chars c.args.prefix.now))) c.split_at.ensures.front c.place_in.ensures)

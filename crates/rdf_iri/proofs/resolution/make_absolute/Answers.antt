@@ -12,7 +12,8 @@ use Rattle.rdf_iri.proofs.resolution.make_absolute.Goals.{After-drop-text}
 use Rattle.rdf_iri.proofs.resolution.make_absolute.Given.{Over}
 
 -- the base's characters, and the text made out of them
-made : (g : Over) (c : After-drop-text g) → chars (string_bytes c.in_ok-text.field-0) ≡ target_text (chars c.as_str-2.result.now) (chars (string_bytes c.args.text.now))
+made : (g : Over) (c : After-drop-text g) → chars (string_bytes c.in_ok-text.field-0) ≡ target_text (chars c.as_str-2.result.now)
+    (chars (string_bytes c.args.text.now))
 made g c = c.in_ok-text.ensures ∙ ap (λ w. target_text (chars c.as_str-2.result.now) (chars w)) c.as_str-3.ensures.value
 
 pub returns-clause-resolved : goal.returns-clause-resolved
@@ -26,7 +27,8 @@ returns-clause-resolved g c =
 pub returns-clause-is_iri : goal.returns-clause-is_iri
 returns-clause-is_iri g c =
     subst IsIri (sym (made g c))
-    (IsIri-target (chars c.as_str-2.result.now) (chars (string_bytes c.args.text.now)) (subst IsIri (sym c.as_str-2.ensures.value) c.as_str-2.ensures.is_iri) c.requires)
+    (IsIri-target (chars c.as_str-2.result.now) (chars (string_bytes c.args.text.now))
+    (subst IsIri (sym c.as_str-2.ensures.value) c.as_str-2.ensures.is_iri) c.requires)
 
 -- memory is reported only where there is a result
 pub returns-in_err-text-clause-refused : goal.returns-in_err-text-clause-refused

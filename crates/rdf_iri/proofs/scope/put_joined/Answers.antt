@@ -25,4 +25,9 @@ returns-clause-is_iri g c =
 
 pub returns-clause-within : goal.returns-clause-within
 returns-clause-within g c =
-    omega (arith, ap byte_len (returns-clause-joined g c), byte_len-joined _ _ _ c.as_str-front.utf8 c.utf8.local c.as_str-front.ensures.value, c.if-len-limit.false)
+    omega (
+      arith,
+      ap byte_len (returns-clause-joined g c),
+      byte_len-joined _ _ _ c.as_str-front.utf8 c.utf8.local c.as_str-front.ensures.value,
+      c.if-len-limit.false,
+    )

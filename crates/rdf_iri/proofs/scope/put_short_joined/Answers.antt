@@ -15,4 +15,9 @@ returns-then-front-local-clause-is_iri g c = λ e.
 
 pub returns-then-front-local-clause-within : goal.returns-then-front-local-clause-within
 returns-then-front-local-clause-within g c = λ e.
-    omega (arith, ap byte_len (returns-then-front-local-clause-joined g c e), byte_len-joined _ _ _ c.as_str-front.utf8 c.utf8.local c.as_str-front.ensures.value, c.if-front-local.true)
+    omega (
+      arith,
+      ap byte_len (returns-then-front-local-clause-joined g c e),
+      byte_len-joined _ _ _ c.as_str-front.utf8 c.utf8.local c.as_str-front.ensures.value,
+      c.if-front-local.true,
+    )

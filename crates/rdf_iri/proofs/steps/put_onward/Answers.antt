@@ -75,7 +75,8 @@ loop-next-preserved g c =
     let e = c.as_bytes-in-Up.ensures.bytes in
     let here : c.loop-next.text ++ slice_range w c.loop-next.kept c.loop-next.at ≡ text = sym c.in_ok-put_between-in-Up.ensures in
     let t : cut ≡ front_at c.args.root text ++ (parent (path_at c.args.root text) ++ 47 ∷ []) =
-    c.truncate.ensures ∙ subst (λ x. take c.above-len.result x ≡ front_at c.args.root x ++ (parent (path_at c.args.root x) ++ 47 ∷ [])) e c.above-len.ensures.text in
+    c.truncate.ensures ∙ subst (λ x. take c.above-len.result x ≡ front_at c.args.root x ++ (parent (path_at c.args.root x) ++ 47 ∷ [])) e
+    c.above-len.ensures.text in
     let same : cut ≡ cut ++ slice_range w c.in-Up.next c.in-Up.next = sym (append-nil cut) ∙ ap (λ x. cut ++ x) (sym (between-none w c.in-Up.next)) in
     let b = passes-boundary w c.loop-next.at c.in-Up.next c.utf8.reference m.0 in
     record {

@@ -13,4 +13,5 @@ returns-clause-stands c =
       | in-34 w ↦ w.in-34.is
       | in_default w ↦ absurd (false≢true (sym w.matches-is ∙ c.if-not-matches.false))
     ] in
-    if_some c.after_byte.result (λ rest. text ≡ letter ∷ rest.now) (λ rest. EscapeStands text rest.now) (λ rest e. letter_stands letter text rest.now one e) c.after_byte.ensures
+    if_some c.after_byte.result (λ rest. text ≡ letter ∷ rest.now) (λ rest. EscapeStands text rest.now)
+    (λ rest e. letter_stands letter text rest.now one e) c.after_byte.ensures

@@ -10,5 +10,6 @@ returns c =
     let part = c.range.result.now in
     let rest = c.range_from.result.now in
     let value : part ≡ take end text = c.range.ensures.value ∙ front_slice text end in
-    let whole : text ≡ part ++ rest = sym (take-append-drop end text) ∙ (ap (λ x. x ++ drop end text) (sym value) ∙ ap (λ x. part ++ x) (sym c.range_from.ensures.value)) in
+    let whole : text ≡ part ++ rest = sym (take-append-drop end text)
+    ∙ (ap (λ x. x ++ drop end text) (sym value) ∙ ap (λ x. part ++ x) (sym c.range_from.ensures.value)) in
     label_stands part text rest c.range.utf8 (c.is_label.ensures.0 c.if-not-is_label.false) whole

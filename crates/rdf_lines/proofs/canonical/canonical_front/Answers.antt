@@ -8,5 +8,6 @@ returns-clause-lines c =
     let text = c.args.text.now in
     let front = c.front_within.result.now in
     let found = c.ended_front.result in
-    let same : take found.bytes front ≡ take found.bytes text = ap (take found.bytes) c.front_within.ensures.front ∙ take-take found.bytes (length front) text c.ended_front.ensures.within in
+    let same : take found.bytes front ≡ take found.bytes text =
+    ap (take found.bytes) c.front_within.ensures.front ∙ take-take found.bytes (length front) text c.ended_front.ensures.within in
     subst (AreLines c.args.ending c.args.rules.form c.args.token c.args.rules.iri found.quads found.tokens) same c.ended_front.ensures.lines

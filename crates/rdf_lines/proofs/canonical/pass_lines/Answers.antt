@@ -16,9 +16,11 @@ pass-requires-clause-leads g c =
     let text = c.args.text.now in
     let can : can_pass r (length text) ≡ true = sym c.can_pass.ensures ∙ c.if-not-can_pass.false in
     let limit = c.grammar.ensures.limit (can_pass-parts r (length text) can).0 in
-    let at = at_reader c.args.ending r c.grammar.result.now c.grammar.ensures.grammar limit (take front.bytes text) front.quads front.tokens c.lines_in-front.ensures.lines
+    let at = at_reader c.args.ending r c.grammar.result.now c.grammar.ensures.grammar limit
+    (take front.bytes text) front.quads front.tokens c.lines_in-front.ensures.lines
     (c.lines_in-front.ensures.begins (omega (arith, c.if-front-eq0.false))) in
-    let lines = subst (λ x. AreLines c.args.ending r.grammar.rules.form r.scanner.limit r.grammar.rules.iri front.quads front.tokens (take front.bytes x)) (sym c.as_bytes.ensures.value) at.0 in
+    let lines = subst (λ x. AreLines c.args.ending r.grammar.rules.form r.scanner.limit r.grammar.rules.iri front.quads front.tokens
+    (take front.bytes x)) (sym c.as_bytes.ensures.value) at.0 in
     leads c.args.ending r at.1.0 at.1.1 (take front.bytes c.as_bytes.result.now) front.quads front.tokens lines
 
 pub returns-clause-passes : goal.returns-clause-passes
@@ -28,8 +30,11 @@ returns-clause-passes g c =
     let text = c.args.text.now in
     let can : can_pass r (length text) ≡ true = sym c.can_pass.ensures ∙ c.if-not-can_pass.false in
     let limit = c.grammar.ensures.limit (can_pass-parts r (length text) can).0 in
-    let at = at_reader c.args.ending r c.grammar.result.now c.grammar.ensures.grammar limit (take front.bytes text) front.quads front.tokens c.lines_in-front.ensures.lines
+    let at = at_reader c.args.ending r c.grammar.result.now c.grammar.ensures.grammar limit
+    (take front.bytes text) front.quads front.tokens c.lines_in-front.ensures.lines
     (c.lines_in-front.ensures.begins (omega (arith, c.if-front-eq0.false))) in
-    let lines = subst (λ x. AreLines c.args.ending r.grammar.rules.form r.scanner.limit r.grammar.rules.iri front.quads front.tokens (take front.bytes x)) (sym c.as_bytes.ensures.value) at.0 in
-    let all = passes c.args.ending r at.1.0 at.1.1 (take front.bytes c.as_bytes.result.now) front.quads front.tokens lines c.pass.new.self c.pass.ensures.passed c.pass.ensures.read in
+    let lines = subst (λ x. AreLines c.args.ending r.grammar.rules.form r.scanner.limit r.grammar.rules.iri front.quads front.tokens
+    (take front.bytes x)) (sym c.as_bytes.ensures.value) at.0 in
+    let all = passes c.args.ending r at.1.0 at.1.1 (take front.bytes c.as_bytes.result.now) front.quads front.tokens lines c.pass.new.self
+    c.pass.ensures.passed c.pass.ensures.read in
     subst (λ x. PassesLines c.args.ending r (take front.bytes x) c.pass.new.self) c.as_bytes.ensures.value all

@@ -11,4 +11,5 @@ returns c =
     let inner = c.in_ok-after_byte.field-0.now in
     let part = c.in_ok-iri.field-0 in
     if_some c.after_byte-2.result (λ rest. part.rest.now ≡ 32 ∷ rest.now) (λ rest. PredicateStands limit text rest.now)
-    (λ rest e. predicate_stands limit (chars part.iri.now) text inner part.rest.now rest.now c.in_ok-after_byte.ensures c.in_ok-iri.ensures.stands e) c.after_byte-2.ensures
+    (λ rest e. predicate_stands limit (chars part.iri.now) text inner part.rest.now rest.now c.in_ok-after_byte.ensures
+    c.in_ok-iri.ensures.stands e) c.after_byte-2.ensures

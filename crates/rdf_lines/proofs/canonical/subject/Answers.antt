@@ -10,7 +10,8 @@ returns-in_ok-iri-in-Some c =
     let text = c.args.text.now in
     let part = c.in_ok-iri-in-Some.field-0 in
     if_some c.after_byte-in-Some.result (λ rest. part.rest.now ≡ 32 ∷ rest.now) (λ rest. SubjectStands limit text rest.now)
-    (λ rest e. iri_subject limit (chars part.iri.now) text c.in-Some.text.now part.rest.now rest.now c.in-Some.ensures c.in_ok-iri-in-Some.ensures.stands e) c.after_byte-in-Some.ensures
+    (λ rest e. iri_subject limit (chars part.iri.now) text c.in-Some.text.now part.rest.now rest.now c.in-Some.ensures
+    c.in_ok-iri-in-Some.ensures.stands e) c.after_byte-in-Some.ensures
 
 pub returns-in_ok-label-in-None : goal.returns-in_ok-label-in-None
 returns-in_ok-label-in-None c =
@@ -20,4 +21,5 @@ returns-in_ok-label-in-None c =
     let second = c.in_ok-after_byte-in-None-2.field-0.now in
     let after_name = c.in_ok-label-in-None.field-0.now in
     if_some c.after_byte-in-None-3.result (λ rest. after_name ≡ 32 ∷ rest.now) (λ rest. SubjectStands limit text rest.now)
-    (λ rest e. label_subject limit text first second after_name rest.now c.in_ok-after_byte-in-None.ensures c.in_ok-after_byte-in-None-2.ensures c.in_ok-label-in-None.ensures e) c.after_byte-in-None-3.ensures
+    (λ rest e. label_subject limit text first second after_name rest.now c.in_ok-after_byte-in-None.ensures
+    c.in_ok-after_byte-in-None-2.ensures c.in_ok-label-in-None.ensures e) c.after_byte-in-None-3.ensures

@@ -23,7 +23,8 @@ returns-clause-spelled g c =
         spelled = record {
           inner = c.in_ok-skip_byte.field-0.now;
           opens = c.in_ok-skip_byte.ensures;
-          spelled = subst (λ t. IriSpelled c.args.rules.iri (chars t) c.in_ok-skip_byte.field-0.now predicate.rest.now) (sym c.new.ensures) c.in_ok-predicate.ensures;
+          spelled = subst (λ t. IriSpelled c.args.rules.iri (chars t) c.in_ok-skip_byte.field-0.now predicate.rest.now)
+              (sym c.new.ensures) c.in_ok-predicate.ensures;
         };
         space = c.in_ok-skip_byte-2.ensures;
       };

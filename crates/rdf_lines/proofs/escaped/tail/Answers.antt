@@ -24,7 +24,8 @@ returns-in-Some-after_byte-clause-spelled c =
         spelled = record {
           inner = c.in_ok-skip_byte-2.field-0.now;
           opens = c.in_ok-skip_byte-2.ensures;
-          spelled = plain_spelled c.args.limit part.iri.now c.in_ok-skip_byte-2.field-0.now part.rest.now c.in_ok-part-2.ensures.utf8 c.in_ok-part-2.ensures.stands;
+          spelled = plain_spelled c.args.limit part.iri.now c.in_ok-skip_byte-2.field-0.now part.rest.now c.in_ok-part-2.ensures.utf8
+              c.in_ok-part-2.ensures.stands;
         };
       },
     ))

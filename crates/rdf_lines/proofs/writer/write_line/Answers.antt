@@ -17,4 +17,5 @@ returns-clause-written g c =
 
 pub returns-clause-not_labelled : goal.returns-clause-not_labelled
 returns-clause-not_labelled g c =
-    subst (λ s. IsErrOf c.write_line_in.result LabelFault.NotLabelled ↔ (CanWrite s (quad_of c.args.quad.now) → ⊥)) (ap (λ f. f.style) c.new-form.ensures) c.write_line_in.ensures.not_labelled
+    subst (λ s. IsErrOf c.write_line_in.result LabelFault.NotLabelled ↔ (CanWrite s (quad_of c.args.quad.now) → ⊥))
+    (ap (λ f. f.style) c.new-form.ensures) c.write_line_in.ensures.not_labelled

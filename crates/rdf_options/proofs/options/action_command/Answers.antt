@@ -11,9 +11,11 @@ use Rattle.rdf_options.proofs.options.action_command.Goals as goal
 
 pub returns : goal.returns
 returns c r reads =
-    let globals = ap (λ (f : Command-F Command). f.has_globals) c.after_help.ensures ∙ ap (λ (f : Command-F Command). f.has_globals) c.about.ensures ∙ c.new.ensures.local in
+    let globals = ap (λ (f : Command-F Command). f.has_globals) c.after_help.ensures
+    ∙ ap (λ (f : Command-F Command). f.has_globals) c.about.ensures ∙ c.new.ensures.local in
     let app = ap app_of_fields c.after_help.ensures ∙ ap app_of_fields c.about.ensures ∙ c.new.ensures.app in
-    let arguments = c.format_option.result ∷ c.base_option.result ∷ c.token_option.result ∷ c.depth_option.result ∷ c.bindings_option.result ∷ c.iri_option.result
+    let arguments =
+    c.format_option.result ∷ c.base_option.result ∷ c.token_option.result ∷ c.depth_option.result ∷ c.bindings_option.result ∷ c.iri_option.result
     ∷ c.explain_option.result ∷ c.args.reads ∷ [] in
     let rules = format_rule (Names c.args.formats) ∷ base_rule ∷ token_rule ∷ depth_rule ∷ bindings_rule ∷ iri_rule ∷ explain_rule ∷ r ∷ [] in
     let have : HaveRules arguments rules = (
@@ -32,5 +34,6 @@ returns c r reads =
         ),
       ),
     ) in
-    IfOk-weaker c.args-2.result _ _ (λ made added. with_arguments _ made arguments rules (new_app c.args.about.name.now) (subst (λ xs. AddsInTurn AddsArg c.after_help.result xs made) c.in_ok-arguments.ensures.items added) (globals, app) have)
+    IfOk-weaker c.args-2.result _ _ (λ made added. with_arguments _ made arguments rules (new_app c.args.about.name.now)
+    (subst (λ xs. AddsInTurn AddsArg c.after_help.result xs made) c.in_ok-arguments.ensures.items added) (globals, app) have)
     c.args-2.ensures

@@ -15,67 +15,83 @@ use Rattle.rdf_stream.proofs.conversions.convert_with.Goals as goal
 
 pub returns-in_err-piece-clause-stops : goal.returns-in_err-piece-clause-stops
 returns-in_err-piece-clause-stops g c =
-    reported_stops _ _ _ c.from_residual.ensures.1 (λ x b. none_stops g.G.Grammar.words x c.args.reader (output_of c.args.output) b (told g.S.Source c.args.source.now) _ _ c.requires.more c.requires.source c.requires.drain)
+    reported_stops _ _ _ c.from_residual.ensures.1 (λ x b. none_stops g.G.Grammar.words x c.args.reader (output_of c.args.output) b
+    (told g.S.Source c.args.source.now) _ _ c.requires.more c.requires.source c.requires.drain)
 
 pub returns-in_err-piece-clause-prompt : goal.returns-in_err-piece-clause-prompt
 returns-in_err-piece-clause-prompt g c = λ x b. none_prompt g.G.Grammar.words x c.args.reader (output_of c.args.output) b (told g.S.Source c.args.source.now) _
 
 pub read_pieces-result-requires-clause-begun : goal.read_pieces-result-requires-clause-begun
 read_pieces-result-requires-clause-begun g c =
-    begins _ g.D.Drain.contents g.D.Drain.has_failed g.D.Drain.is_flushed g.G.Grammar.words g.G.Passes.style c.requires.starts.0 (c.args.reader, c.new-lines.result)
-    (begun_fresh _ g.D.Drain.contents g.D.Drain.has_failed g.D.Drain.is_flushed g.G.Grammar.words g.G.Passes.style _ (output_of c.args.output) (c.args.reader, c.new-lines.result) _
-    (over_empty _ _ _ _ _ c.new-lines.ensures.form c.new-lines.ensures.buffer c.new-buffer.ensures c.new-lines.ensures.drain c.requires.drain) c.requires.starts.1)
+    begins _ g.D.Drain.contents g.D.Drain.has_failed g.D.Drain.is_flushed g.G.Grammar.words g.G.Passes.style c.requires.starts.0
+    (c.args.reader, c.new-lines.result)
+    (begun_fresh _ g.D.Drain.contents g.D.Drain.has_failed g.D.Drain.is_flushed g.G.Grammar.words g.G.Passes.style _
+    (output_of c.args.output) (c.args.reader, c.new-lines.result) _
+    (over_empty _ _ _ _ _ c.new-lines.ensures.form c.new-lines.ensures.buffer c.new-buffer.ensures c.new-lines.ensures.drain
+    c.requires.drain) c.requires.starts.1)
     (ap (λ o. o.form.style) (ap output_of c.new-lines.ensures.form) ∙ c.requires.styled)
 
 pub read_pieces-result-requires-clause-stays : goal.read_pieces-result-requires-clause-stays
 read_pieces-result-requires-clause-stays g c = grows_none g.D.Drain.contents c.new-lines.result
 
 pub returns-clause-ended : goal.returns-clause-ended
-returns-clause-ended g c = on_ok c.read_pieces-result.result _ (g.S.Source.has_ended c.read_pieces-result.new.source ≡ true) (λ s a. a.reported) c.read_pieces-result.ensures.read
+returns-clause-ended g c = on_ok c.read_pieces-result.result _ (g.S.Source.has_ended c.read_pieces-result.new.source ≡ true)
+    (λ s a. a.reported) c.read_pieces-result.ensures.read
 
 pub returns-clause-flushed : goal.returns-clause-flushed
 returns-clause-flushed g c =
-    on_ok c.read_pieces-result.result _ _ (λ s a. by_drains (λ old new. g.D.Drain.is_flushed new ≡ true) c.new-lines.result.drain.now c.read_pieces-result.new.out.drain.now c.args.drain.now _ c.new-lines.ensures.drain (search rules) a.is_end.sent) c.read_pieces-result.ensures.read
+    on_ok c.read_pieces-result.result _ _ (λ s a. by_drains (λ old new. g.D.Drain.is_flushed new ≡ true) c.new-lines.result.drain.now
+    c.read_pieces-result.new.out.drain.now c.args.drain.now _ c.new-lines.ensures.drain (search rules) a.is_end.sent) c.read_pieces-result.ensures.read
 
 pub returns-clause-refused : goal.returns-clause-refused
 returns-clause-refused g c =
     if_err c.read_pieces-result.result _ IsRefusal
-    (refused_document _ g.D.Drain.contents g.D.Drain.has_failed g.D.Drain.is_flushed g.G.Grammar.words g.G.Passes.style c.requires.starts.0 (output_of c.args.output) (c.args.reader, c.new-lines.result)
+    (refused_document _ g.D.Drain.contents g.D.Drain.has_failed g.D.Drain.is_flushed g.G.Grammar.words g.G.Passes.style c.requires.starts.0
+    (output_of c.args.output) (c.args.reader, c.new-lines.result)
     (c.read_pieces-result.new.run, c.read_pieces-result.new.out) _ _
-    (over_empty _ _ _ _ _ c.new-lines.ensures.form c.new-lines.ensures.buffer c.new-buffer.ensures c.new-lines.ensures.drain c.requires.drain) refl c.requires.starts.1 _ _)
+    (over_empty _ _ _ _ _ c.new-lines.ensures.form c.new-lines.ensures.buffer c.new-buffer.ensures c.new-lines.ensures.drain
+    c.requires.drain) refl c.requires.starts.1 _ _)
     c.read_pieces-result.ensures.stops
 
 pub returns-clause-sent : goal.returns-clause-sent
 returns-clause-sent g c =
     if_err c.read_pieces-result.result _ _
-    (sent_on _ g.D.Drain.contents g.D.Drain.has_failed g.D.Drain.is_flushed g.G.Grammar.words g.G.Passes.style c.requires.starts.0 (output_of c.args.output) (c.args.reader, c.new-lines.result)
+    (sent_on _ g.D.Drain.contents g.D.Drain.has_failed g.D.Drain.is_flushed g.G.Grammar.words g.G.Passes.style c.requires.starts.0
+    (output_of c.args.output) (c.args.reader, c.new-lines.result)
     (c.read_pieces-result.new.run, c.read_pieces-result.new.out) _ _
-    (over_empty _ _ _ _ _ c.new-lines.ensures.form c.new-lines.ensures.buffer c.new-buffer.ensures c.new-lines.ensures.drain c.requires.drain) (search rules) c.requires.starts.1 _ _)
+    (over_empty _ _ _ _ _ c.new-lines.ensures.form c.new-lines.ensures.buffer c.new-buffer.ensures c.new-lines.ensures.drain
+    c.requires.drain) (search rules) c.requires.starts.1 _ _)
     c.read_pieces-result.ensures.stops
 
 pub returns-clause-accepted : goal.returns-clause-accepted
 returns-clause-accepted g c =
     if_ok c.read_pieces-result.result _ _
     (λ s a x b.
-    converted _ g.D.Drain.contents g.D.Drain.has_failed g.D.Drain.is_flushed g.G.Grammar.words g.G.Passes.style x (output_of c.args.output) (c.args.reader, c.new-lines.result)
+    converted _ g.D.Drain.contents g.D.Drain.has_failed g.D.Drain.is_flushed g.G.Grammar.words g.G.Passes.style x (output_of c.args.output)
+    (c.args.reader, c.new-lines.result)
     (c.read_pieces-result.new.run, c.read_pieces-result.new.out) _ _
-    (over_empty _ _ _ _ _ c.new-lines.ensures.form c.new-lines.ensures.buffer c.new-buffer.ensures c.new-lines.ensures.drain c.requires.drain) (search rules) b _ _ s a)
+    (over_empty _ _ _ _ _ c.new-lines.ensures.form c.new-lines.ensures.buffer c.new-buffer.ensures c.new-lines.ensures.drain
+    c.requires.drain) (search rules) b _ _ s a)
     c.read_pieces-result.ensures.read
 
 pub returns-clause-stops : goal.returns-clause-stops
 returns-clause-stops g c =
     if_err c.read_pieces-result.result _ _
     (λ reported a x b.
-    stopped _ g.D.Drain.contents g.D.Drain.has_failed g.D.Drain.is_flushed g.G.Grammar.words g.G.Passes.style x (output_of c.args.output) (c.args.reader, c.new-lines.result)
+    stopped _ g.D.Drain.contents g.D.Drain.has_failed g.D.Drain.is_flushed g.G.Grammar.words g.G.Passes.style x (output_of c.args.output)
+    (c.args.reader, c.new-lines.result)
     (c.read_pieces-result.new.run, c.read_pieces-result.new.out) _ _
-    (over_empty _ _ _ _ _ c.new-lines.ensures.form c.new-lines.ensures.buffer c.new-buffer.ensures c.new-lines.ensures.drain c.requires.drain) (search rules) b _ _ reported a)
+    (over_empty _ _ _ _ _ c.new-lines.ensures.form c.new-lines.ensures.buffer c.new-buffer.ensures c.new-lines.ensures.drain
+    c.requires.drain) (search rules) b _ _ reported a)
     c.read_pieces-result.ensures.stops
 
 pub returns-clause-prompt : goal.returns-clause-prompt
 returns-clause-prompt g c = λ x b.
-    prompt _ g.D.Drain.contents g.D.Drain.has_failed g.D.Drain.is_flushed g.G.Grammar.words g.G.Passes.style x (output_of c.args.output) (c.args.reader, c.new-lines.result)
+    prompt _ g.D.Drain.contents g.D.Drain.has_failed g.D.Drain.is_flushed g.G.Grammar.words g.G.Passes.style x (output_of c.args.output)
+    (c.args.reader, c.new-lines.result)
     (c.read_pieces-result.new.run, c.read_pieces-result.new.out) _ _
-    (over_empty _ _ _ _ _ c.new-lines.ensures.form c.new-lines.ensures.buffer c.new-buffer.ensures c.new-lines.ensures.drain c.requires.drain) (search rules) b _ _ c.read_pieces-result.ensures.before
+    (over_empty _ _ _ _ _ c.new-lines.ensures.form c.new-lines.ensures.buffer c.new-buffer.ensures c.new-lines.ensures.drain
+    c.requires.drain) (search rules) b _ _ c.read_pieces-result.ensures.before
 
 pub returns-in_err-piece-clause-expected : goal.returns-in_err-piece-clause-expected
 returns-in_err-piece-clause-expected g c = none_expected g.G.Grammar.words g.G.Foresees.trees _ _ _ _ _ _ c.from_residual.ensures.1 c.none.ensures
@@ -83,13 +99,16 @@ returns-in_err-piece-clause-expected g c = none_expected g.G.Grammar.words g.G.F
 pub returns-clause-expected : goal.returns-clause-expected
 returns-clause-expected g c =
     let w = g.G.Grammar.words in
-    let fresh = over_empty g.D.Drain.has_failed c.args.output c.new-lines.result _ _ c.new-lines.ensures.form c.new-lines.ensures.buffer c.new-buffer.ensures c.new-lines.ensures.drain c.requires.drain in
+    let fresh = over_empty g.D.Drain.has_failed c.args.output c.new-lines.result _ _ c.new-lines.ensures.form c.new-lines.ensures.buffer
+    c.new-buffer.ensures c.new-lines.ensures.drain c.requires.drain in
     run_expects w g.G.Foresees.trees (λ x. Starts w x c.args.reader c.args.output.lines.style) c.args.reader.scanner.limit (λ x b. b.convertible.lawful.ends x)
-    (Taken _ g.D.Drain.contents g.D.Drain.has_failed g.D.Drain.is_flushed w g.G.Passes.style) (Halted _ g.D.Drain.contents g.D.Drain.has_failed g.D.Drain.is_flushed w g.G.Passes.style)
+    (Taken _ g.D.Drain.contents g.D.Drain.has_failed g.D.Drain.is_flushed w g.G.Passes.style)
+    (Halted _ g.D.Drain.contents g.D.Drain.has_failed g.D.Drain.is_flushed w g.G.Passes.style)
     (c.args.reader, c.new-lines.result) (c.read_pieces-result.new.run, c.read_pieces-result.new.out) c.read_pieces-result.new.run
     (λ f bytes e h x b.
     h.2 x
-    (begun_fresh _ g.D.Drain.contents g.D.Drain.has_failed g.D.Drain.is_flushed w g.G.Passes.style x (output_of c.args.output) (c.args.reader, c.new-lines.result) _ fresh b))
+    (begun_fresh _ g.D.Drain.contents g.D.Drain.has_failed g.D.Drain.is_flushed w g.G.Passes.style x (output_of c.args.output)
+    (c.args.reader, c.new-lines.result) _ fresh b))
     _ _ _ _ c.read_pieces-result.ensures.stops c.details_beside.ensures
 
 pub returns-clause-near : goal.returns-clause-near

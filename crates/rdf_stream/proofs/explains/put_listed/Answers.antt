@@ -18,8 +18,10 @@ loop-word-preserved g c =
     elim c.match-word.branch [
       | in-Some+in_ok-extend_from_slice+in_ok-extend_from_slice-2 w ↦
           let word = w.in-Some.word.now in
-          let these : only_said (texts_of (drop i all)) ≡ word ∷ rest = ap (λ ws. only_said (texts_of ws)) (next ∙ ap (λ x. x ∷ drop (i + 1) all) w.in-Some.is) in
-          let first : w.extend_from_slice.new.self.items ≡ line ++ word = w.in_ok-extend_from_slice.ensures.items ∙ ap (λ t. line ++ t) w.as_bytes.ensures.value in
+          let these : only_said (texts_of (drop i all)) ≡ word ∷ rest =
+          ap (λ ws. only_said (texts_of ws)) (next ∙ ap (λ x. x ∷ drop (i + 1) all) w.in-Some.is) in
+          let first : w.extend_from_slice.new.self.items ≡ line ++ word =
+          w.in_ok-extend_from_slice.ensures.items ∙ ap (λ t. line ++ t) w.as_bytes.ensures.value in
           let after : w.as_bytes-in-Some.result.now ≡ between (left - 1) = w.as_bytes-in-Some.ensures.value ∙ w.between.ensures in
           let items : c.match-word.line.items ≡ (line ++ word) ++ between (left - 1) =
           ap (λ v. v.items) w.line-is ∙ (w.in_ok-extend_from_slice-2.ensures.items ∙ ap₂ ◌++◌ first after) in (

@@ -16,13 +16,15 @@ returns-then-tries-eq0-clause-takes g c =
     c.text_from.ensures c.in-Ok.ensures.within c.in-Ok.ensures.takes c.in-Ok.ensures.stays).takes
 
 pub pass_escaped-requires : goal.pass_escaped-requires
-pass_escaped-requires g c = record { begun = begun_on g.R.Parts.taken _ _ _ (begun_on g.R.Parts.taken _ _ _ c.requires.begun c.turns.invariant.takes) c.in-Ok.ensures.takes }
+pass_escaped-requires g c =
+    record { begun = begun_on g.R.Parts.taken _ _ _ (begun_on g.R.Parts.taken _ _ _ c.requires.begun c.turns.invariant.takes) c.in-Ok.ensures.takes }
 
 pub returns-in-Err-pass_escaped-clause-halts : goal.returns-in-Err-pass_escaped-clause-halts
 returns-in-Err-pass_escaped-clause-halts g c =
     let i = passes_on g.R.Parts.taken g.R.Parts.stays _ _ _ c.args.text.now _ c.turns.at c.in-Ok.passed c.turns.invariant
     c.text_from.ensures c.in-Ok.ensures.within c.in-Ok.ensures.takes c.in-Ok.ensures.stays in
-    halts_at g.R.Parts.taken g.R.Parts.halts _ _ _ _ c.args.text.now _ (c.turns.at + c.in-Ok.passed) i.takes c.text_from-in-turns.ensures c.in-Err-pass_escaped.ensures.halts
+    halts_at g.R.Parts.taken g.R.Parts.halts _ _ _ _ c.args.text.now _
+    (c.turns.at + c.in-Ok.passed) i.takes c.text_from-in-turns.ensures c.in-Err-pass_escaped.ensures.halts
 
 pub returns-then-more-eq0-clause-takes : goal.returns-then-more-eq0-clause-takes
 returns-then-more-eq0-clause-takes g c =

@@ -5,5 +5,9 @@ use Rattle.rdf_stream.proofs.put.put_all.Goals as goal
 
 pub loop-rest-preserved : goal.loop-rest-preserved
 loop-rest-preserved g c =
-    let (moved, whole, written, live) = c.loop-rest.invariant in
-    (moved ++ take c.in_ok-count.count c.loop-rest.rest.now, rw (take_rest, append_assoc, take-append-drop) whole, Appends-trans _ _ _ _ _ written c.in_ok-count.ensures.bytes, search rules)
+    let (moved, whole, written, live) = c.loop-rest.invariant in (
+      moved ++ take c.in_ok-count.count c.loop-rest.rest.now,
+      rw (take_rest, append_assoc, take-append-drop) whole,
+      Appends-trans _ _ _ _ _ written c.in_ok-count.ensures.bytes,
+      search rules,
+    )

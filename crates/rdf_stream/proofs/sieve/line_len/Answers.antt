@@ -29,8 +29,10 @@ returns-in-None-clause-ended c = λ e. subst IsEndedFront (sym (take_all (length
 pub returns-in-None-clause-line : goal.returns-in-None-clause-line
 returns-in-None-clause-line c = one c.args.bytes.now c.requires.some (λ k l. false_from_ne_true _ (c.in-None.ensures k (omega arith) l))
   where
-    one : (w : List ℕ) → 0 < length w → ((k : ℕ) → k < length w → is_line_end (slice_index w k) ≡ false) → split_lines w ≡ take (length w) w ∷ split_lines (drop (length w) w)
+    one : (w : List ℕ) → 0 < length w → ((k : ℕ) → k < length w → is_line_end (slice_index w k) ≡ false) →
+        split_lines w ≡ take (length w) w ∷ split_lines (drop (length w) w)
     one [] l f = absurd (omega (arith, l))
     one (b ∷ w) l f =
         only_line b w f
-        ∙ (ap (λ v. v ∷ []) (sym (take_all (length (b ∷ w)) (b ∷ w) (omega arith))) ∙ ap (λ v. take (length (b ∷ w)) (b ∷ w) ∷ split_lines v) (sym (drop_all (length (b ∷ w)) (b ∷ w) (omega arith))))
+        ∙ (ap (λ v. v ∷ []) (sym (take_all (length (b ∷ w)) (b ∷ w) (omega arith)))
+        ∙ ap (λ v. take (length (b ∷ w)) (b ∷ w) ∷ split_lines v) (sym (drop_all (length (b ∷ w)) (b ∷ w) (omega arith))))

@@ -16,4 +16,5 @@ returns-in-Some-clause-lines c =
     })
 
 pub returns-in-None-clause-lines : goal.returns-in-None-clause-lines
-returns-in-None-clause-lines c = record { ended = inl refl; no_end = all_no_end c.args.piece.now (λ k l. false_from_ne_true _ (c.in-None.ensures k (omega arith) l)) }
+returns-in-None-clause-lines c =
+    record { ended = inl refl; no_end = all_no_end c.args.piece.now (λ k l. false_from_ne_true _ (c.in-None.ensures k (omega arith) l)) }

@@ -6,7 +6,15 @@ use Rattle.rdf_stream.proofs.PiecesLemmas.{end_read, end_stops, no_more, on_piec
 use Rattle.rdf_stream.proofs.skips.skip_pieces.Goals as goal
 
 pub loop-count-init : goal.loop-count-init
-loop-count-init g c = record { bytes = _; consumed = Consumes-nil _; is_taken = c.requires.begun; same = tt; more = c.requires.more; live = c.requires.source; has_room = c.requires.room }
+loop-count-init g c = record {
+  bytes = _;
+  consumed = Consumes-nil _;
+  is_taken = c.requires.begun;
+  same = tt;
+  more = c.requires.more;
+  live = c.requires.source;
+  has_room = c.requires.room;
+}
 
 pub end-requires : goal.end-requires
 end-requires g c =
@@ -18,13 +26,17 @@ take-requires g c =
 
 pub returns-then-count-eq0-clause-read : goal.returns-then-count-eq0-clause-read
 returns-then-count-eq0-clause-read g c =
-    end_read (IsSkipping g.D.Drain g.B.Drain) (SkipHalts g.D.Drain g.B.Drain) (SkipEnds g.D.Drain g.B.Drain) (λ a b. Unit) _ _ _ _ _ _ c.loop-count.invariant c.in-Ok.ensures.failed _
-    (no_more _ _ _ _ c.in-Ok.ensures.bytes c.if-count-eq0.true (search rules)) (c.in-Ok.ensures.bytes.1 c.if-count-eq0.true (search rules)) (c.in-Ok.ensures.ended.0 c.if-count-eq0.true (search rules)) _ c.end.ensures.ends
+    end_read (IsSkipping g.D.Drain g.B.Drain) (SkipHalts g.D.Drain g.B.Drain) (SkipEnds g.D.Drain g.B.Drain)
+    (λ a b. Unit) _ _ _ _ _ _ c.loop-count.invariant c.in-Ok.ensures.failed _
+    (no_more _ _ _ _ c.in-Ok.ensures.bytes c.if-count-eq0.true (search rules)) (c.in-Ok.ensures.bytes.1 c.if-count-eq0.true (search rules))
+    (c.in-Ok.ensures.ended.0 c.if-count-eq0.true (search rules)) _ c.end.ensures.ends
 
 pub returns-then-count-eq0-clause-stops : goal.returns-then-count-eq0-clause-stops
 returns-then-count-eq0-clause-stops g c =
-    end_stops (IsSkipping g.D.Drain g.B.Drain) (SkipHalts g.D.Drain g.B.Drain) (SkipEnds g.D.Drain g.B.Drain) (λ a b. Unit) _ _ _ _ _ _ c.loop-count.invariant c.in-Ok.ensures.failed _
-    (no_more _ _ _ _ c.in-Ok.ensures.bytes c.if-count-eq0.true (search rules)) (c.in-Ok.ensures.bytes.1 c.if-count-eq0.true (search rules)) (c.in-Ok.ensures.ended.0 c.if-count-eq0.true (search rules)) _ c.end.ensures.halts
+    end_stops (IsSkipping g.D.Drain g.B.Drain) (SkipHalts g.D.Drain g.B.Drain) (SkipEnds g.D.Drain g.B.Drain)
+    (λ a b. Unit) _ _ _ _ _ _ c.loop-count.invariant c.in-Ok.ensures.failed _
+    (no_more _ _ _ _ c.in-Ok.ensures.bytes c.if-count-eq0.true (search rules)) (c.in-Ok.ensures.bytes.1 c.if-count-eq0.true (search rules))
+    (c.in-Ok.ensures.ended.0 c.if-count-eq0.true (search rules)) _ c.end.ensures.halts
 
 pub loop-count-smaller : goal.loop-count-smaller
 loop-count-smaller g c =
@@ -33,12 +45,17 @@ loop-count-smaller g c =
 pub loop-count-preserved : goal.loop-count-preserved
 loop-count-preserved g c =
     let i = c.loop-count.invariant in
-    on_piece (IsSkipping g.D.Drain g.B.Drain) (SkipHalts g.D.Drain g.B.Drain) (SkipEnds g.D.Drain g.B.Drain) (λ a b. Unit) _ _ _ _ _ _ i c.in-Ok.ensures.failed _ _ c.in-Ok.ensures.bytes.0 (c.in-Ok.ensures.ended.1 (λ e. absurd (c.if-count-eq0.false e))) _ (search rules) c.in-Ok-take.ensures.takes tt
+    on_piece (IsSkipping g.D.Drain g.B.Drain) (SkipHalts g.D.Drain g.B.Drain) (SkipEnds g.D.Drain g.B.Drain)
+    (λ a b. Unit) _ _ _ _ _ _ i c.in-Ok.ensures.failed _ _ c.in-Ok.ensures.bytes.0
+    (c.in-Ok.ensures.ended.1 (λ e. absurd (c.if-count-eq0.false e))) _ (search rules) c.in-Ok-take.ensures.takes tt
 
 pub returns-in-Err-take-clause-stops : goal.returns-in-Err-take-clause-stops
 returns-in-Err-take-clause-stops g c =
-    piece_stops (IsSkipping g.D.Drain g.B.Drain) (SkipHalts g.D.Drain g.B.Drain) (SkipEnds g.D.Drain g.B.Drain) (λ a b. Unit) _ _ _ _ _ _ c.loop-count.invariant c.in-Ok.ensures.failed _ _ c.in-Ok.ensures.bytes.0 (c.in-Ok.ensures.ended.1 (λ e. absurd (c.if-count-eq0.false e))) _ c.in-Err-take.ensures.halts
+    piece_stops (IsSkipping g.D.Drain g.B.Drain) (SkipHalts g.D.Drain g.B.Drain) (SkipEnds g.D.Drain g.B.Drain)
+    (λ a b. Unit) _ _ _ _ _ _ c.loop-count.invariant c.in-Ok.ensures.failed _ _ c.in-Ok.ensures.bytes.0
+    (c.in-Ok.ensures.ended.1 (λ e. absurd (c.if-count-eq0.false e))) _ c.in-Err-take.ensures.halts
 
 pub returns-in-Err-clause-stops : goal.returns-in-Err-clause-stops
 returns-in-Err-clause-stops g c =
-    read_stops (IsSkipping g.D.Drain g.B.Drain) (SkipHalts g.D.Drain g.B.Drain) (SkipEnds g.D.Drain g.B.Drain) (λ a b. Unit) _ _ _ _ _ _ c.loop-count.invariant c.in-Err.ensures.bytes c.in-Err.ensures.failed c.in-Err.ensures.ended
+    read_stops (IsSkipping g.D.Drain g.B.Drain) (SkipHalts g.D.Drain g.B.Drain) (SkipEnds g.D.Drain g.B.Drain)
+    (λ a b. Unit) _ _ _ _ _ _ c.loop-count.invariant c.in-Err.ensures.bytes c.in-Err.ensures.failed c.in-Err.ensures.ended

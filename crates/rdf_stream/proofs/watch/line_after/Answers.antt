@@ -10,7 +10,8 @@ loop-len-preserved c =
     let n = c.loop-len.len in
     let b = get_or w n 0 in
     let plain : is_feed b ≡ false = search rules in
-    let next : line_rest (drop n w) ≡ b ∷ line_rest (drop (n + 1) w) = ap line_rest (drop_more w n 0 c.if-len-bytes.true) ∙ ap (λ t. cond t [] (b ∷ line_rest (drop (n + 1) w))) plain in
+    let next : line_rest (drop n w) ≡ b ∷ line_rest (drop (n + 1) w) =
+    ap line_rest (drop_more w n 0 c.if-len-bytes.true) ∙ ap (λ t. cond t [] (b ∷ line_rest (drop (n + 1) w))) plain in
     let room : reach - n ≡ suc (reach - (n + 1)) = omega (arith, c.loop-len-test.true) in
     let more : take (reach - n) (line_rest (drop n w)) ≡ b ∷ take (reach - (n + 1)) (line_rest (drop (n + 1) w)) =
     ap (λ m. take m (line_rest (drop n w))) room ∙ ap (take (suc (reach - (n + 1)))) next in

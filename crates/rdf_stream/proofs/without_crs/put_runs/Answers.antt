@@ -13,8 +13,11 @@ loop-at-preserved g c =
     let next : at + 1 ≡ suc at = omega arith in
     let first = first_cr rest at (λ k l. false_from_ne_true _ (c.in-Some.ensures.0.before k (omega arith) l)) c.in-Some.ensures.1 c.in-Some.ensures.0.high in
     let written = ap (λ x. x ++ without_crs (drop (at + 1) rest)) c.in_ok-append.ensures.appended
-    ∙ (append_assoc out (take at rest) (without_crs (drop (at + 1) rest)) ∙ (ap (λ k. out ++ (take at rest ++ without_crs (drop k rest))) next ∙ (ap (λ x. out ++ x) (sym first) ∙ c.loop-at.invariant.0))) in
-    (ap (λ x. c.append.new.self ++ without_crs x) (after_one rest at) ∙ written, begins_more c.args.out.now out c.append.new.self (take at rest) c.loop-at.invariant.1 c.in_ok-append.ensures.appended)
+    ∙ (append_assoc out (take at rest) (without_crs (drop (at + 1) rest))
+    ∙ (ap (λ k. out ++ (take at rest ++ without_crs (drop k rest))) next ∙ (ap (λ x. out ++ x) (sym first) ∙ c.loop-at.invariant.0))) in (
+      ap (λ x. c.append.new.self ++ without_crs x) (after_one rest at) ∙ written,
+      begins_more c.args.out.now out c.append.new.self (take at rest) c.loop-at.invariant.1 c.in_ok-append.ensures.appended,
+    )
 
 pub returns-clause-written : goal.returns-clause-written
 returns-clause-written g c =

@@ -35,4 +35,5 @@ returns-then-is_run-clause-short g c =
     let whole = c.as_bytes.ensures.value in
     let run : all_have is_unescaped w ≡ true = ap (all_have is_unescaped) (sym whole) ∙ (sym c.is_run.ensures ∙ c.if-is_run.true) in
     let meant : string_value (chars w) ≡ Some (chars w) = unescaped_string w (subst IsUtf8 whole c.as_bytes.ensures.utf8) run in
-    on_ok c.put_text.result (λ e. string_fits c.put_text.new.out _ (ap chars e ∙ sym (ap (λ x. unwrap_or x []) (sym (ap string_value c.without_ends-quoted.ensures) ∙ meant)))) c.put_text.ensures
+    on_ok c.put_text.result (λ e. string_fits c.put_text.new.out _
+    (ap chars e ∙ sym (ap (λ x. unwrap_or x []) (sym (ap string_value c.without_ends-quoted.ensures) ∙ meant)))) c.put_text.ensures

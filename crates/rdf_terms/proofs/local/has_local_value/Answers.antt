@@ -12,7 +12,9 @@ pub returns-then-not-stands : goal.returns-then-not-stands
 returns-then-not-stands c =
     let n = next_char _ _ _ c.loop-c.invariant.utf8 c.in-Some.ensures.steps.0 in
     sym (c.loop-c.invariant.same ∙ (ap (λ w. is_some (local_from c.loop-c.escaped w)) n.chars
-    ∙ (local-next c.loop-c.escaped c.in-Some.c _ ∙ ap (λ (t : Bool). t && is_some (local_from (local_opens c.loop-c.escaped c.in-Some.c) (chars (chars_rest c.next.new.self)))) (sym c.stands.ensures ∙ c.if-not-stands.true))))
+    ∙ (local-next c.loop-c.escaped c.in-Some.c _
+    ∙ ap (λ (t : Bool). t && is_some (local_from (local_opens c.loop-c.escaped c.in-Some.c) (chars (chars_rest c.next.new.self))))
+    (sym c.stands.ensures ∙ c.if-not-stands.true))))
 
 pub loop-c-preserved : goal.loop-c-preserved
 loop-c-preserved c =
@@ -20,7 +22,9 @@ loop-c-preserved c =
     record {
       utf8 = n.utf8;
       same = c.loop-c.invariant.same ∙ (ap (λ w. is_some (local_from c.loop-c.escaped w)) n.chars
-          ∙ (local-next c.loop-c.escaped c.in-Some.c _ ∙ (ap (λ (t : Bool). t && is_some (local_from (local_opens c.loop-c.escaped c.in-Some.c) (chars (chars_rest c.next.new.self)))) (sym c.stands.ensures ∙ c.if-not-stands.false)
+          ∙ (local-next c.loop-c.escaped c.in-Some.c _
+          ∙ (ap (λ (t : Bool). t && is_some (local_from (local_opens c.loop-c.escaped c.in-Some.c)
+          (chars (chars_rest c.next.new.self)))) (sym c.stands.ensures ∙ c.if-not-stands.false)
           ∙ ap (λ (b : Bool). is_some (local_from b (chars (chars_rest c.next.new.self)))) (sym c.opens-escaped.ensures))));
     }
 

@@ -14,4 +14,5 @@ returns g c =
     let long = length-chunk c.args.at n bs c.requires.within in
     lanes_decide (is_short_byte 34) bs c.args.at n _ c.requires.within (omega (arith, c.requires.few))
     (mask_within _ _ v _ (omega (arith, long, c.requires.few)) (chunk-fits w8 c.args.at n bs c.type_inv.bytes)
-    (joined _ _ _ v (joined _ _ _ v (zip2_splat {Y = ℕ} _ v n 34 long) (zip2_splat {Y = ℕ} _ v n 92 long)) (joined _ _ _ v (zip2_splat {Y = ℕ} _ v n 10 long) (zip2_splat {Y = ℕ} _ v n 13 long))) refl)
+    (joined _ _ _ v (joined _ _ _ v (zip2_splat {Y = ℕ} _ v n 34 long) (zip2_splat {Y = ℕ} _ v n 92 long))
+    (joined _ _ _ v (zip2_splat {Y = ℕ} _ v n 10 long) (zip2_splat {Y = ℕ} _ v n 13 long))) refl)

@@ -20,4 +20,5 @@ returns-in-None-after c =
 
 pub returns : goal.returns
 returns c =
-    tag_goes_on-IsTag _ _ (c.is_end.ensures ∙ sym (c.loop-c.invariant.same ∙ ap (tag_goes_on (place_of c.loop-c.place)) (no_chars _ c.in-None.ensures.steps.0.0)))
+    tag_goes_on-IsTag _ _ (c.is_end.ensures
+    ∙ sym (c.loop-c.invariant.same ∙ ap (tag_goes_on (place_of c.loop-c.place)) (no_chars _ c.in-None.ensures.steps.0.0)))

@@ -18,7 +18,8 @@ pub returns-in-LongString : goal.returns-in-LongString
 unfolding is_fit
 returns-in-LongString c =
     let w = chars c.args.text.now in
-    let three = c.without_ends-in-LongString-3.ensures ∙ ap (inside 1) (c.without_ends-in-LongString-2.ensures ∙ ap (inside 1) c.without_ends-in-LongString.ensures ∙ inside-inside 1 1 w) ∙ inside-inside 1 2 w in
+    let three = c.without_ends-in-LongString-3.ensures ∙ ap (inside 1) (c.without_ends-in-LongString-2.ensures
+    ∙ ap (inside 1) c.without_ends-in-LongString.ensures ∙ inside-inside 1 1 w) ∙ inside-inside 1 2 w in
     rw (c.in-LongString.is, ← three) c.is_string_inside-in-LongString.ensures
 
 pub returns-in_default : goal.returns-in_default

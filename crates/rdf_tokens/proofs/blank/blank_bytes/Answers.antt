@@ -15,7 +15,8 @@ returns-then-is_cut-clause-len c =
 pub returns-then-is_cut-clause-comment : goal.returns-then-is_cut-clause-comment
 returns-then-is_cut-clause-comment c =
     let r = c.comment_end-end in
-    sym (c.parts.invariant.comment ∙ (cut_on c.args.dialect c.parts.comment c.args.bytes.now c.parts.at r.result r.ensures (sym c.is_cut.ensures ∙ c.if-is_cut.true)).1)
+    sym (c.parts.invariant.comment ∙ (cut_on c.args.dialect c.parts.comment c.args.bytes.now c.parts.at r.result r.ensures
+    (sym c.is_cut.ensures ∙ c.if-is_cut.true)).1)
 
 pub returns-then-not-is_hash-clause-len : goal.returns-then-not-is_hash-clause-len
 returns-then-not-is_hash-clause-len c =
@@ -36,7 +37,8 @@ returns-then-not-is_hash-clause-comment c =
     let w = c.white_end-at in
     let bs = c.args.bytes.now in
     let part = part_on c.args.dialect c.parts.comment bs c.parts.at r.result w.result r.ensures (sym c.is_cut.ensures ∙ c.if-is_cut.false) w.ensures in
-    sym (c.parts.invariant.comment ∙ (part.comment ∙ (ends_there c.args.dialect bs r.result w.result w.ensures (sym c.is_hash.ensures ∙ c.if-not-is_hash.true)).1))
+    sym (c.parts.invariant.comment
+    ∙ (part.comment ∙ (ends_there c.args.dialect bs r.result w.result w.ensures (sym c.is_hash.ensures ∙ c.if-not-is_hash.true)).1))
 
 pub parts-preserved : goal.parts-preserved
 parts-preserved c =

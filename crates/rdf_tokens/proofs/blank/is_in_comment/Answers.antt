@@ -18,4 +18,5 @@ pub returns-clause-comment : goal.returns-clause-comment
 returns-clause-comment c = λ d e. sym (comment-bytes d true c.args.text.now c.utf8.text) ∙ (in_comment c.args.text.now (run c e) d).1
 
 pub returns-clause-feeds : goal.returns-clause-feeds
-returns-clause-feeds c = λ d e. blank_feeds d true c.args.text.now c.utf8.text (in_comment c.args.text.now (run c e) d).0 ∙ flat_comment c.args.text.now (run c e)
+returns-clause-feeds c = λ d e. blank_feeds d true c.args.text.now c.utf8.text (in_comment c.args.text.now (run c e) d).0
+    ∙ flat_comment c.args.text.now (run c e)

@@ -12,7 +12,8 @@ returns-clause-len c = λ e.
 
 pub returns-clause-comment : goal.returns-clause-comment
 returns-clause-comment c = λ e.
-    sym (ap (comment_after c.args.dialect false) c.as_bytes.ensures.value ∙ comment-bytes c.args.dialect false c.args.text.now c.utf8.text) ∙ c.is_one_byte.ensures.comment e
+    sym (ap (comment_after c.args.dialect false) c.as_bytes.ensures.value ∙ comment-bytes c.args.dialect false c.args.text.now c.utf8.text)
+    ∙ c.is_one_byte.ensures.comment e
 
 pub returns-clause-feeds : goal.returns-clause-feeds
 returns-clause-feeds c = λ e.

@@ -13,7 +13,8 @@ unreachable-requires c =
     let first = c.args.first in
     elim c.in_default.branch [
       | in_default-via-in-Some+in_default w ↦ w.in_default.ensures'.value (has_hex c.args.second c.requires.second)
-      | in_default-via-in_default w ↦ subst (λ r. SomeIff r (has hex_digit first ≡ true) (hex_value first)) w.in_default.is-0 c.hex_value.ensures.value (has_hex first c.requires.first)
+      | in_default-via-in_default w ↦ subst (λ r. SomeIff r (has hex_digit first ≡ true) (hex_value first)) w.in_default.is-0
+          c.hex_value.ensures.value (has_hex first c.requires.first)
     ]
 
 pub returns : goal.returns

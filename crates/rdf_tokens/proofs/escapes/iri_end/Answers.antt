@@ -31,6 +31,8 @@ loop-next-preserved c =
     let inside = state.Iri iri_state.Inside in
     record {
       within = run.within;
-      rests = rests-more inside bs from at end before.rests (rests-more inside bs at next end (rests_uchar_in_iri bs at next escape.uchar) (rests_iri bs next end run));
-      fits = fits-more bs from at end before.fits (fits-more bs at next end (fits_iri_uchar bs at next escape) (fits_iri_run bs next end (λ k. omega (arith, c.type_inv.bytes k)) run));
+      rests = rests-more inside bs from at end before.rests
+          (rests-more inside bs at next end (rests_uchar_in_iri bs at next escape.uchar) (rests_iri bs next end run));
+      fits = fits-more bs from at end before.fits (fits-more bs at next end (fits_iri_uchar bs at next escape)
+          (fits_iri_run bs next end (λ k. omega (arith, c.type_inv.bytes k)) run));
     }

@@ -10,5 +10,6 @@ returns-in-Some c =
     let from = c.args.at + 2 in
     record {
       uchar = c.in-Some.ensures;
-      allowed = number_allowed bs from c.in-Some.end (uchar_digits bs c.args.at c.in-Some.end c.in-Some.ensures) (sym c.writes_iri_char.ensures ∙ c.if-writes_iri_char.true);
+      allowed = number_allowed bs from c.in-Some.end (uchar_digits bs c.args.at c.in-Some.end c.in-Some.ensures)
+          (sym c.writes_iri_char.ensures ∙ c.if-writes_iri_char.true);
     }

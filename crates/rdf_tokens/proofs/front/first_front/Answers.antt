@@ -64,12 +64,14 @@ pub returns-in-Other-clause-best : goal.returns-in-Other-clause-best
 returns-in-Other-clause-best c =
     let x = c.char_at-c in
     let d = c.args.dialect in
-    (reached-out d c.args.text.now x.result.1 Dead None (reached-none d c.args.text.now x.result.1 x.result.0 c.utf8.text x.ensures.is x.ensures.past x.ensures.fits
+    (reached-out d c.args.text.now x.result.1 Dead None
+    (reached-none d c.args.text.now x.result.1 x.result.0 c.utf8.text x.ensures.is x.ensures.past x.ensures.fits
     (sym (ap (λ f. begin d f x.result.0) (sym c.family_of.ensures ∙ c.in-Other.is)))) (inr refl)).0
 
 pub returns-in-Other-clause-state : goal.returns-in-Other-clause-state
 returns-in-Other-clause-state c =
     let x = c.char_at-c in
     let d = c.args.dialect in
-    (reached-out d c.args.text.now x.result.1 Dead None (reached-none d c.args.text.now x.result.1 x.result.0 c.utf8.text x.ensures.is x.ensures.past x.ensures.fits
+    (reached-out d c.args.text.now x.result.1 Dead None
+    (reached-none d c.args.text.now x.result.1 x.result.0 c.utf8.text x.ensures.is x.ensures.past x.ensures.fits
     (sym (ap (λ f. begin d f x.result.0) (sym c.family_of.ensures ∙ c.in-Other.is)))) (inr refl)).1

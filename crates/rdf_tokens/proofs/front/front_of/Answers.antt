@@ -13,7 +13,8 @@ use Rattle.rdf_tokens.proofs.front.front_of.Goals as goal
 pub returns-then-is_some-clause-best : goal.returns-then-is_some-clause-best
 returns-then-is_some-clause-best c =
     front-bytes c.args.dialect c.args.text.now c.fixed_front.result c.with_length.result c.longer.result c.utf8.text
-    (c.fixed_front.ensures ∙ ap (front_by (rows_of c.args.dialect fixed)) c.as_bytes.ensures.value) (c.with_length.ensures ∙ c.shaped_front-shaped.ensures.best) c.longer.ensures
+    (c.fixed_front.ensures ∙ ap (front_by (rows_of c.args.dialect fixed)) c.as_bytes.ensures.value)
+    (c.with_length.ensures ∙ c.shaped_front-shaped.ensures.best) c.longer.ensures
 
 pub returns-then-is_some-clause-live : goal.returns-then-is_some-clause-live
 returns-then-is_some-clause-live c =
@@ -29,13 +30,15 @@ returns-then-is_some-clause-walked c =
     let shaped = c.shaped_front-shaped in
     subst (Walked c.args.dialect c.args.text.now) (sym c.keep.ensures)
     (walked_if c.args.dialect c.args.text.now _ _ _
-    (walked-kept c.args.dialect c.args.text.now _ _ shaped.result.len shaped.result.kind shaped.result.state c.utf8.text c.requires.walked refl shaped.ensures.best shaped.ensures.state)
+    (walked-kept c.args.dialect c.args.text.now _ _ shaped.result.len shaped.result.kind shaped.result.state c.utf8.text c.requires.walked
+    refl shaped.ensures.best shaped.ensures.state)
     c.requires.walked)
 
 pub returns-else-is_some-clause-best : goal.returns-else-is_some-clause-best
 returns-else-is_some-clause-best c =
     front-bytes c.args.dialect c.args.text.now c.fixed_front.result c.with_length.result c.longer.result c.utf8.text
-    (c.fixed_front.ensures ∙ ap (front_by (rows_of c.args.dialect fixed)) c.as_bytes.ensures.value) (c.with_length.ensures ∙ c.shaped_front-shaped.ensures.best) c.longer.ensures
+    (c.fixed_front.ensures ∙ ap (front_by (rows_of c.args.dialect fixed)) c.as_bytes.ensures.value)
+    (c.with_length.ensures ∙ c.shaped_front-shaped.ensures.best) c.longer.ensures
 
 pub returns-else-is_some-clause-live : goal.returns-else-is_some-clause-live
 returns-else-is_some-clause-live c =

@@ -16,6 +16,13 @@ returns-in-Turtle c =
     let run : IsRun is_prefix_byte bs 0 c.prefix_end.result = subst (λ x. IsRun is_prefix_byte x 0 c.prefix_end.result) same c.prefix_end.ensures in
     let few = c.states_end.ensures.few in
     let no_names : BeginsNoName _ (chars bs) s = subst (λ d. BeginsNoName d (chars bs) s) c.in-Turtle.is c.requires in
-    subst (λ d. HasNoNames d bs (Some (record { left = length c.as_bytes-bytes.result.now - c.prefix_end.result; state = s; out = length c.as_bytes-bytes.result.now - c.states_end.result }))) (sym c.in-Turtle.is)
-    (none_in bs c.prefix_end.result (length c.as_bytes-bytes.result.now - c.prefix_end.result) c.states_end.result (length c.as_bytes-bytes.result.now - c.states_end.result) s c.utf8.text letter run no_names
-    (subst (λ d. Ends d (chars bs) c.states_end.result) c.in-Turtle.is c.states_end.ensures.end) (ap (λ x. length x - c.prefix_end.result) same) (omega (arith, few, ap length same)))
+    subst (λ d. HasNoNames d bs
+    (Some (record {
+      left = length c.as_bytes-bytes.result.now - c.prefix_end.result;
+      state = s;
+      out = length c.as_bytes-bytes.result.now - c.states_end.result;
+    }))) (sym c.in-Turtle.is)
+    (none_in bs c.prefix_end.result (length c.as_bytes-bytes.result.now - c.prefix_end.result) c.states_end.result
+    (length c.as_bytes-bytes.result.now - c.states_end.result) s c.utf8.text letter run no_names
+    (subst (λ d. Ends d (chars bs) c.states_end.result) c.in-Turtle.is c.states_end.ensures.end)
+    (ap (λ x. length x - c.prefix_end.result) same) (omega (arith, few, ap length same)))

@@ -13,4 +13,5 @@ returns-in-Some-clause-look c = λ t.
     let d = c.args.dialect in
     let bs = c.args.text.now in
     let n = c.quick_front-quick.result.len in
-    token-look d c.args.limit t bs n c.in-Some.kind c.utf8.text (sym c.is_over.ensures.over ∙ c.if-is_over.false) (subst (IsQuick d bs n) c.in-Some.is c.quick_front-quick.ensures)
+    token-look d c.args.limit t bs n c.in-Some.kind c.utf8.text (sym c.is_over.ensures.over ∙ c.if-is_over.false)
+    (subst (IsQuick d bs n) c.in-Some.is c.quick_front-quick.ensures)

@@ -17,7 +17,8 @@ returns-in-GoesOn-clause-look c = λ limit o.
     let d = c.args.dialect in
     let w = chars c.args.text.now in
     let b : c.is_open-waits.result ≡ (is_empty w || is_live d w) =
-    c.is_open-waits.ensures ∙ (ap (λ x. x || c.front_of-front.result.live) (empty-bytes c.args.text.now c.utf8.text) ∙ ap (λ x. is_empty w || x) c.front_of-front.ensures.live) in
+    c.is_open-waits.ensures ∙ (ap (λ x. x || c.front_of-front.result.live) (empty-bytes c.args.text.now c.utf8.text)
+    ∙ ap (λ x. is_empty w || x) c.front_of-front.ensures.live) in
     step-open d limit (tail_after c.args.tail) w true o (sym c.if-waits.true ∙ b) ∙ ap (λ t. by_tail d (tail_after t) w true) c.in-GoesOn.is
 
 pub returns-in-Broken-clause-look : goal.returns-in-Broken-clause-look
@@ -25,7 +26,8 @@ returns-in-Broken-clause-look c = λ limit o.
     let d = c.args.dialect in
     let w = chars c.args.text.now in
     let b : c.is_open-waits.result ≡ (is_empty w || is_live d w) =
-    c.is_open-waits.ensures ∙ (ap (λ x. x || c.front_of-front.result.live) (empty-bytes c.args.text.now c.utf8.text) ∙ ap (λ x. is_empty w || x) c.front_of-front.ensures.live) in
+    c.is_open-waits.ensures ∙ (ap (λ x. x || c.front_of-front.result.live) (empty-bytes c.args.text.now c.utf8.text)
+    ∙ ap (λ x. is_empty w || x) c.front_of-front.ensures.live) in
     step-open d limit (tail_after c.args.tail) w true o (sym c.if-waits-2.true ∙ b) ∙ ap (λ t. by_tail d (tail_after t) w true) c.in-Broken.is
 
 pub returns-in_default-clause-look : goal.returns-in_default-clause-look
@@ -34,7 +36,8 @@ returns-in_default-clause-look c = λ limit o.
     let bs = c.args.text.now in
     let w = chars bs in
     let b : c.is_open-waits.result ≡ (is_empty w || is_live d w) =
-    c.is_open-waits.ensures ∙ (ap (λ x. x || c.front_of-front.result.live) (empty-bytes bs c.utf8.text) ∙ ap (λ x. is_empty w || x) c.front_of-front.ensures.live) in
+    c.is_open-waits.ensures ∙ (ap (λ x. x || c.front_of-front.result.live) (empty-bytes bs c.utf8.text)
+    ∙ ap (λ x. is_empty w || x) c.front_of-front.ensures.live) in
     let h : (tail_after c.args.tail ≡ ended) ⊎ (c.is_open-waits.result ≡ false) = elim c.in_default.branch [
       | in_default-via-in-GoesOn+else-waits x ↦ inr x.if-waits.false
       | in_default-via-in-Broken+else-waits-2 x ↦ inr x.if-waits-2.false

@@ -24,7 +24,8 @@ returns-else-is_some c =
     let none : is_some (kind_at l.state) ≡ false = sym (c.is_some.ensures ∙ ap is_some c.kind.ensures) ∙ c.if-is_some.false in
     let most = w.ensures.few in
     c.is_live.ensures
-    ∙ sym (by_state d c.args.limit l.count (chars c.args.text.now) l.state (omega arith) w.ensures.came.here.count w.ensures.came.state ∙ ap (λ b. b || goes_on d l.state) none)
+    ∙ sym (by_state d c.args.limit l.count (chars c.args.text.now) l.state (omega arith) w.ensures.came.here.count w.ensures.came.state
+    ∙ ap (λ b. b || goes_on d l.state) none)
 
 pub returns-then-is_some : goal.returns-then-is_some
 returns-then-is_some c =
@@ -34,4 +35,5 @@ returns-then-is_some c =
     let over = c.if-end-limit.true in
     let some : is_some (kind_at l.state) ≡ true = sym (c.is_some.ensures ∙ ap is_some c.kind.ensures) ∙ c.if-is_some.true in
     let most = w.ensures.few in
-    c.if-is_some.true ∙ sym (by_state d c.args.limit l.count (chars c.args.text.now) l.state (omega arith) w.ensures.came.here.count w.ensures.came.state ∙ ap (λ b. b || goes_on d l.state) some)
+    c.if-is_some.true ∙ sym (by_state d c.args.limit l.count (chars c.args.text.now) l.state
+    (omega arith) w.ensures.came.here.count w.ensures.came.state ∙ ap (λ b. b || goes_on d l.state) some)

@@ -13,5 +13,6 @@ returns-then-is_decimal_end c =
     let end = c.digits_end-end.result in
     let last = c.digits_end-last.result in
     subst (λ b. IsToken Turtle b last Decimal) v
-    (quick_decimal bs 0 end (subst IsUtf8 (sym v) c.utf8.text) (subst (λ b. BeginsNumber b 0) (sym v) (record { inside = c.requires.some; digit = c.requires.digit; sign = inl refl })) c.digits_end-end.ensures last
+    (quick_decimal bs 0 end (subst IsUtf8 (sym v) c.utf8.text) (subst (λ b. BeginsNumber b 0) (sym v)
+    (record { inside = c.requires.some; digit = c.requires.digit; sign = inl refl })) c.digits_end-end.ensures last
     (sym c.is_point.ensures ∙ c.if-is_point.true) c.digits_end-last.ensures (sym c.is_decimal_end.ensures ∙ c.if-is_decimal_end.true))

@@ -19,4 +19,5 @@ returns c =
     let n : c.one_space-blank.result ≡ one_space bs = c.one_space-blank.ensures ∙ ap one_space c.as_bytes.ensures.value in
     let o = c.seen_quick.result in
     let v = c.range_from.ensures.value in
-    seen_after bs c.one_space-blank.result o n (subst (λ w. Sees w c.one_space-blank.result o) v c.seen_quick.ensures.token) (subst (λ w. IfSome o (λ p. IsBare w)) v c.seen_quick.ensures.bare)
+    seen_after bs c.one_space-blank.result o n (subst (λ w. Sees w c.one_space-blank.result o) v c.seen_quick.ensures.token)
+    (subst (λ w. IfSome o (λ p. IsBare w)) v c.seen_quick.ensures.bare)

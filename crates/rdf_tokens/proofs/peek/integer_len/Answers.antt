@@ -12,4 +12,6 @@ returns-then-is_integer_end c =
     let v = c.as_bytes-bytes.ensures.value in
     let end = c.digits_end-end.result in
     subst (λ b. IsToken Turtle b end Integer) v
-    (quick_integer bs 0 end (subst IsUtf8 (sym v) c.utf8.text) (subst (λ b. BeginsNumber b 0) (sym v) (record { inside = c.requires.some; digit = c.requires.digit; sign = inl refl })) c.digits_end-end.ensures (sym c.is_integer_end.ensures ∙ c.if-is_integer_end.true))
+    (quick_integer bs 0 end (subst IsUtf8 (sym v) c.utf8.text)
+    (subst (λ b. BeginsNumber b 0) (sym v) (record { inside = c.requires.some; digit = c.requires.digit; sign = inl refl }))
+    c.digits_end-end.ensures (sym c.is_integer_end.ensures ∙ c.if-is_integer_end.true))

@@ -28,7 +28,8 @@ none bs end u is run ends one = (
 )
 
 -- some
-some : (bs : List ℕ) (end : ℕ) → IsUtf8 bs → is_colon bs 0 ≡ true → IsRun is_name_byte bs 1 end → is_name_end bs end ≡ true → (end ≡ 1 → ⊥) → (get_or bs 1 0 ≡ 45 → ⊥) →
+some : (bs : List ℕ) (end : ℕ) → IsUtf8 bs → is_colon bs 0 ≡ true → IsRun is_name_byte bs 1 end → is_name_end bs end ≡ true →
+    (end ≡ 1 → ⊥) → (get_or bs 1 0 ≡ 45 → ⊥) →
     IsLocal bs end
 some bs end u is run ends n h = (
   subst (IsToken Turtle bs end) (sym (cond-false (end == 1) PnameNs PnameLn (ne_eqb end 1 n))) (quick_local bs 0 end u (inl refl) is run ends n h),

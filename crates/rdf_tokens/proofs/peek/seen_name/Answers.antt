@@ -24,7 +24,8 @@ returns-then-is_local c =
     let second = c.two_run_ends-colon.ensures.second (ltb-true colon (length bs) (and_parts _ _ is).0) in
     let l = local_is bs (colon + 1) end (sym c.is_local.ensures ∙ c.if-is_local.true) in (
       refl,
-      subst (λ b. IsToken Turtle b end PnameLn) v (quick_local bs colon end (subst IsUtf8 (sym v) c.utf8.text) (inr (letter, first)) is second l.ends l.some l.no_hyphen),
+      subst (λ b. IsToken Turtle b end PnameLn) v
+          (quick_local bs colon end (subst IsUtf8 (sym v) c.utf8.text) (inr (letter, first)) is second l.ends l.some l.no_hyphen),
       subst (λ b. KnowsColon (take end b) (colon + 1)) v (run_past bs colon end (prefix_bytes bs colon letter first) is second),
     )
 
@@ -34,7 +35,8 @@ returns-then-is_a c =
     let v = c.as_bytes-bytes.ensures.value in (
       refl,
       subst (λ b. IsToken Turtle b 1 A) v
-          (quick_a bs c.two_run_ends-colon.result.0 (subst IsUtf8 (sym v) c.utf8.text) c.two_run_ends-colon.ensures.first (sym c.is_a.ensures ∙ c.if-is_a.true)),
+          (quick_a bs c.two_run_ends-colon.result.0 (subst IsUtf8 (sym v) c.utf8.text) c.two_run_ends-colon.ensures.first
+          (sym c.is_a.ensures ∙ c.if-is_a.true)),
       tt,
     )
 

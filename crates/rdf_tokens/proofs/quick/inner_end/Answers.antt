@@ -25,7 +25,8 @@ returns-then-stands_at-clause-rests c =
     let at = c.args.at in
     let end = c.run_end-end.result in
     let run = subst (λ r. IsRun (goes_over r) bs (at + 1) end) c.long_run-run.ensures c.run_end-end.ensures in
-    quoted_rests c.args.quote bs at end (subst (λ b. stands_at b bs at ≡ true) c.quote_byte.ensures (sym c.stands_at.ensures ∙ c.if-stands_at.true)) run (omega (arith, run.from))
+    quoted_rests c.args.quote bs at end (subst (λ b. stands_at b bs at ≡ true) c.quote_byte.ensures
+    (sym c.stands_at.ensures ∙ c.if-stands_at.true)) run (omega (arith, run.from))
 
 pub returns-then-stands_at-clause-fits : goal.returns-then-stands_at-clause-fits
 returns-then-stands_at-clause-fits c =
@@ -33,7 +34,8 @@ returns-then-stands_at-clause-fits c =
     let at = c.args.at in
     let end = c.run_end-end.result in
     let run = subst (λ r. IsRun (goes_over r) bs (at + 1) end) c.long_run-run.ensures c.run_end-end.ensures in
-    quoted_fits c.args.quote bs at end (subst (λ b. stands_at b bs at ≡ true) c.quote_byte.ensures (sym c.stands_at.ensures ∙ c.if-stands_at.true)) run (omega (arith, run.from))
+    quoted_fits c.args.quote bs at end (subst (λ b. stands_at b bs at ≡ true) c.quote_byte.ensures
+    (sym c.stands_at.ensures ∙ c.if-stands_at.true)) run (omega (arith, run.from))
 
 pub returns-clause-rests : goal.returns-clause-rests
 returns-clause-rests c = (after c.args.quote c.long_run-run.result c.args.bytes.now c.args.at c.escape_end.result c.long_run-run.ensures c.escape_end.ensures).0

@@ -25,7 +25,8 @@ quick_name-requires-clause-letter g c =
 pub returns-then-is_sought : goal.returns-then-is_sought
 returns-then-is_sought g c =
     let q = c.quick_name.result in
-    subst (λ d. IsQuick d c.args.text.now q.len q.kind) (sym (sought c.args.dialect c.as_bytes-bytes.result.now c.args.no_names.now (sym c.is_sought.ensures ∙ c.if-is_sought.true)).0) c.quick_name.ensures
+    subst (λ d. IsQuick d c.args.text.now q.len q.kind)
+    (sym (sought c.args.dialect c.as_bytes-bytes.result.now c.args.no_names.now (sym c.is_sought.ensures ∙ c.if-is_sought.true)).0) c.quick_name.ensures
 
 pub quick_named-requires : goal.quick_named-requires
 quick_named-requires g c =
@@ -35,7 +36,8 @@ quick_named-requires g c =
 pub returns-then-is_named : goal.returns-then-is_named
 returns-then-is_named g c =
     let q = c.quick_named.result in
-    subst (λ d. IsQuick d c.args.text.now q.len q.kind) (sym (named c.args.dialect c.as_bytes-bytes.result.now (sym c.is_named.ensures ∙ c.if-is_named.true)).0) c.quick_named.ensures
+    subst (λ d. IsQuick d c.args.text.now q.len q.kind)
+    (sym (named c.args.dialect c.as_bytes-bytes.result.now (sym c.is_named.ensures ∙ c.if-is_named.true)).0) c.quick_named.ensures
 
 pub returns-then-is_dot : goal.returns-then-is_dot
 returns-then-is_dot g c =
@@ -51,7 +53,8 @@ quick_number-requires g c =
 pub returns-then-begins_number : goal.returns-then-begins_number
 returns-then-begins_number g c =
     let q = c.quick_number.result in
-    subst (λ d. IsQuick d c.args.text.now q.len q.kind) (sym (numbered c.args.dialect c.as_bytes-bytes.result.now (sym c.begins_number.ensures ∙ c.if-begins_number.true)).0)
+    subst (λ d. IsQuick d c.args.text.now q.len q.kind)
+    (sym (numbered c.args.dialect c.as_bytes-bytes.result.now (sym c.begins_number.ensures ∙ c.if-begins_number.true)).0)
     c.quick_number.ensures
 
 pub quick_number-requires-then-begins_signed : goal.quick_number-requires-then-begins_signed
@@ -62,7 +65,8 @@ quick_number-requires-then-begins_signed g c =
 pub returns-then-begins_signed : goal.returns-then-begins_signed
 returns-then-begins_signed g c =
     let q = c.quick_number-then-begins_signed.result in
-    subst (λ d. IsQuick d c.args.text.now q.len q.kind) (sym (signed c.args.dialect c.as_bytes-bytes.result.now (sym c.begins_signed.ensures ∙ c.if-begins_signed.true)).0)
+    subst (λ d. IsQuick d c.args.text.now q.len q.kind)
+    (sym (signed c.args.dialect c.as_bytes-bytes.result.now (sym c.begins_signed.ensures ∙ c.if-begins_signed.true)).0)
     c.quick_number-then-begins_signed.ensures
 
 pub returns : goal.returns

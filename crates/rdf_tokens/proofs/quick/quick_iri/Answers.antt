@@ -11,4 +11,5 @@ returns-then-stands_at c d =
     let v = c.as_bytes-bytes.ensures.value in
     let end = c.run_end-end.result in
     subst (λ b. IsToken d b (end + 1) IriRef) v
-    (quick_iri d bs (subst IsUtf8 (sym v) c.utf8.text) (subst (λ b. begins_iri b ≡ true) (sym v) c.requires) end c.run_end-end.ensures (sym c.stands_at.ensures ∙ c.if-stands_at.true))
+    (quick_iri d bs (subst IsUtf8 (sym v) c.utf8.text) (subst (λ b. begins_iri b ≡ true) (sym v) c.requires) end c.run_end-end.ensures
+    (sym c.stands_at.ensures ∙ c.if-stands_at.true))

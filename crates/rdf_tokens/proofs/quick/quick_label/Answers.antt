@@ -11,4 +11,5 @@ returns-then-is_name_end c d =
     let v = c.as_bytes-bytes.ensures.value in
     let end = c.run_end-end.result in
     subst (λ b. IsToken d b (end) LabelNode) v
-    (quick_label d bs end (subst IsUtf8 (sym v) c.utf8.text) (subst (λ b. begins_label b ≡ true) (sym v) c.requires) c.run_end-end.ensures (sym c.is_name_end.ensures ∙ c.if-is_name_end.true))
+    (quick_label d bs end (subst IsUtf8 (sym v) c.utf8.text) (subst (λ b. begins_label b ≡ true) (sym v) c.requires) c.run_end-end.ensures
+    (sym c.is_name_end.ensures ∙ c.if-is_name_end.true))

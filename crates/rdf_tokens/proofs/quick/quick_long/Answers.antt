@@ -13,5 +13,6 @@ returns-then-stands_thrice-2 c =
     let v = c.as_bytes-bytes.ensures.value in
     let end = c.long_end-end.result in
     subst (λ b. IsToken Turtle b (end + 3) LongString) v
-    (quick_long q bs (subst IsUtf8 (sym v) c.utf8.text) (subst (λ b. opens_with Turtle q b ≡ true) (sym v) c.requires) (sym c.stands_thrice.ensures ∙ c.if-stands_thrice.true)
+    (quick_long q bs (subst IsUtf8 (sym v) c.utf8.text) (subst (λ b. opens_with Turtle q b ≡ true) (sym v) c.requires)
+    (sym c.stands_thrice.ensures ∙ c.if-stands_thrice.true)
     end c.long_end-end.ensures.rests c.long_end-end.ensures.fits (sym c.stands_thrice-then-stands_thrice.ensures ∙ c.if-stands_thrice-2.true))

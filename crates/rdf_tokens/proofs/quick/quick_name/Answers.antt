@@ -30,4 +30,5 @@ pub returns-then-is_a : goal.returns-then-is_a
 returns-then-is_a c =
     let bs = c.as_bytes-bytes.result.now in
     let v = c.as_bytes-bytes.ensures.value in
-    subst (λ b. IsToken Turtle b 1 A) v (quick_a bs c.two_run_ends-colon.result.0 (subst IsUtf8 (sym v) c.utf8.text) c.two_run_ends-colon.ensures.first (sym c.is_a.ensures ∙ c.if-is_a.true))
+    subst (λ b. IsToken Turtle b 1 A) v (quick_a bs c.two_run_ends-colon.result.0
+    (subst IsUtf8 (sym v) c.utf8.text) c.two_run_ends-colon.ensures.first (sym c.is_a.ensures ∙ c.if-is_a.true))

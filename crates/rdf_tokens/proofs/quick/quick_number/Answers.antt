@@ -12,7 +12,8 @@ returns-then-is_integer_end c =
     let v = c.as_bytes-bytes.ensures.value in
     let end = c.digits_end-end.result in
     subst (λ b. IsToken Turtle b end Integer) v
-    (quick_integer bs c.args.from end (subst IsUtf8 (sym v) c.utf8.text) (subst (λ b. BeginsNumber b c.args.from) (sym v) c.requires) c.digits_end-end.ensures (sym c.is_integer_end.ensures ∙ c.if-is_integer_end.true))
+    (quick_integer bs c.args.from end (subst IsUtf8 (sym v) c.utf8.text) (subst (λ b. BeginsNumber b c.args.from) (sym v) c.requires)
+    c.digits_end-end.ensures (sym c.is_integer_end.ensures ∙ c.if-is_integer_end.true))
 
 pub returns-then-is_decimal_end : goal.returns-then-is_decimal_end
 returns-then-is_decimal_end c =
@@ -21,5 +22,6 @@ returns-then-is_decimal_end c =
     let end = c.digits_end-end.result in
     let last = c.digits_end-last.result in
     subst (λ b. IsToken Turtle b last Decimal) v
-    (quick_decimal bs c.args.from end (subst IsUtf8 (sym v) c.utf8.text) (subst (λ b. BeginsNumber b c.args.from) (sym v) c.requires) c.digits_end-end.ensures last
+    (quick_decimal bs c.args.from end (subst IsUtf8 (sym v) c.utf8.text)
+    (subst (λ b. BeginsNumber b c.args.from) (sym v) c.requires) c.digits_end-end.ensures last
     (sym c.is_point.ensures ∙ c.if-not-is_point.false) c.digits_end-last.ensures (sym c.is_decimal_end.ensures ∙ c.if-is_decimal_end.true))

@@ -14,7 +14,8 @@ returns-then-is_empty_string c =
     let d = c.args.dialect in
     let q = c.args.quote in
     subst (λ b. IsToken d b 2 ShortString) v
-    (quick_empty d q bs (subst IsUtf8 (sym v) c.utf8.text) (subst (λ b. opens_with d q b ≡ true) (sym v) c.requires) (sym c.is_empty_string.ensures ∙ c.if-is_empty_string.true))
+    (quick_empty d q bs (subst IsUtf8 (sym v) c.utf8.text) (subst (λ b. opens_with d q b ≡ true) (sym v) c.requires)
+    (sym c.is_empty_string.ensures ∙ c.if-is_empty_string.true))
 
 pub returns-then-stands_at : goal.returns-then-stands_at
 returns-then-stands_at c =

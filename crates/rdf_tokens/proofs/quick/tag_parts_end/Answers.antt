@@ -10,7 +10,11 @@ pub loop-next-init : goal.loop-next-init
 loop-next-init c =
     let end = c.letters_end-end.result in
     let r = c.letters_end-end.ensures in
-    record { within = r.within; tag = λ d. first_part d c.args.text.now c.utf8.text c.requires end (subst (λ b. IsRun is_letter b 2 end) c.as_bytes-bytes.ensures.value r) }
+    record {
+      within = r.within;
+      tag = λ d. first_part d c.args.text.now c.utf8.text c.requires end
+          (subst (λ b. IsRun is_letter b 2 end) c.as_bytes-bytes.ensures.value r);
+    }
 
 pub loop-next-preserved : goal.loop-next-preserved
 loop-next-preserved c =
@@ -19,7 +23,8 @@ loop-next-preserved c =
     let p = c.in-Some.ensures in
     record {
       within = p.run.within;
-      tag = λ d. later_part d c.args.text.now c.utf8.text c.requires at next (c.loop-next.invariant.tag d) (subst (λ b. IsLaterPart b at next) c.as_bytes-bytes.ensures.value p);
+      tag = λ d. later_part d c.args.text.now c.utf8.text c.requires at next (c.loop-next.invariant.tag d)
+          (subst (λ b. IsLaterPart b at next) c.as_bytes-bytes.ensures.value p);
     }
 
 pub loop-next-smaller : goal.loop-next-smaller

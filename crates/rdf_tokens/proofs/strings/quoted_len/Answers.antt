@@ -22,7 +22,8 @@ returns-then-stands_at-clause-token c =
     let q = c.args.quote in
     let e = c.string_end-end in
     subst (λ b. IsToken d b (e.result + 1) ShortString) v
-    (string_whole d q bs (subst IsUtf8 (sym v) c.utf8.text) (subst (λ b. opens_with d q b ≡ true) (sym v) c.requires.opens) c.in-Some.first (subst (λ b. IsFirst q b c.in-Some.first) (sym v) c.in-Some.ensures) e.result
+    (string_whole d q bs (subst IsUtf8 (sym v) c.utf8.text) (subst (λ b. opens_with d q b ≡ true) (sym v) c.requires.opens) c.in-Some.first
+    (subst (λ b. IsFirst q b c.in-Some.first) (sym v) c.in-Some.ensures) e.result
     e.ensures.rests e.ensures.fits (subst (λ n. stands_at n bs e.result ≡ true) c.quote_byte.ensures (sym c.stands_at.ensures ∙ c.if-stands_at.true)))
 
 pub returns-then-end-ge3-clause-walked : goal.returns-then-end-ge3-clause-walked
@@ -33,7 +34,9 @@ returns-then-end-ge3-clause-walked c =
     let q = c.args.quote in
     let e = c.string_end-end in
     let some = c.if-end-ge3.true in
-    c.keep_inside.ensures d c.args.text.now c.utf8.text c.requires.walked (subst (λ o. counted_bytes o ≤ e.result) (sym c.requires.none) (omega arith)) (omega arith)
+    c.keep_inside.ensures d c.args.text.now c.utf8.text c.requires.walked
+    (subst (λ o. counted_bytes o ≤ e.result) (sym c.requires.none) (omega arith)) (omega arith)
     (subst (λ b. IsFit d b e.result q) v
-    (string_fits d q bs (subst IsUtf8 (sym v) c.utf8.text) (subst (λ b. opens_with d q b ≡ true) (sym v) c.requires.opens) c.in-Some.first (subst (λ b. IsFirst q b c.in-Some.first) (sym v) c.in-Some.ensures)
+    (string_fits d q bs (subst IsUtf8 (sym v) c.utf8.text) (subst (λ b. opens_with d q b ≡ true) (sym v) c.requires.opens) c.in-Some.first
+    (subst (λ b. IsFirst q b c.in-Some.first) (sym v) c.in-Some.ensures)
     e.result e.ensures.rests e.ensures.fits))

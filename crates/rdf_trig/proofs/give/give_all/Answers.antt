@@ -17,7 +17,8 @@ returns-in_err-rest-clause-err g c =
     (sym (given_in form s c.args.state.now c.args.token.now _
     (option_map quad_of c.rest_quad.result) _ _ c.graph-graph.ensures c.rest_quad.ensures
     refl refl))
-    (gave_more g.S.QuadSink.takes g.S.QuadSink.leaves g.S.QuadSink.has_failed told c.args.sink.now c.put.new.sink (kept (option_map quad_of c.rest_quad.result) []) _ c.in_err-rest.ensures.err))
+    (gave_more g.S.QuadSink.takes g.S.QuadSink.leaves g.S.QuadSink.has_failed told c.args.sink.now c.put.new.sink
+    (kept (option_map quad_of c.rest_quad.result) []) _ c.in_err-rest.ensures.err))
 
 pub returns-in_err-last-clause-err : goal.returns-in_err-last-clause-err
 returns-in_err-last-clause-err g c =
@@ -27,8 +28,10 @@ returns-in_err-last-clause-err g c =
     (sym (given_in form s c.args.state.now c.args.token.now _
     (option_map quad_of c.rest_quad.result) (option_map quad_of c.last_quad.result) _ c.graph-graph.ensures c.rest_quad.ensures
     c.last_quad.ensures refl))
-    (gave_after g.S.QuadSink.takes g.S.QuadSink.leaves g.S.QuadSink.has_failed told c.args.sink.now c.put.new.sink c.put-2.new.sink (kept (option_map quad_of c.rest_quad.result) []) _ c.in_ok-rest.ensures.ok
-    (gave_more g.S.QuadSink.takes g.S.QuadSink.leaves g.S.QuadSink.has_failed told c.put.new.sink c.put-2.new.sink (kept (option_map quad_of c.last_quad.result) []) _ c.in_err-last.ensures.err)))
+    (gave_after g.S.QuadSink.takes g.S.QuadSink.leaves g.S.QuadSink.has_failed told c.args.sink.now c.put.new.sink c.put-2.new.sink
+    (kept (option_map quad_of c.rest_quad.result) []) _ c.in_ok-rest.ensures.ok
+    (gave_more g.S.QuadSink.takes g.S.QuadSink.leaves g.S.QuadSink.has_failed told c.put.new.sink c.put-2.new.sink
+    (kept (option_map quad_of c.last_quad.result) []) _ c.in_err-last.ensures.err)))
 
 pub returns-in_err-due-clause-err : goal.returns-in_err-due-clause-err
 returns-in_err-due-clause-err g c =
@@ -36,26 +39,34 @@ returns-in_err-due-clause-err g c =
     told_stops c.from_residual-in_err-due.result told _ c.from_residual-in_err-due.ensures.1
     (λ form s. subst (λ qs. GaveUp g.S.QuadSink.takes g.S.QuadSink.leaves g.S.QuadSink.has_failed told qs c.args.sink.now c.put-3.new.sink)
     (sym (given_in form s c.args.state.now c.args.token.now _
-    (option_map quad_of c.rest_quad.result) (option_map quad_of c.last_quad.result) (option_map quad_of c.due_quad.result) c.graph-graph.ensures c.rest_quad.ensures
+    (option_map quad_of c.rest_quad.result) (option_map quad_of c.last_quad.result)
+    (option_map quad_of c.due_quad.result) c.graph-graph.ensures c.rest_quad.ensures
     c.last_quad.ensures (c.due_quad.ensures form)))
-    (gave_after g.S.QuadSink.takes g.S.QuadSink.leaves g.S.QuadSink.has_failed told c.args.sink.now c.put.new.sink c.put-3.new.sink (kept (option_map quad_of c.rest_quad.result) []) _ c.in_ok-rest.ensures.ok
-    (gave_after g.S.QuadSink.takes g.S.QuadSink.leaves g.S.QuadSink.has_failed told c.put.new.sink c.put-2.new.sink c.put-3.new.sink (kept (option_map quad_of c.last_quad.result) []) (kept (option_map quad_of c.due_quad.result) []) c.in_ok-last.ensures.ok c.in_err-due.ensures.err)))
+    (gave_after g.S.QuadSink.takes g.S.QuadSink.leaves g.S.QuadSink.has_failed told c.args.sink.now c.put.new.sink c.put-3.new.sink
+    (kept (option_map quad_of c.rest_quad.result) []) _ c.in_ok-rest.ensures.ok
+    (gave_after g.S.QuadSink.takes g.S.QuadSink.leaves g.S.QuadSink.has_failed told c.put.new.sink c.put-2.new.sink c.put-3.new.sink
+    (kept (option_map quad_of c.last_quad.result) []) (kept (option_map quad_of c.due_quad.result) []) c.in_ok-last.ensures.ok c.in_err-due.ensures.err)))
 
 pub returns-clause-ok : goal.returns-clause-ok
 returns-clause-ok g c = λ form s.
     subst (λ qs. Appends g.S.QuadSink.takes c.args.sink.now qs c.put-3.new.sink)
     (sym (given_in form s c.args.state.now c.args.token.now _
-    (option_map quad_of c.rest_quad.result) (option_map quad_of c.last_quad.result) (option_map quad_of c.due_quad.result) c.graph-graph.ensures c.rest_quad.ensures
+    (option_map quad_of c.rest_quad.result) (option_map quad_of c.last_quad.result)
+    (option_map quad_of c.due_quad.result) c.graph-graph.ensures c.rest_quad.ensures
     c.last_quad.ensures (c.due_quad.ensures form)))
-    (appends_append g.S.QuadSink.takes c.args.sink.now c.put.new.sink c.put-3.new.sink (kept (option_map quad_of c.rest_quad.result) []) _ c.in_ok-rest.ensures.ok
-    (appends_append g.S.QuadSink.takes c.put.new.sink c.put-2.new.sink c.put-3.new.sink (kept (option_map quad_of c.last_quad.result) []) (kept (option_map quad_of c.due_quad.result) []) c.in_ok-last.ensures.ok c.in_ok-due.ensures.ok))
+    (appends_append g.S.QuadSink.takes c.args.sink.now c.put.new.sink c.put-3.new.sink
+    (kept (option_map quad_of c.rest_quad.result) []) _ c.in_ok-rest.ensures.ok
+    (appends_append g.S.QuadSink.takes c.put.new.sink c.put-2.new.sink c.put-3.new.sink (kept (option_map quad_of c.last_quad.result) [])
+    (kept (option_map quad_of c.due_quad.result) []) c.in_ok-last.ensures.ok c.in_ok-due.ensures.ok))
 
 pub returns-clause-count : goal.returns-clause-count
 returns-clause-count g c = λ form s.
     let size = ap length (given_in form s c.args.state.now c.args.token.now _
-    (option_map quad_of c.rest_quad.result) (option_map quad_of c.last_quad.result) (option_map quad_of c.due_quad.result) c.graph-graph.ensures c.rest_quad.ensures
+    (option_map quad_of c.rest_quad.result) (option_map quad_of c.last_quad.result)
+    (option_map quad_of c.due_quad.result) c.graph-graph.ensures c.rest_quad.ensures
     c.last_quad.ensures (c.due_quad.ensures form)) in
-    let a = length-append (kept (option_map quad_of c.rest_quad.result) []) ((kept (option_map quad_of c.last_quad.result) []) ++ (kept (option_map quad_of c.due_quad.result) [])) in
+    let a = length-append (kept (option_map quad_of c.rest_quad.result) [])
+    ((kept (option_map quad_of c.last_quad.result) []) ++ (kept (option_map quad_of c.due_quad.result) [])) in
     let b = length-append (kept (option_map quad_of c.last_quad.result) []) (kept (option_map quad_of c.due_quad.result) []) in
     let first = c.in_ok-rest.ensures.count in
     let second = c.in_ok-last.ensures.count in

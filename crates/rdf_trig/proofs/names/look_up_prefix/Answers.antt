@@ -17,7 +17,8 @@ bind-requires-clause-short g c =
 pub returns-in-IriRef-clause-ok : goal.returns-in-IriRef-clause-ok
 returns-in-IriRef-clause-ok g c =
     rw c.in-IriRef.is (on_ok c.bind.result _ _
-    (λ h w s e. binding_looks s c.args.scope.now c.bind.new.scope w (chars (string_bytes c.args.prefix.now)) (leaf c.args.token.now) None e h) c.bind.ensures.ok)
+    (λ h w s e. binding_looks s c.args.scope.now c.bind.new.scope w (chars (string_bytes c.args.prefix.now))
+    (leaf c.args.token.now) None e h) c.bind.ensures.ok)
 
 pub returns-in-IriRef-clause-err : goal.returns-in-IriRef-clause-err
 returns-in-IriRef-clause-err g c =

@@ -28,9 +28,12 @@ returns-in-Some-clause-local c =
     back_chars name _ c.utf8.name (omega (arith, found, l)) (c.range_from.ensures.value ∙ ap (λ n. drop (n + 1) name) (sym found))
 
 pub returns-in-None-clause-prefix : goal.returns-in-None-clause-prefix
-returns-in-None-clause-prefix c = (no_colon c.args.name.now c.utf8.name (position_or_len_is is_colon c.args.name.now (length c.args.name.now) 0 (omega arith) (search rules) (search rules))).0
+returns-in-None-clause-prefix c =
+    (no_colon c.args.name.now c.utf8.name
+    (position_or_len_is is_colon c.args.name.now (length c.args.name.now) 0 (omega arith) (search rules) (search rules))).0
 
 pub returns-in-None-clause-local : goal.returns-in-None-clause-local
 unfolding chars
 returns-in-None-clause-local c =
-    sym (ap (λ o. unwrap_or o []) (no_colon c.args.name.now c.utf8.name (position_or_len_is is_colon c.args.name.now (length c.args.name.now) 0 (omega arith) (search rules) (search rules))).1)
+    sym (ap (λ o. unwrap_or o []) (no_colon c.args.name.now c.utf8.name
+    (position_or_len_is is_colon c.args.name.now (length c.args.name.now) 0 (omega arith) (search rules) (search rules))).1)

@@ -29,4 +29,5 @@ returns-clause-value g c =
 pub returns-clause-short : goal.returns-clause-short
 returns-clause-short g c =
     let size = ap length (two _ _ (chars c.args.text.now) c.without_ends.ensures c.without_ends-2.ensures) in
-    on_ok c.put_string.result _ _ (λ (h : length (string_bytes c.put_string.new.out) ≤ 4 * length (chars c.without_ends-2.result.now)). omega (arith, h, size, inside_short 2 (chars c.args.text.now))) c.put_string.ensures.short
+    on_ok c.put_string.result _ _ (λ (h : length (string_bytes c.put_string.new.out) ≤ 4 * length (chars c.without_ends-2.result.now)).
+    omega (arith, h, size, inside_short 2 (chars c.args.text.now))) c.put_string.ensures.short

@@ -13,4 +13,5 @@ pub returns-in-Open-clause-seen : goal.returns-in-Open-clause-seen
 returns-in-Open-clause-seen g c =
     let e = c.in_ok-seen.ensures in
     let v = c.see_to.new.self in
-    seen_end c.args.self.now.scanner v.scanner c.args.rest.now v.len c.args.is_end c.see_end.result e.same (e.taken c.in-Open.is) (e.far c.in-Open.is) c.see_end.ensures
+    seen_end c.args.self.now.scanner v.scanner c.args.rest.now v.len c.args.is_end c.see_end.result e.same (e.taken c.in-Open.is)
+    (e.far c.in-Open.is) c.see_end.ensures

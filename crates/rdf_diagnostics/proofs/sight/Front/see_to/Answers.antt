@@ -16,7 +16,8 @@ parts-preserved g c =
     let within = c.min.ensures in
     record {
       same = record { dialect = p.same.dialect ∙ s.dialect; limit = p.same.limit ∙ s.limit };
-      taken = took now.scanner c.see_part.new.scanner rest part now.len most c.in_ok-taken.taken refl (omega (arith, c.parts-test.true, c.requires.end)) c.parts.invariant.taken
+      taken = took now.scanner c.see_part.new.scanner rest part now.len most c.in_ok-taken.taken refl
+          (omega (arith, c.parts-test.true, c.requires.end)) c.parts.invariant.taken
           (subst (λ s. SeesPart now.scanner part c.in_ok-taken.taken s c.see_part.new.scanner) c.in-Open.is p);
     }
 
@@ -32,7 +33,8 @@ returns-in_default g c =
     record {
       same = record { dialect = p.same.dialect ∙ s.dialect; limit = p.same.limit ∙ s.limit };
       seen = by_scan old now.scanner (λ d l. IsSeen (reading_from d l (take c.args.end rest) false) c.in_ok-taken.seen) s
-          (decided now.scanner c.see_part.new.scanner rest part now.len most c.in_ok-taken.taken c.args.end c.in_ok-taken.seen refl (omega (arith, c.parts-test.true, c.requires.end))
+          (decided now.scanner c.see_part.new.scanner rest part now.len most c.in_ok-taken.taken c.args.end c.in_ok-taken.seen refl
+          (omega (arith, c.parts-test.true, c.requires.end))
           c.parts.invariant.taken p c.in_default.not-Open);
       leaves = by_scan old now.scanner (λ d l. LeavesOpen d l rest now.len) s c.parts.invariant.taken.front;
       taken = λ e. absurd {A = HasTaken c.see_part.new.scanner rest now.len} (c.in_default.not-Open e);
@@ -47,4 +49,5 @@ returns-clause-seen g c =
 
 pub returns-clause-leaves : goal.returns-clause-leaves
 returns-clause-leaves g c =
-    by_scan c.args.self.now.scanner c.parts.self.scanner (λ d l. LeavesOpen d l c.args.rest.now c.parts.self.len) c.parts.invariant.same c.parts.invariant.taken.front
+    by_scan c.args.self.now.scanner c.parts.self.scanner
+    (λ d l. LeavesOpen d l c.args.rest.now c.parts.self.len) c.parts.invariant.same c.parts.invariant.taken.front

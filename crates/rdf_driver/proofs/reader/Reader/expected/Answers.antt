@@ -6,4 +6,8 @@ use Rattle.rdf_driver.specs.Readers.{Driven}
 use Rattle.rdf_driver.proofs.reader.Reader.expected.Goals as goal
 
 pub returns : goal.returns
-returns g c = record { exact = subst (λ (y : Driven g.row.G.Denot). (k : Kind) → KnowsNext g.G.Grammar.words g.G.Foresees.trees y.grammar k (has c.expected.result k)) c.self.view_is c.expected.ensures.exact }
+returns g c =
+    record {
+      exact = subst (λ (y : Driven g.row.G.Denot). (k : Kind) → KnowsNext g.G.Grammar.words g.G.Foresees.trees y.grammar k
+          (has c.expected.result k)) c.self.view_is c.expected.ensures.exact;
+    }

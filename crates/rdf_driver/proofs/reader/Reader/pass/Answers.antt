@@ -14,11 +14,19 @@ invariant_of-self g c =
     let piece = c.args.bytes.now in
     let goes : r.done ≡ false = ap (λ (x : Driven g.row.G.Denot). x.done) c.self.view_is ∙ (can_pass-parts c.args.self.now (length piece) c.requires.idle).0 in
     let old = going r.progress in
-    let same : old ≡ c.args.self.now = sym (as_running r.progress.scanner r.progress.grammar r.progress.so_far r.done r.found goes (c.self.invariant.1 goes).1) ∙ c.self.view_is in
+    let same : old ≡ c.args.self.now =
+    sym (as_running r.progress.scanner r.progress.grammar r.progress.so_far r.done r.found goes (c.self.invariant.1 goes).1) ∙ c.self.view_is in
     let can : can_pass old (length piece) ≡ true = subst (λ (x : Driven g.row.G.Denot). can_pass x (length piece) ≡ true) (sym same) c.requires.idle in
-    let leads = subst (λ (x : Driven g.row.G.Denot). (more : List g.row.G-Item.Denot) × (c.args.quads ≡ length more) × LeadsBack w x piece more c.args.tokens) (sym same) c.requires.leads in
-    let live = pass_live w old piece c.args.quads c.args.tokens can (c.self.invariant.1 goes).0 leads in
-    (c.self.invariant.0, λ _. (subst (λ (v : Unread). IsLive w (driven v r.progress.grammar (passed old piece c.args.quads c.args.tokens).so_far)) (sym c.pass.ensures) live, (c.self.invariant.1 goes).1))
+    let leads = subst (λ (x : Driven g.row.G.Denot). (more : List g.row.G-Item.Denot) × (c.args.quads ≡ length more)
+    × LeadsBack w x piece more c.args.tokens) (sym same) c.requires.leads in
+    let live = pass_live w old piece c.args.quads c.args.tokens can (c.self.invariant.1 goes).0 leads in (
+      c.self.invariant.0,
+      λ _. (
+        subst (λ (v : Unread). IsLive w (driven v r.progress.grammar (passed old piece c.args.quads c.args.tokens).so_far))
+            (sym c.pass.ensures) live,
+        (c.self.invariant.1 goes).1,
+      ),
+    )
 
 pub overflow_add-self : goal.overflow_add-self
 overflow_add-self g c =
@@ -27,9 +35,11 @@ overflow_add-self g c =
     let piece = c.args.bytes.now in
     let goes : r.done ≡ false = ap (λ (x : Driven g.row.G.Denot). x.done) c.self.view_is ∙ (can_pass-parts c.args.self.now (length piece) c.requires.idle).0 in
     let old = going r.progress in
-    let same : old ≡ c.args.self.now = sym (as_running r.progress.scanner r.progress.grammar r.progress.so_far r.done r.found goes (c.self.invariant.1 goes).1) ∙ c.self.view_is in
+    let same : old ≡ c.args.self.now =
+    sym (as_running r.progress.scanner r.progress.grammar r.progress.so_far r.done r.found goes (c.self.invariant.1 goes).1) ∙ c.self.view_is in
     let can : can_pass old (length piece) ≡ true = subst (λ (x : Driven g.row.G.Denot). can_pass x (length piece) ≡ true) (sym same) c.requires.idle in
-    let leads = subst (λ (x : Driven g.row.G.Denot). (more : List g.row.G-Item.Denot) × (c.args.quads ≡ length more) × LeadsBack w x piece more c.args.tokens) (sym same) c.requires.leads in
+    let leads = subst (λ (x : Driven g.row.G.Denot). (more : List g.row.G-Item.Denot) × (c.args.quads ≡ length more)
+    × LeadsBack w x piece more c.args.tokens) (sym same) c.requires.leads in
     let live = pass_live w old piece c.args.quads c.args.tokens can (c.self.invariant.1 goes).0 leads in
     omega (arith, quads_room w c.self.invariant.0 (passed old piece c.args.quads c.args.tokens) live)
 
@@ -40,9 +50,11 @@ overflow_add-self-2 g c =
     let piece = c.args.bytes.now in
     let goes : r.done ≡ false = ap (λ (x : Driven g.row.G.Denot). x.done) c.self.view_is ∙ (can_pass-parts c.args.self.now (length piece) c.requires.idle).0 in
     let old = going r.progress in
-    let same : old ≡ c.args.self.now = sym (as_running r.progress.scanner r.progress.grammar r.progress.so_far r.done r.found goes (c.self.invariant.1 goes).1) ∙ c.self.view_is in
+    let same : old ≡ c.args.self.now =
+    sym (as_running r.progress.scanner r.progress.grammar r.progress.so_far r.done r.found goes (c.self.invariant.1 goes).1) ∙ c.self.view_is in
     let can : can_pass old (length piece) ≡ true = subst (λ (x : Driven g.row.G.Denot). can_pass x (length piece) ≡ true) (sym same) c.requires.idle in
-    let leads = subst (λ (x : Driven g.row.G.Denot). (more : List g.row.G-Item.Denot) × (c.args.quads ≡ length more) × LeadsBack w x piece more c.args.tokens) (sym same) c.requires.leads in
+    let leads = subst (λ (x : Driven g.row.G.Denot). (more : List g.row.G-Item.Denot) × (c.args.quads ≡ length more)
+    × LeadsBack w x piece more c.args.tokens) (sym same) c.requires.leads in
     let live = pass_live w old piece c.args.quads c.args.tokens can (c.self.invariant.1 goes).0 leads in
     omega (arith, tokens_room w c.self.invariant.0 (passed old piece c.args.quads c.args.tokens) live)
 
@@ -53,9 +65,11 @@ overflow_add-self-3 g c =
     let piece = c.args.bytes.now in
     let goes : r.done ≡ false = ap (λ (x : Driven g.row.G.Denot). x.done) c.self.view_is ∙ (can_pass-parts c.args.self.now (length piece) c.requires.idle).0 in
     let old = going r.progress in
-    let same : old ≡ c.args.self.now = sym (as_running r.progress.scanner r.progress.grammar r.progress.so_far r.done r.found goes (c.self.invariant.1 goes).1) ∙ c.self.view_is in
+    let same : old ≡ c.args.self.now =
+    sym (as_running r.progress.scanner r.progress.grammar r.progress.so_far r.done r.found goes (c.self.invariant.1 goes).1) ∙ c.self.view_is in
     let can : can_pass old (length piece) ≡ true = subst (λ (x : Driven g.row.G.Denot). can_pass x (length piece) ≡ true) (sym same) c.requires.idle in
-    let leads = subst (λ (x : Driven g.row.G.Denot). (more : List g.row.G-Item.Denot) × (c.args.quads ≡ length more) × LeadsBack w x piece more c.args.tokens) (sym same) c.requires.leads in
+    let leads = subst (λ (x : Driven g.row.G.Denot). (more : List g.row.G-Item.Denot) × (c.args.quads ≡ length more)
+    × LeadsBack w x piece more c.args.tokens) (sym same) c.requires.leads in
     let live = pass_live w old piece c.args.quads c.args.tokens can (c.self.invariant.1 goes).0 leads in
     omega (arith, bytes_room w c.self.invariant.0 (passed old piece c.args.quads c.args.tokens) live)
 
@@ -64,7 +78,20 @@ returns-clause-read g c = λ more n l x before given h.
     let w = g.G.Grammar.words in
     let r = c.self.inside in
     let piece = c.args.bytes.now in
-    let after : Unread → Driven g.row.G.Denot = λ v. record { scanner = v; grammar = r.progress.grammar; so_far = record { quads = r.progress.so_far.quads + c.args.quads; tokens = r.progress.so_far.tokens + c.args.tokens; bytes = r.progress.so_far.bytes + length piece }; done = r.done; found = r.found } in
+    let after : Unread → Driven g.row.G.Denot =
+    λ v. record {
+      scanner = v;
+      grammar = r.progress.grammar;
+      so_far = record {
+        quads = r.progress.so_far.quads + c.args.quads;
+        tokens =
+            r.progress.so_far.tokens + c.args.tokens;
+        bytes = r.progress.so_far.bytes + length piece;
+      };
+      done = r.done;
+      found = r.found;
+    } in
     let same : after c.pass.new.self ≡ passed c.args.self.now piece c.args.quads c.args.tokens =
     ap after c.pass.ensures ∙ ap (λ (x : Driven g.row.G.Denot). passed x piece c.args.quads c.args.tokens) c.self.view_is in
-    subst (λ (y : Driven g.row.G.Denot). HasRead w y x (before ++ piece) (given ++ more)) (sym same) (pass_reads w c.args.self.now piece c.args.quads c.args.tokens c.requires.idle more n l x before given h)
+    subst (λ (y : Driven g.row.G.Denot). HasRead w y x (before ++ piece) (given ++ more)) (sym same)
+    (pass_reads w c.args.self.now piece c.args.quads c.args.tokens c.requires.idle more n l x before given h)

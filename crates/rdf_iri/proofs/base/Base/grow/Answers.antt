@@ -41,7 +41,8 @@ pub invariant_of-self-2 : goal.invariant_of-self-2
 invariant_of-self-2 g c = (
   λ t.
       subst (λ x. HasDirectory (parts_of (encode_utf8_all x))) (sym c.in_ok-push_str.ensures.appended)
-      (HasDirectory-grown c.self.inside.iri c.args.reference.now c.utf8.reference (subst (λ x. GrowsBy (encode_utf8_all x) c.args.reference.now) (sym c.self.view_is) c.requires.grows)
+      (HasDirectory-grown c.self.inside.iri c.args.reference.now c.utf8.reference
+      (subst (λ x. GrowsBy (encode_utf8_all x) c.args.reference.now) (sym c.self.view_is) c.requires.grows)
       (subst EndsInSlash c.as_bytes.ensures.value (c.ends_in_slash-self-inside.ensures t))),
   tt,
 )
@@ -53,4 +54,9 @@ returns-clause-resolved g c =
 
 pub returns-clause-within : goal.returns-clause-within
 returns-clause-within g c =
-    omega (arith, ap byte_len (grown g (goal.at.returns-clause-within g c).After-ends_in_slash-self-inside), size g (goal.at.returns-clause-within g c).After-as_str, c.if-len-limit.false)
+    omega (
+      arith,
+      ap byte_len (grown g (goal.at.returns-clause-within g c).After-ends_in_slash-self-inside),
+      size g (goal.at.returns-clause-within g c).After-as_str,
+      c.if-len-limit.false,
+    )

@@ -11,9 +11,11 @@ index-requires g c =
 
 pub returns-in-Some : goal.returns-in-Some
 returns-in-Some g c =
-    found_in_row c.self.inside.row.items c.deref.result.now c.self.inside.others.entries _ (chars c.args.prefix.now) c.in-Some.place c.index.result.now c.deref.ensures.value c.self.view_is
+    found_in_row c.self.inside.row.items c.deref.result.now c.self.inside.others.entries _
+    (chars c.args.prefix.now) c.in-Some.place c.index.result.now c.deref.ensures.value c.self.view_is
     c.in-Some.ensures c.index.ensures
 
 pub returns-in-None : goal.returns-in-None
 returns-in-None g c =
-    found_in_map c.self.inside.row.items c.deref.result.now c.self.inside.others _ c.args.prefix.now c.get.result c.utf8.prefix c.deref.ensures.value c.self.view_is c.in-None.ensures c.get.ensures.value
+    found_in_map c.self.inside.row.items c.deref.result.now c.self.inside.others _ c.args.prefix.now c.get.result c.utf8.prefix
+    c.deref.ensures.value c.self.view_is c.in-None.ensures c.get.ensures.value

@@ -11,5 +11,6 @@ index-requires g c =
 
 pub returns-in-Some : goal.returns-in-Some
 returns-in-Some g c =
-    sym (found_in_row c.self.inside.row.items c.deref.result.now c.self.inside.others.entries _ (chars c.args.prefix.now) c.in-Some.place c.index.result.now c.deref.ensures.value c.self.view_is
+    sym (found_in_row c.self.inside.row.items c.deref.result.now c.self.inside.others.entries _
+    (chars c.args.prefix.now) c.in-Some.place c.index.result.now c.deref.ensures.value c.self.view_is
     c.in-Some.ensures c.index.ensures)

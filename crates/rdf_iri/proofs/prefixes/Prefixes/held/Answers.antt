@@ -15,7 +15,8 @@ row_len-held-requires g c =
     let others = entries_of c.self.inside.others.entries in
     let l = c.args.limits in
     let was = sym c.self.view_is in
-    let sizes = subst (λ (x : List (List ℕ × List ℕ)). (q iri : List ℕ) → bound_to x q ≡ Some iri → (byte_len q ≤ 4 * l.token) × (byte_len iri ≤ l.iri)) was c.requires.sizes in
+    let sizes = subst (λ (x : List (List ℕ × List ℕ)). (q iri : List ℕ) → bound_to x q ≡ Some iri →
+    (byte_len q ≤ 4 * l.token) × (byte_len iri ≤ l.iri)) was c.requires.sizes in
     let count = subst (λ (x : List (List ℕ × List ℕ)). length x ≤ l.bindings) was c.requires.count in
     let bound = row_bound (entries_of row) others l c.self.invariant.apart sizes count in
     let most = most_fits l c.are_in_range.ensures in
@@ -29,18 +30,22 @@ loop-prefix-init g c =
     let others = c.self.inside.others in
     let l = c.args.limits in
     let was = sym c.self.view_is in
-    let sizes = subst (λ (x : List (List ℕ × List ℕ)). (q iri : List ℕ) → bound_to x q ≡ Some iri → (byte_len q ≤ 4 * l.token) × (byte_len iri ≤ l.iri)) was c.requires.sizes in
+    let sizes = subst (λ (x : List (List ℕ × List ℕ)). (q iri : List ℕ) → bound_to x q ≡ Some iri →
+    (byte_len q ≤ 4 * l.token) × (byte_len iri ≤ l.iri)) was c.requires.sizes in
     let count = subst (λ (x : List (List ℕ × List ℕ)). length x ≤ l.bindings) was c.requires.count in
     let rest = sum_within others (4 * l.token + l.iri)
-    (λ q iri h. let k = sizes q iri (bound_to-apart (entries_of row) (entries_of others.entries) c.self.invariant.apart q iri h) in let a = k.0 in let b = k.1 in omega (arith, a, b))
+    (λ q iri h. let k = sizes q iri (bound_to-apart (entries_of row) (entries_of others.entries) c.self.invariant.apart q iri h) in
+    let a = k.0 in let b = k.1 in omega (arith, a, b))
     c.iter-prefix-items.ensures.found in
     let bound = all_within (entries_of row) (entries_of others.entries) l c.self.invariant.apart sizes rest count in
     let first = c.row_len-held.ensures ∙ (ap (sum_by entry_bytes) c.deref.ensures.value ∙ sym (sum-entries_of row)) in
-    let rest = ap (sum_by entry_bytes) (c.into_iter-prefix-iterator.ensures.into_iter_gives ∙ c.iter-prefix-items.ensures.rest) ∙ sym (sum-entries_of others.entries) in
+    let rest = ap (sum_by entry_bytes) (c.into_iter-prefix-iterator.ensures.into_iter_gives ∙ c.iter-prefix-items.ensures.rest)
+    ∙ sym (sum-entries_of others.entries) in
     let both = sum_by-append binding_bytes (entries_of row) (entries_of others.entries) in
     let kept =
     subst
-    (λ (x : List (List ℕ × List ℕ)). (c.row_len-held.result + sum_by entry_bytes c.into_iter-prefix-iterator.result ≡ sum_by binding_bytes x) × (sum_by binding_bytes x ≤ l.bindings * (4 * l.token + l.iri)))
+    (λ (x : List (List ℕ × List ℕ)). (c.row_len-held.result + sum_by entry_bytes c.into_iter-prefix-iterator.result
+    ≡ sum_by binding_bytes x) × (sum_by binding_bytes x ≤ l.bindings * (4 * l.token + l.iri)))
     c.self.view_is
     (omega (arith, first, rest, both), bound)
     in

@@ -12,7 +12,8 @@ use Rattle.rdf_iri.proofs.prefixes.Prefixes.set.Goals as goal
 
 pub place_of-requires : goal.place_of-requires
 place_of-requires g c =
-    let s = sought c.self.inside.slots.items c.deref.result.now c.self.inside.row.items c.deref-2.result.now c.self.inside.others.entries c.deref.ensures.value c.deref-2.ensures.value c.self.invariant in
+    let s = sought c.self.inside.slots.items c.deref.result.now c.self.inside.row.items c.deref-2.result.now c.self.inside.others.entries
+    c.deref.ensures.value c.deref-2.ensures.value c.self.invariant in
     record { slots = s.placed; apart = s.apart }
 
 pub index_mut-requires : goal.index_mut-requires
@@ -105,7 +106,8 @@ invariant_of-self-2 g c =
     let new : bound_to (entries_of row) (chars p) ≡ None = subst (λ r. bound_to (entries_of r) (chars p) ≡ None) c.deref-2.ensures.value c.in_default.ensures in
     record {
       apart = KeptApart-others (entries_of row) _ _ (chars p) c.args.iri new
-          (Sets-inserted c.self.inside.others c.insert.new.self c.in_ok-key.key p c.args.iri _ c.in_ok-key.ensures.ok c.utf8.prefix i.updates i.old i.len) c.self.invariant.apart;
+          (Sets-inserted c.self.inside.others c.insert.new.self c.in_ok-key.key p c.args.iri _ c.in_ok-key.ensures.ok c.utf8.prefix
+          i.updates i.old i.len) c.self.invariant.apart;
       placed = HaveSlots-kept c.self.inside.slots.items c.is_next.new.slots.items row c.is_next.ensures.kept c.self.invariant.placed;
     }
 

@@ -14,7 +14,8 @@ invariant_of-self-2 g c =
     KeepsLimits-bound _ _ (chars p) iri c.self.invariant
     (Binds-set _ _ (chars p) iri c.set.new.self c.in_ok-set.ensures.set refl)
     (subst (λ (s : InForce). HasRoom s (chars p)) was (rw c.if-not-has_room.false at c.has_room.ensures))
-    (subst (λ (n : ℕ). n ≤ 4 * c.self.inside.limits.token) (sym (byte_len-chars p c.utf8.prefix)) (subst (λ (s : InForce). length p ≤ 4 * s.limits.token) was c.requires.short))
+    (subst (λ (n : ℕ). n ≤ 4 * c.self.inside.limits.token) (sym (byte_len-chars p c.utf8.prefix))
+    (subst (λ (s : InForce). length p ≤ 4 * s.limits.token) was c.requires.short))
     (subst (λ (s : InForce). byte_len iri ≤ s.limits.iri) was c.in_ok-iri.ensures.resolved.1)
 
 pub returns-clause-bound : goal.returns-clause-bound

@@ -9,6 +9,7 @@ use Rattle.rdf_iri.proofs.scope.Scope.resolve_in_place.Goals as goal
 pub returns-clause-refused : goal.returns-clause-refused
 returns-clause-refused g c =
     let w = chars (string_bytes c.args.text.now) in
-    let at_base = subst (λ (o : Option (List ℕ)). IfErr c.resolve_in_place.result (Unresolved o w c.iri.result)) (c.base.ensures ∙ ap (λ (s : InForce). s.base) (sym c.self.view_is)) c.resolve_in_place.ensures.refused in
+    let at_base = subst (λ (o : Option (List ℕ)). IfErr c.resolve_in_place.result (Unresolved o w c.iri.result))
+    (c.base.ensures ∙ ap (λ (s : InForce). s.base) (sym c.self.view_is)) c.resolve_in_place.ensures.refused in
     let at_limit = subst (λ (n : ℕ). IfErr c.resolve_in_place.result (Unresolved c.self.inside.base w n)) c.iri.ensures at_base in
     subst (λ (s : InForce). IfErr c.resolve_in_place.result (UnresolvedHere s w)) c.self.view_is at_limit

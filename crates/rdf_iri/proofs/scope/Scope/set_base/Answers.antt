@@ -21,7 +21,8 @@ abbrev seen : Option (List ℕ) → List (List ℕ × List ℕ) → Sizes → In
 seen base names limits = record { base = base; bindings = names; limits = limits }
 
 -- where the base did not grow, the scope is as it was
-same : (g : Over) (c : After-replace_base g) → seen c.in_default.self-inside.base c.in_default.self-inside.names c.in_default.self-inside.limits ≡ c.args.self.now
+same : (g : Over) (c : After-replace_base g) →
+    seen c.in_default.self-inside.base c.in_default.self-inside.names c.in_default.self-inside.limits ≡ c.args.self.now
 same g c = elim c.in_default.branch [
   | in_default-via-in-Some+else-grows_by w ↦
       rw w.self-inside-is (ap (λ (b : Option (List ℕ)). seen b c.self.inside.names c.self.inside.limits) (sym w.in-Some.is) ∙ c.self.view_is)
@@ -29,7 +30,9 @@ same g c = elim c.in_default.branch [
 ]
 
 pub returns-in_default-clause-based : goal.returns-in_default-clause-based
-returns-in_default-clause-based g c = subst (λ (s : InForce). OnOk c.replace_base.result (IsBased s (chars c.args.reference.now) c.replace_base.new.self)) (same g c) c.replace_base.ensures.based
+returns-in_default-clause-based g c =
+    subst (λ (s : InForce). OnOk c.replace_base.result (IsBased s (chars c.args.reference.now) c.replace_base.new.self)) (same g c) c.replace_base.ensures.based
 
 pub returns-in_default-clause-refused : goal.returns-in_default-clause-refused
-returns-in_default-clause-refused g c = subst (λ (s : InForce). IfErr c.replace_base.result (UnresolvedHere s (chars c.args.reference.now))) (same g c) c.replace_base.ensures.refused
+returns-in_default-clause-refused g c = subst (λ (s : InForce). IfErr c.replace_base.result (UnresolvedHere s (chars c.args.reference.now)))
+    (same g c) c.replace_base.ensures.refused

@@ -38,9 +38,11 @@ pass-requires-clause-leads g c =
     let rest = line.rest.now in
     let can : can_pass r (length text) ≡ true = sym c.can_pass.ensures ∙ c.if-not-can_pass.false in
     let e = c.in-Some.ensures in
-    line_leads c.args.ending r c.grammar.result.now c.grammar.ensures.grammar (c.grammar.ensures.limit (can_pass-parts r (length text) can).0) c.in-Some.rules e.rules e.begins e.token
+    line_leads c.args.ending r c.grammar.result.now c.grammar.ensures.grammar
+    (c.grammar.ensures.limit (can_pass-parts r (length text) can).0) c.in-Some.rules e.rules e.begins e.token
     line.tokens (quad_of line.quad) text rest e.short c.in-Ok.ensures.spelled
-    (take (length text - length rest) c.as_bytes.result.now) (line.tokens + c.end_tokens.result) (ap (take (length text - length rest)) c.as_bytes.ensures.value) (ap (λ k. line.tokens + k) c.end_tokens.ensures)
+    (take (length text - length rest) c.as_bytes.result.now) (line.tokens + c.end_tokens.result)
+    (ap (take (length text - length rest)) c.as_bytes.ensures.value) (ap (λ k. line.tokens + k) c.end_tokens.ensures)
 
 pub returns-clause-passes : goal.returns-clause-passes
 returns-clause-passes g c =
@@ -53,8 +55,11 @@ returns-clause-passes g c =
     let form = c.new-form.result in
     let view : take c.self.inside.len c.self.inside.bytes.items ≡ c.args.self.now = search rules in
     let w = c.in-Ok-put_quad.ensures.written.bytes in
-    line_passes c.args.ending r c.grammar.result.now c.grammar.ensures.grammar (c.grammar.ensures.limit (can_pass-parts r (length text) can).0) c.in-Some.rules e.rules e.begins e.token
+    line_passes c.args.ending r c.grammar.result.now c.grammar.ensures.grammar
+    (c.grammar.ensures.limit (can_pass-parts r (length text) can).0) c.in-Some.rules e.rules e.begins e.token
     line.tokens (quad_of line.quad) text rest e.short c.in-Ok.ensures.spelled
-    (take (length text - length rest) c.as_bytes.result.now) (line.tokens + c.end_tokens.result) (ap (take (length text - length rest)) c.as_bytes.ensures.value) (ap (λ k. line.tokens + k) c.end_tokens.ensures)
+    (take (length text - length rest) c.as_bytes.result.now) (line.tokens + c.end_tokens.result)
+    (ap (take (length text - length rest)) c.as_bytes.ensures.value) (ap (λ k. line.tokens + k) c.end_tokens.ensures)
     c.pass.new.self c.pass.ensures.passed c.pass.ensures.read c.args.self.now _
-    (w ∙ (ap (λ x. x ++ encode_utf8_all (line_in (form_of form) (quad_of line.quad))) view ∙ ap (λ f. c.args.self.now ++ encode_utf8_all (line_in f (quad_of line.quad))) c.new-form.ensures))
+    (w ∙ (ap (λ x. x ++ encode_utf8_all (line_in (form_of form) (quad_of line.quad))) view
+    ∙ ap (λ f. c.args.self.now ++ encode_utf8_all (line_in f (quad_of line.quad))) c.new-form.ensures))

@@ -11,5 +11,6 @@ returns g c =
     let r = c.self.inside in
     let here : LineAt = record { rules = r.rules; limit = r.limit; mode = mode_of r.state; held = state_bytes r.state } in
     record {
-      exact = subst (λ y. KnowsNext line_words (λ x. trees x.form) y c.args.kind c.may_come.result) c.self.view_is (knows_next here c.args.kind c.may_come.result c.may_come.ensures);
+      exact = subst (λ y. KnowsNext line_words (λ x. trees x.form) y c.args.kind c.may_come.result) c.self.view_is
+          (knows_next here c.args.kind c.may_come.result c.may_come.ensures);
     }

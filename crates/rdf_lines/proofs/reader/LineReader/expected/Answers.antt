@@ -7,4 +7,8 @@ use Rattle.rdf_lines.specs.Accepting.{line_words}
 use Rattle.rdf_lines.proofs.reader.LineReader.expected.Goals as goal
 
 pub returns : goal.returns
-returns g c = record { exact = subst (λ r. (k : Kind) → KnowsNext line_words (λ x. trees x.form) r.grammar k (has c.expected.result k)) c.self.view_is c.expected.ensures.exact }
+returns g c =
+    record {
+      exact = subst (λ r. (k : Kind) → KnowsNext line_words (λ x. trees x.form) r.grammar k (has c.expected.result k)) c.self.view_is
+          c.expected.ensures.exact;
+    }

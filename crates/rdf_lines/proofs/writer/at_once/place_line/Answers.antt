@@ -26,7 +26,18 @@ place_two-requires g c =
     let predicate = c.place_spaced-third.ensures in
     let object = c.place_object-fourth.ensures in
     let graph = c.place_graph-last.ensures in
-    omega (arith, c.requires.room, subject.within, subject.placed.len, predicate.within, predicate.placed.len, object.within, object.placed.len, graph.within, graph.placed.len)
+    omega (
+      arith,
+      c.requires.room,
+      subject.within,
+      subject.placed.len,
+      predicate.within,
+      predicate.placed.len,
+      object.within,
+      object.placed.len,
+      graph.within,
+      graph.placed.len,
+    )
 
 pub returns : goal.returns
 returns g c =

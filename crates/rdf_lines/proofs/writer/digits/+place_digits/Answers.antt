@@ -4,7 +4,8 @@ use Rattle.rdf_terms.proofs.Places.{Placed-as, Placed-then}
 use Rattle.rdf_lines.proofs.writer.digits.+place_digits.Goals as goal
 
 pub place_digits-front-requires : goal.place_digits-front-requires
-place_digits-front-requires t c = (omega (arith, c.decreases), omega (arith, c.requires, length_four c.args.n (omega (arith, c.if-n-lt100000000.false)) c.ranges.n.fits))
+place_digits-front-requires t c =
+    (omega (arith, c.decreases), omega (arith, c.requires, length_four c.args.n (omega (arith, c.if-n-lt100000000.false)) c.ranges.n.fits))
 
 pub place_four-requires : goal.place_four-requires
 place_four-requires t c =
@@ -12,4 +13,5 @@ place_four-requires t c =
     (omega arith, omega (arith, c.requires, front.moved, front.len, length_four c.args.n (omega (arith, c.if-n-lt100000000.false)) c.ranges.n.fits))
 
 pub returns : goal.returns
-returns t c = Placed-as (sym (decimal_four c.args.n (omega (arith, c.if-n-lt100000000.false)) c.ranges.n.fits)) (Placed-then c.place_digits-front.ensures c.place_four.ensures)
+returns t c = Placed-as (sym (decimal_four c.args.n (omega (arith, c.if-n-lt100000000.false)) c.ranges.n.fits))
+    (Placed-then c.place_digits-front.ensures c.place_four.ensures)

@@ -18,7 +18,8 @@ returns-clause-written g c =
     let graph = graph_bytes form quad.graph in
     let parts : c.put_object.new.out.items ≡ out ++ (subject ++ predicate ++ object) =
     parts_appended _ _ _ _ _ _ _ c.in_ok-put_subject.ensures.written c.in_ok-put_predicate.ensures.written c.in_ok-put_object.ensures.written in
-    let whole : (out ++ (subject ++ predicate ++ object)) ++ (graph ++ 46 ∷ [] ++ 10 ∷ []) ≡ out ++ (subject ++ predicate ++ object ++ graph ++ 46 ∷ [] ++ 10 ∷ []) = simp append_assoc in
+    let whole : (out ++ (subject ++ predicate ++ object)) ++ (graph ++ 46 ∷ [] ++ 10 ∷ []) ≡ out
+    ++ (subject ++ predicate ++ object ++ graph ++ 46 ∷ [] ++ 10 ∷ []) = simp append_assoc in
     on_ok c.put_end.result
     (λ h. h ∙ (ap (λ x. x ++ (graph ++ 46 ∷ [] ++ 10 ∷ [])) parts ∙ (whole ∙ ap (λ x. out ++ x) (sym (encoded_line form quad)))))
     c.put_end.ensures.written
@@ -30,7 +31,11 @@ pub returns-in_err-put_predicate-clause-grown : goal.returns-in_err-put_predicat
 returns-in_err-put_predicate-clause-grown g c = on_err _ (begins_with_front _ _ _ _ c.in_ok-put_subject.ensures.written c.in_err-put_predicate.ensures.grown)
 
 pub returns-in_err-put_object-clause-grown : goal.returns-in_err-put_object-clause-grown
-returns-in_err-put_object-clause-grown g c = on_err _ (begins_with_front _ _ _ _ c.in_ok-put_subject.ensures.written (begins_with_front _ _ _ _ c.in_ok-put_predicate.ensures.written c.in_err-put_object.ensures.grown))
+returns-in_err-put_object-clause-grown g c =
+    on_err _ (begins_with_front _ _ _ _ c.in_ok-put_subject.ensures.written
+    (begins_with_front _ _ _ _ c.in_ok-put_predicate.ensures.written c.in_err-put_object.ensures.grown))
 
 pub returns-clause-grown : goal.returns-clause-grown
-returns-clause-grown g c = on_err_weaker c.put_end.result (begins_with_front _ _ _ _ c.in_ok-put_subject.ensures.written) (on_err_weaker c.put_end.result (begins_with_front _ _ _ _ c.in_ok-put_predicate.ensures.written) (on_err_weaker c.put_end.result (begins_with_front _ _ _ _ c.in_ok-put_object.ensures.written) c.put_end.ensures.grown))
+returns-clause-grown g c = on_err_weaker c.put_end.result (begins_with_front _ _ _ _ c.in_ok-put_subject.ensures.written)
+    (on_err_weaker c.put_end.result (begins_with_front _ _ _ _ c.in_ok-put_predicate.ensures.written)
+    (on_err_weaker c.put_end.result (begins_with_front _ _ _ _ c.in_ok-put_object.ensures.written) c.put_end.ensures.grown))

@@ -19,7 +19,9 @@ returns c =
           let literal = w.in-Literal.literal in
           let text = Placed-then w.place_byte-inside.ensures (Placed-then w.place_characters-close.ensures.placed w.place_byte-tail.ensures) in
           let whole = Placed-then (Placed-as (sym (quoted_bytes literal.lexical.now)) text) w.place_tail-object.ensures.placed in
-          placed_at w.slot-is w.object-is (Placed-as (sym (literal_bytes Plain literal.lexical.now literal.tail) ∙ sym (ap (term_bytes usual) w.in-Literal.is)) whole)
+          placed_at w.slot-is w.object-is
+          (Placed-as (sym (literal_bytes Plain literal.lexical.now literal.tail) ∙ sym (ap (term_bytes usual) w.in-Literal.is)) whole)
     ] in
     let terms = Placed-then (Placed-then c.place_subject-second.ensures.placed third.ensures.placed) (Placed-then object c.place_byte-fourth.ensures) in
-    Placed-as (short_line c.args.form.now c.args.quad.now c.requires.short) (Placed-then (Placed-then terms c.place_graph-last.ensures.placed) c.place_two.ensures)
+    Placed-as (short_line c.args.form.now c.args.quad.now c.requires.short)
+    (Placed-then (Placed-then terms c.place_graph-last.ensures.placed) c.place_two.ensures)

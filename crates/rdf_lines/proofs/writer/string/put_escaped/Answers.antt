@@ -20,7 +20,8 @@ returns-then-is_run-clause-written g c =
     let out = c.args.out.now.items in
     let text = c.args.text.now in
     let have : all_have (goes_over (run_of c.args.escapes)) text ≡ true =
-    ap (λ r. all_have (goes_over r) text) (sym c.run_of.ensures) ∙ (ap (all_have (goes_over c.run_of.result)) (sym c.as_bytes.ensures.value) ∙ (sym c.is_run.ensures ∙ c.if-is_run.true)) in
+    ap (λ r. all_have (goes_over r) text) (sym c.run_of.ensures)
+    ∙ (ap (all_have (goes_over c.run_of.result)) (sym c.as_bytes.ensures.value) ∙ (sym c.is_run.ensures ∙ c.if-is_run.true)) in
     on_ok c.extend_from_slice.result
     (λ e. e ∙ ap (λ x. out ++ x) (c.as_bytes-then-is_run.ensures.value ∙ sym (text_stands c.args.escapes text c.utf8.text have)))
     (where_ok c.extend_from_slice.result _ _ _ c.extend_from_slice.ensures.items)

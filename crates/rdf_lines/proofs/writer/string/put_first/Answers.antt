@@ -13,7 +13,8 @@ returns-in_ok-put_char-in-Some-clause-written g c =
     let out = c.args.out.now.items in
     let here = c.chars-chars.ensures.rest in
     let step = MatchOption-at_some _ _ c.in-Some.c c.in-Some.is c.next.ensures.steps.0 in
-    let first = char_written e c.args.text.now c.as_str.result.now c.in-Some.c c.utf8.text (sym here ∙ (step ∙ ap (λ x. encode_utf8 c.in-Some.c ++ x) (sym c.as_str.ensures))) in
+    let first = char_written e c.args.text.now c.as_str.result.now c.in-Some.c c.utf8.text
+    (sym here ∙ (step ∙ ap (λ x. encode_utf8 c.in-Some.c ++ x) (sym c.as_str.ensures))) in
     ap (λ x. x ++ escaped_bytes e c.as_str.result.now) c.in_ok-put_char-in-Some.ensures.written
     ∙ (append_assoc out (encode_utf8_all (escaped e c.in-Some.c)) (escaped_bytes e c.as_str.result.now) ∙ ap (λ x. out ++ x) (sym first))
 

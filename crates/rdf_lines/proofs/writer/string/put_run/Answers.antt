@@ -8,7 +8,8 @@ use Rattle.rdf_lines.proofs.WrittenBytesLemmas.{if_ok, begins_with_front, begins
 use Rattle.rdf_lines.proofs.writer.string.put_run.Goals as goal
 
 -- a run that was put, and what is left of the text
-put_front : (e : Escapes) (out new text rest : List ℕ) (at : ℕ) → IsUtf8 text → IsRun (goes_over (run_of e)) text 0 at → new ≡ out ++ take at text → rest ≡ drop at text →
+put_front : (e : Escapes) (out new text rest : List ℕ) (at : ℕ) → IsUtf8 text → IsRun (goes_over (run_of e)) text 0 at →
+    new ≡ out ++ take at text → rest ≡ drop at text →
     new ++ escaped_bytes e rest ≡ out ++ escaped_bytes e text
 put_front e out new text rest at u run front back =
     ap (λ x. x ++ escaped_bytes e rest) front ∙ (ap (λ x. (out ++ take at text) ++ escaped_bytes e x) back
@@ -25,7 +26,8 @@ returns-clause-written g c =
     let runs = subst (λ x. IsRun (goes_over x) c.as_bytes.result.now 0 c.run_end-at.result) c.run_of.ensures c.run_end-at.ensures in
     let run = subst (λ w. IsRun (goes_over (run_of c.args.escapes)) w 0 c.run_end-at.result) c.as_bytes.ensures.value runs in
     let front = c.in_ok-extend_from_slice.ensures.items ∙ ap (λ x. c.args.out.now.items ++ x) (c.as_bytes-2.ensures.value ∙ c.split_at.ensures.front) in
-    let all = put_front c.args.escapes c.args.out.now.items _ c.args.text.now c.split_at.result.1.now c.run_end-at.result c.utf8.text run front c.split_at.ensures.back in
+    let all = put_front c.args.escapes c.args.out.now.items _ c.args.text.now c.split_at.result.1.now c.run_end-at.result c.utf8.text run
+    front c.split_at.ensures.back in
     if_ok c.put_first.result (λ rest h. h ∙ all) c.put_first.ensures.written
 
 -- where nothing comes after the run, the run is all

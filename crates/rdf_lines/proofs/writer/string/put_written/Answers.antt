@@ -22,4 +22,5 @@ escape e c a l =
 
 pub returns-in-Ascii-clause-written : goal.returns-in-Ascii-clause-written
 returns-in-Ascii-clause-written g c =
-    on_ok c.put_uchar.result (λ e. e ∙ ap (λ x. c.args.out.now.items ++ x) (escape c.args.escapes c.args.c c.in-Ascii.is c.if-c-gt127.true)) c.put_uchar.ensures.written
+    on_ok c.put_uchar.result (λ e. e ∙ ap (λ x. c.args.out.now.items ++ x) (escape c.args.escapes c.args.c c.in-Ascii.is c.if-c-gt127.true))
+    c.put_uchar.ensures.written

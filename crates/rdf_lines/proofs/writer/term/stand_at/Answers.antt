@@ -15,4 +15,5 @@ returns c =
     let same : length xs ≡ length ys = omega (arith, left, ap length all, c.requires.sixteen) in
     let lanes = zip2 (λ (a b : ℕ). not (a == b)) xs ys in
     let few : length lanes ≤ 64 = omega (arith, length-zip2 (λ (a b : ℕ). not (a == b)) xs ys same, left) in
-    ap (λ ms. (mask_l ms % 2 ^ 64) == 0) (tops_compared w8 (λ (a b : ℕ). not (a == b)) xs ys) ∙ (ap (λ m. m == 0) (mask_l-mod lanes 64 few) ∙ (same_lanes xs ys same ∙ ap (bytes_eq xs) all))
+    ap (λ ms. (mask_l ms % 2 ^ 64) == 0) (tops_compared w8 (λ (a b : ℕ). not (a == b)) xs ys)
+    ∙ (ap (λ m. m == 0) (mask_l-mod lanes 64 few) ∙ (same_lanes xs ys same ∙ ap (bytes_eq xs) all))

@@ -18,5 +18,6 @@ returns-in-Err-clause-halts g c = λ more first bytes i.
           subst (λ all. StandsFor w x limit c.from.result all false c.feed.new.self) (append_assoc bytes part more)
           (stands_more w x limit (b.lawful.ends x) c.feed.new.self c.from.result (bytes ++ part) more
           (subst (λ reported. StandsFor w x limit reported (bytes ++ part) false c.feed.new.self) (sym c.from.ensures)
-          (stands_in_piece w x c.args.self.now bytes quads read limit i.limit _ _ _ _ _ _ c.in-Err.fault.offset c.in-Err.fault.line part c.in-Err.fault.reason c.in-Err.ensures.err))),
+          (stands_in_piece w x c.args.self.now bytes quads read limit i.limit _ _ _ _ _ _ c.in-Err.fault.offset c.in-Err.fault.line part
+          c.in-Err.fault.reason c.in-Err.ensures.err))),
     )

@@ -9,7 +9,8 @@ take_parts-requires g c = let (first, bytes, i) = c.requires.begun in record { b
 pub returns-clause-takes : goal.returns-clause-takes
 returns-clause-takes g c =
     on_both c.take_parts.result _ _ _
-    (λ t few first bytes i. few_read g.G.Grammar.words first.0 c.take_parts.new.run (bytes ++ c.args.piece.now) (t first bytes i.0) few) c.take_parts.ensures.takes c.take_parts.ensures.few
+    (λ t few first bytes i. few_read g.G.Grammar.words first.0 c.take_parts.new.run (bytes ++ c.args.piece.now) (t first bytes i.0) few)
+    c.take_parts.ensures.takes c.take_parts.ensures.few
 
 pub returns-clause-count : goal.returns-clause-count
 returns-clause-count g c =

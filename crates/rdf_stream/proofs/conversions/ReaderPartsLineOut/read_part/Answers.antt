@@ -15,19 +15,23 @@ feed-requires g c =
 
 pub returns-in-Ok-clause-takes : goal.returns-in-Ok-clause-takes
 returns-in-Ok-clause-takes g c = λ first bytes i.
-    run_reads g.D.Drain.contents g.D.Drain.has_failed g.G.Grammar.words g.G.Passes.style first.0 first.1 bytes c.args.self.now c.args.lines.now i c.args.part.now _ _ c.in-Ok.ensures.ok
+    run_reads g.D.Drain.contents g.D.Drain.has_failed g.G.Grammar.words g.G.Passes.style first.0 first.1 bytes c.args.self.now
+    c.args.lines.now i c.args.part.now _ _ c.in-Ok.ensures.ok
 
 pub returns-in-Ok-clause-few : goal.returns-in-Ok-clause-few
 returns-in-Ok-clause-few g c =
     let (first, bytes, i) = c.requires.begun in
-    let put = run_reads g.D.Drain.contents g.D.Drain.has_failed g.G.Grammar.words g.G.Passes.style first.0 first.1 bytes c.args.self.now c.args.lines.now i c.args.part.now _ _ c.in-Ok.ensures.ok in
+    let put = run_reads g.D.Drain.contents g.D.Drain.has_failed g.G.Grammar.words g.G.Passes.style first.0 first.1 bytes c.args.self.now
+    c.args.lines.now i c.args.part.now _ _ c.in-Ok.ensures.ok in
     few_now g.D.Drain.contents g.D.Drain.has_failed g.G.Grammar.words g.G.Passes.style first.0 first.1 _ _ _ put _ c.in-Ok.ensures.few
 
 pub returns-in-Err-clause-halts : goal.returns-in-Err-clause-halts
 returns-in-Err-clause-halts g c = λ more first bytes i.
     let part = c.args.part.now in
-    let halts = run_halts g.D.Drain.contents g.D.Drain.has_failed g.G.Grammar.words g.G.Passes.style first.0 first.1 bytes c.args.self.now c.args.lines.now i part _ _ _ _ _ _ _ c.in-Err.ensures.err c.stop.ensures.same c.stop.ensures.reports in (
-      subst (λ b. RunHalts g.D.Drain.contents g.D.Drain.has_failed g.G.Grammar.words c.stop.result first.0 first.1 b false c.stop.new.lines) (append_assoc bytes part more)
+    let halts = run_halts g.D.Drain.contents g.D.Drain.has_failed g.G.Grammar.words g.G.Passes.style first.0 first.1 bytes c.args.self.now
+    c.args.lines.now i part _ _ _ _ _ _ _ c.in-Err.ensures.err c.stop.ensures.same c.stop.ensures.reports in (
+      subst (λ b. RunHalts g.D.Drain.contents g.D.Drain.has_failed g.G.Grammar.words c.stop.result first.0 first.1 b false c.stop.new.lines)
+          (append_assoc bytes part more)
           (halts_more g.D.Drain.contents g.D.Drain.has_failed g.G.Grammar.words c.stop.result first.0 first.1 (bytes ++ part) more c.stop.new.lines halts),
       c.stop.ensures.sent,
       λ x b.
@@ -38,11 +42,13 @@ returns-in-Err-clause-halts g c = λ more first bytes i.
           subst (λ all. StandsFor w x limit c.stop.result all false now) (append_assoc bytes part more)
           (stands_more w x limit (b.starts.convertible.lawful.ends x) now c.stop.result (bytes ++ part) more
           (stands_told g.D.Drain.contents g.D.Drain.has_failed w x limit c.in-Err.fault _ _ _ (bytes ++ part) false now c.stop.ensures.reports
-          (stands_in_piece w x c.args.self.now bytes put.quads put.read limit i.limit _ _ _ _ _ now c.in-Err.fault.offset c.in-Err.fault.line part c.in-Err.fault.reason c.in-Err.ensures.err))),
+          (stands_in_piece w x c.args.self.now bytes put.quads put.read limit i.limit _ _ _ _ _ now c.in-Err.fault.offset
+          c.in-Err.fault.line part c.in-Err.fault.reason c.in-Err.ensures.err))),
     )
 
 pub returns-in-Ok-clause-stays : goal.returns-in-Ok-clause-stays
-returns-in-Ok-clause-stays g c = λ first s. grows_both g.D.Drain.contents _ _ _ s (puts_grow g.D.Drain.contents g.D.Drain.has_failed _ _ _ c.in-Ok.ensures.ok.puts)
+returns-in-Ok-clause-stays g c =
+    λ first s. grows_both g.D.Drain.contents _ _ _ s (puts_grow g.D.Drain.contents g.D.Drain.has_failed _ _ _ c.in-Ok.ensures.ok.puts)
 
 pub returns-in-Err-clause-stays : goal.returns-in-Err-clause-stays
 returns-in-Err-clause-stays g c = λ first s.

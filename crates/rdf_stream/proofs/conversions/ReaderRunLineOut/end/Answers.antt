@@ -9,23 +9,36 @@ use Rattle.rdf_stream.proofs.conversions.ReaderRunLineOut.end.Goals as goal
 pub send-requires : goal.send-requires
 send-requires g c =
     let (first, bytes, i) = c.requires.begun in
-    record { live = puts_live _ _ _ _ _ c.in-Ok.ensures.ok.puts (live_now g.D.Drain.contents g.D.Drain.has_failed g.G.Grammar.words g.G.Passes.style first.0 first.1 bytes c.args.self.now c.args.lines.now (putting g.D.Drain.contents g.D.Drain.has_failed g.G.Grammar.words g.G.Passes.style first.0 first.1 bytes c.args.self.now c.args.lines.now i)) }
+    record {
+      live = puts_live _ _ _ _ _ c.in-Ok.ensures.ok.puts (live_now g.D.Drain.contents g.D.Drain.has_failed g.G.Grammar.words
+          g.G.Passes.style first.0 first.1 bytes c.args.self.now c.args.lines.now (putting g.D.Drain.contents g.D.Drain.has_failed
+          g.G.Grammar.words g.G.Passes.style first.0 first.1 bytes c.args.self.now c.args.lines.now i));
+    }
 
 pub returns-in-Ok-send-clause-ends : goal.returns-in-Ok-send-clause-ends
 returns-in-Ok-send-clause-ends g c = λ first bytes i.
-    run_ends g.D.Drain.contents g.D.Drain.has_failed g.G.Grammar.words g.G.Passes.style first.0 first.1 bytes c.args.self.now c.args.lines.now (putting g.D.Drain.contents g.D.Drain.has_failed g.G.Grammar.words g.G.Passes.style first.0 first.1 bytes c.args.self.now c.args.lines.now i) _ _ c.in-Ok.ensures.ok i.few g.D.Drain.is_flushed _ (search rules) (search rules) (search rules)
+    run_ends g.D.Drain.contents g.D.Drain.has_failed g.G.Grammar.words g.G.Passes.style first.0 first.1 bytes c.args.self.now
+    c.args.lines.now (putting g.D.Drain.contents g.D.Drain.has_failed g.G.Grammar.words g.G.Passes.style first.0 first.1 bytes
+    c.args.self.now c.args.lines.now i) _ _ c.in-Ok.ensures.ok i.few g.D.Drain.is_flushed _ (search rules) (search rules) (search rules)
 
 pub returns-in-Ok-send-clause-stays : goal.returns-in-Ok-send-clause-stays
 returns-in-Ok-send-clause-stays g c = λ first s.
-    grows_both g.D.Drain.contents _ _ _ s (grows_both g.D.Drain.contents _ _ _ (puts_grow g.D.Drain.contents g.D.Drain.has_failed _ _ _ c.in-Ok.ensures.ok.puts) (grows_by g.D.Drain.contents _ _ c.finish.new.sink.buffer.now (search rules) (search rules)))
+    grows_both g.D.Drain.contents _ _ _ s (grows_both g.D.Drain.contents _ _ _ (puts_grow g.D.Drain.contents g.D.Drain.has_failed _ _ _
+    c.in-Ok.ensures.ok.puts) (grows_by g.D.Drain.contents _ _ c.finish.new.sink.buffer.now (search rules) (search rules)))
 
 pub returns-in-Err-send-clause-stays : goal.returns-in-Err-send-clause-stays
 returns-in-Err-send-clause-stays g c = λ first s.
-    grows_both g.D.Drain.contents _ _ _ s (grows_both g.D.Drain.contents _ _ _ (puts_grow g.D.Drain.contents g.D.Drain.has_failed _ _ _ c.in-Ok.ensures.ok.puts) (grows_front g.D.Drain.contents _ _ c.finish.new.sink.buffer.now (search rules) (search rules)))
+    grows_both g.D.Drain.contents _ _ _ s (grows_both g.D.Drain.contents _ _ _ (puts_grow g.D.Drain.contents g.D.Drain.has_failed _ _ _
+    c.in-Ok.ensures.ok.puts) (grows_front g.D.Drain.contents _ _ c.finish.new.sink.buffer.now (search rules) (search rules)))
 
 pub returns-in-Err-send-clause-halts : goal.returns-in-Err-send-clause-halts
-returns-in-Err-send-clause-halts g c = λ first bytes i.
-    (end_run_broke g.D.Drain.contents g.D.Drain.has_failed g.G.Grammar.words g.G.Passes.style first.0 first.1 bytes c.args.self.now c.args.lines.now (putting g.D.Drain.contents g.D.Drain.has_failed g.G.Grammar.words g.G.Passes.style first.0 first.1 bytes c.args.self.now c.args.lines.now i) _ _ c.in-Ok.ensures.ok _ (search rules) (search rules) (search rules), tt, λ x b. tt)
+returns-in-Err-send-clause-halts g c = λ first bytes i. (
+  end_run_broke g.D.Drain.contents g.D.Drain.has_failed g.G.Grammar.words g.G.Passes.style first.0 first.1 bytes c.args.self.now
+      c.args.lines.now (putting g.D.Drain.contents g.D.Drain.has_failed g.G.Grammar.words g.G.Passes.style first.0 first.1 bytes
+      c.args.self.now c.args.lines.now i) _ _ c.in-Ok.ensures.ok _ (search rules) (search rules) (search rules),
+  tt,
+  λ x b. tt,
+)
 
 pub returns-in-Err-clause-stays : goal.returns-in-Err-clause-stays
 returns-in-Err-clause-stays g c = λ first s.
@@ -35,10 +48,15 @@ returns-in-Err-clause-stays g c = λ first s.
 
 pub returns-in-Err-clause-halts : goal.returns-in-Err-clause-halts
 returns-in-Err-clause-halts g c = λ first bytes i. (
-  end_run_halts g.D.Drain.contents g.D.Drain.has_failed g.G.Grammar.words g.G.Passes.style first.0 first.1 bytes c.args.self.now c.args.lines.now (putting g.D.Drain.contents g.D.Drain.has_failed g.G.Grammar.words g.G.Passes.style first.0 first.1 bytes c.args.self.now c.args.lines.now i) _ _ _ _ _ _ _ c.in-Err.ensures.err c.stop.ensures.same c.stop.ensures.reports,
+  end_run_halts g.D.Drain.contents g.D.Drain.has_failed g.G.Grammar.words g.G.Passes.style first.0 first.1 bytes c.args.self.now
+      c.args.lines.now (putting g.D.Drain.contents g.D.Drain.has_failed g.G.Grammar.words g.G.Passes.style first.0 first.1 bytes
+      c.args.self.now c.args.lines.now i) _ _ _ _ _ _ _ c.in-Err.ensures.err c.stop.ensures.same c.stop.ensures.reports,
   c.stop.ensures.sent,
   λ x b.
-      let put = (putting g.D.Drain.contents g.D.Drain.has_failed g.G.Grammar.words g.G.Passes.style first.0 first.1 bytes c.args.self.now c.args.lines.now i).put x b in
-      stands_told g.D.Drain.contents g.D.Drain.has_failed g.G.Grammar.words x first.0.scanner.limit c.in-Err.fault _ _ _ bytes true c.finish.new.self c.stop.ensures.reports
-      (stands_at_end g.G.Grammar.words x c.args.self.now bytes put.quads put.read first.0.scanner.limit i.limit _ _ _ _ _ c.finish.new.self c.in-Err.fault.offset c.in-Err.fault.line c.in-Err.fault.reason c.in-Err.ensures.err),
+      let put = (putting g.D.Drain.contents g.D.Drain.has_failed g.G.Grammar.words g.G.Passes.style first.0 first.1 bytes c.args.self.now
+      c.args.lines.now i).put x b in
+      stands_told g.D.Drain.contents g.D.Drain.has_failed g.G.Grammar.words x first.0.scanner.limit c.in-Err.fault _ _ _ bytes true
+      c.finish.new.self c.stop.ensures.reports
+      (stands_at_end g.G.Grammar.words x c.args.self.now bytes put.quads put.read first.0.scanner.limit i.limit _ _ _ _ _ c.finish.new.self
+      c.in-Err.fault.offset c.in-Err.fault.line c.in-Err.fault.reason c.in-Err.ensures.err),
 )

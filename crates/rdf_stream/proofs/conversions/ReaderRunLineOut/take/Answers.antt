@@ -8,34 +8,48 @@ use Rattle.rdf_stream.proofs.conversions.ReaderRunLineOut.take.Goals as goal
 pub take_parts-requires : goal.take_parts-requires
 take_parts-requires g c =
     let (first, bytes, i) = c.requires.begun in
-    record { begun = (first, bytes, putting g.D.Drain.contents g.D.Drain.has_failed g.G.Grammar.words g.G.Passes.style first.0 first.1 bytes c.args.self.now c.args.lines.now i) }
+    record {
+      begun = (
+        first,
+        bytes,
+        putting g.D.Drain.contents g.D.Drain.has_failed g.G.Grammar.words g.G.Passes.style first.0 first.1 bytes
+            c.args.self.now c.args.lines.now i,
+      );
+    }
 
 pub hand_over-requires : goal.hand_over-requires
 hand_over-requires g c =
     let (first, bytes, i) = c.requires.begun in
     let put = putting g.D.Drain.contents g.D.Drain.has_failed g.G.Grammar.words g.G.Passes.style first.0 first.1 bytes c.args.self.now c.args.lines.now i in
-    record { live = live_now g.D.Drain.contents g.D.Drain.has_failed g.G.Grammar.words g.G.Passes.style first.0 first.1 _ _ _ (c.in-Ok.ensures.takes first bytes put) }
+    record {
+      live = live_now g.D.Drain.contents g.D.Drain.has_failed g.G.Grammar.words g.G.Passes.style first.0 first.1 _ _ _
+          (c.in-Ok.ensures.takes first bytes put);
+    }
 
 pub returns-in-Ok-hand_over-clause-takes : goal.returns-in-Ok-hand_over-clause-takes
 returns-in-Ok-hand_over-clause-takes g c = λ first bytes i.
     let put = putting g.D.Drain.contents g.D.Drain.has_failed g.G.Grammar.words g.G.Passes.style first.0 first.1 bytes c.args.self.now c.args.lines.now i in
     run_handed g.D.Drain.contents g.D.Drain.has_failed g.G.Grammar.words g.G.Passes.style first.0 first.1 _ _ _ (c.in-Ok.ensures.takes first bytes put) _
     (search rules) (search rules) (search rules) (search rules)
-    (subst (λ n. n ≤ most_bytes) (count_now g.D.Drain.contents g.D.Drain.has_failed g.G.Grammar.words g.G.Passes.style first.0 first.1 _ _ _ (c.in-Ok.ensures.takes first bytes put)) c.in-Ok.ensures.few)
+    (subst (λ n. n ≤ most_bytes) (count_now g.D.Drain.contents g.D.Drain.has_failed g.G.Grammar.words g.G.Passes.style first.0 first.1 _ _ _
+    (c.in-Ok.ensures.takes first bytes put)) c.in-Ok.ensures.few)
 
 pub returns-in-Ok-hand_over-clause-count : goal.returns-in-Ok-hand_over-clause-count
 returns-in-Ok-hand_over-clause-count g c =
     let (first, bytes, i) = c.requires.begun in
     let put = putting g.D.Drain.contents g.D.Drain.has_failed g.G.Grammar.words g.G.Passes.style first.0 first.1 bytes c.args.self.now c.args.lines.now i in
-    let before = count_now g.D.Drain.contents g.D.Drain.has_failed g.G.Grammar.words g.G.Passes.style first.0 first.1 bytes c.args.self.now c.args.lines.now put in
+    let before = count_now g.D.Drain.contents g.D.Drain.has_failed g.G.Grammar.words g.G.Passes.style first.0 first.1 bytes c.args.self.now
+    c.args.lines.now put in
     count_now g.D.Drain.contents g.D.Drain.has_failed g.G.Grammar.words g.G.Passes.style first.0 first.1 _ _ _ (c.in-Ok.ensures.takes first bytes put)
     ∙ (length-append bytes c.args.piece.now ∙ ap (λ n. n + length c.args.piece.now) (sym before))
 
 pub returns-in-Ok-hand_over-clause-stays : goal.returns-in-Ok-hand_over-clause-stays
-returns-in-Ok-hand_over-clause-stays g c = λ first s. grows_both g.D.Drain.contents _ _ _ (c.in-Ok.ensures.stays first s) (grows_by g.D.Drain.contents _ _ c.take_parts.new.out.buffer.now (search rules) (search rules))
+returns-in-Ok-hand_over-clause-stays g c = λ first s. grows_both g.D.Drain.contents _ _ _ (c.in-Ok.ensures.stays first s)
+    (grows_by g.D.Drain.contents _ _ c.take_parts.new.out.buffer.now (search rules) (search rules))
 
 pub returns-in-Err-hand_over-clause-stays : goal.returns-in-Err-hand_over-clause-stays
-returns-in-Err-hand_over-clause-stays g c = λ first s. grows_both g.D.Drain.contents _ _ _ (c.in-Ok.ensures.stays first s) (grows_front g.D.Drain.contents _ _ c.take_parts.new.out.buffer.now (search rules) (search rules))
+returns-in-Err-hand_over-clause-stays g c = λ first s. grows_both g.D.Drain.contents _ _ _ (c.in-Ok.ensures.stays first s)
+    (grows_front g.D.Drain.contents _ _ c.take_parts.new.out.buffer.now (search rules) (search rules))
 
 pub returns-in-Err-hand_over-clause-halts : goal.returns-in-Err-hand_over-clause-halts
 returns-in-Err-hand_over-clause-halts g c = λ first bytes i.
@@ -51,4 +65,5 @@ returns-in-Err-clause-stays g c = c.in-Err.ensures.stays
 
 pub returns-in-Err-clause-halts : goal.returns-in-Err-clause-halts
 returns-in-Err-clause-halts g c = λ first bytes i.
-    c.in-Err.ensures.halts first bytes (putting g.D.Drain.contents g.D.Drain.has_failed g.G.Grammar.words g.G.Passes.style first.0 first.1 bytes c.args.self.now c.args.lines.now i)
+    c.in-Err.ensures.halts first bytes (putting g.D.Drain.contents g.D.Drain.has_failed g.G.Grammar.words g.G.Passes.style first.0 first.1
+    bytes c.args.self.now c.args.lines.now i)

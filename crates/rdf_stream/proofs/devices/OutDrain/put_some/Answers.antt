@@ -13,4 +13,5 @@ pub returns-in-Ok-clause-bytes : goal.returns-in-Ok-clause-bytes
 returns-in-Ok-clause-bytes g c =
     let written = g.W.Write.contents c.write.new.self in
     let kept = none_written _ written c.in-Ok.count c.args.bytes.now c.in-Ok.ensures.bytes (search rules) in
-    subst (Keeps c.args.self.now.contents) (sym (ap (λ (s : Written). s.contents) c.fail.ensures)) (subst (λ (s : Written). Keeps s.contents written) c.self.view_is kept)
+    subst (Keeps c.args.self.now.contents) (sym (ap (λ (s : Written). s.contents) c.fail.ensures))
+    (subst (λ (s : Written). Keeps s.contents written) c.self.view_is kept)

@@ -9,4 +9,5 @@ pub returns-in-Ok-put_all-clause-writes : goal.returns-in-Ok-put_all-clause-writ
 returns-in-Ok-put_all-clause-writes g c = all_taken _ _ _ _ _ _ c.in-Ok.ensures.ok c.in-Ok-put_all.ensures.ok c.in-Ok.ensures.empty
 
 pub returns-in-Err-put_all-clause-halts : goal.returns-in-Err-put_all-clause-halts
-returns-in-Err-put_all-clause-halts g c = let r = front_taken _ _ _ _ c.args.lines.now c.in-Ok.ensures.ok c.in-Err-put_all.ensures.err in (search rules, r.0, r.1)
+returns-in-Err-put_all-clause-halts g c = let r = front_taken _ _ _ _ c.args.lines.now c.in-Ok.ensures.ok c.in-Err-put_all.ensures.err in
+    (search rules, r.0, r.1)

@@ -14,7 +14,9 @@ pub returns-in-Err-sift_front-clause-halts : goal.returns-in-Err-sift_front-clau
 returns-in-Err-sift_front-clause-halts g c = λ first bytes i.
     let piece = c.args.piece.now in
     let len = c.lines_len-len.result in
-    front_halts g.D.Drain g.B.Drain first bytes _ _ _ i piece _ c.in-Ok.ensures.counts (take len piece) (drop len piece) (sym (take-append-drop len piece)) c.in-Err-sift_front.fault _ _ _ _ (held_start g.D.Drain g.B.Drain first bytes _ _ _ i c.start-start.result c.start-start.ensures.offset c.start-start.ensures.line) c.in-Err-sift_front.ensures.fails
+    front_halts g.D.Drain g.B.Drain first bytes _ _ _ i piece _ c.in-Ok.ensures.counts (take len piece) (drop len piece)
+    (sym (take-append-drop len piece)) c.in-Err-sift_front.fault _ _ _ _ (held_start g.D.Drain g.B.Drain first bytes _ _ _ i
+    c.start-start.result c.start-start.ensures.offset c.start-start.ensures.line) c.in-Err-sift_front.ensures.fails
 
 pub returns-clause-takes : goal.returns-clause-takes
 returns-clause-takes g c =
@@ -22,7 +24,9 @@ returns-clause-takes g c =
     let len = c.lines_len-len.result in
     on_ok c.hold.result _ _
     (λ x h first bytes i.
-    piece_taken g.D.Drain g.B.Drain first bytes _ _ _ i piece _ c.in-Ok.ensures.counts (take len piece) (drop len piece) (sym (take-append-drop len piece)) _ (held_start g.D.Drain g.B.Drain first bytes _ _ _ i c.start-start.result c.start-start.ensures.offset c.start-start.ensures.line) _ _ _ c.in-Ok-sift_front.ensures.sifts
+    piece_taken g.D.Drain g.B.Drain first bytes _ _ _ i piece _ c.in-Ok.ensures.counts (take len piece) (drop len piece)
+    (sym (take-append-drop len piece)) _ (held_start g.D.Drain g.B.Drain first bytes _ _ _ i c.start-start.result
+    c.start-start.ensures.offset c.start-start.ensures.line) _ _ _ c.in-Ok-sift_front.ensures.sifts
     _ _ (slice_rest piece len) c.lines_len-len.ensures.lines.no_end c.in-Ok.ensures.few h)
     c.hold.ensures.holds
 
@@ -32,7 +36,9 @@ returns-clause-halts g c =
     let len = c.lines_len-len.result in
     if_err c.hold.result _ _
     (λ f h first bytes i.
-    hold_halts g.D.Drain g.B.Drain first bytes _ _ _ i piece _ c.in-Ok.ensures.counts (take len piece) (drop len piece) (sym (take-append-drop len piece)) _ (held_start g.D.Drain g.B.Drain first bytes _ _ _ i c.start-start.result c.start-start.ensures.offset c.start-start.ensures.line) _ _ _ c.in-Ok-sift_front.ensures.sifts f _ h.0 h.1)
+    hold_halts g.D.Drain g.B.Drain first bytes _ _ _ i piece _ c.in-Ok.ensures.counts (take len piece) (drop len piece)
+    (sym (take-append-drop len piece)) _ (held_start g.D.Drain g.B.Drain first bytes _ _ _ i c.start-start.result
+    c.start-start.ensures.offset c.start-start.ensures.line) _ _ _ c.in-Ok-sift_front.ensures.sifts f _ h.0 h.1)
     c.hold.ensures.fails
 
 pub start-start-requires : goal.start-start-requires
@@ -46,4 +52,5 @@ sift_front-requires-clause-room g c =
     let few = c.in-Ok.ensures.few in
     let n = length-take len piece in
     subst (λ w. HasRoom c.start-start.result (w ++ take len piece)) (sym (ap (λ h. h.part.items) c.in-Ok.ensures.counts))
-    (held_room g.D.Drain g.B.Drain first bytes _ _ _ i c.start-start.result c.start-start.ensures.offset c.start-start.ensures.line (take len piece) (omega (arith, few, n)))
+    (held_room g.D.Drain g.B.Drain first bytes _ _ _ i c.start-start.result c.start-start.ensures.offset c.start-start.ensures.line
+    (take len piece) (omega (arith, few, n)))

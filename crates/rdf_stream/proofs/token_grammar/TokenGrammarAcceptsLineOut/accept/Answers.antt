@@ -5,10 +5,12 @@ use Rattle.rdf_stream.proofs.TokenWordsLemmas.{gives_up, not_failed, takes_end, 
 use Rattle.rdf_stream.proofs.token_grammar.TokenGrammarAcceptsLineOut.accept.Goals as goal
 
 pub returns-then-is_end-clause-ok : goal.returns-then-is_end-clause-ok
-returns-then-is_end-clause-ok g c = takes_end _ (λ before token after. Unit) g.T.Spoken.spoken c.args.self.now (token_of c.args.token.now) _ (sym c.is_end.ensures ∙ c.if-is_end.true)
+returns-then-is_end-clause-ok g c = takes_end _ (λ before token after. Unit) g.T.Spoken.spoken c.args.self.now (token_of c.args.token.now) _
+    (sym c.is_end.ensures ∙ c.if-is_end.true)
 
 pub returns-in-Ok-clause-ok : goal.returns-in-Ok-clause-ok
-returns-in-Ok-clause-ok g c = takes_token _ (λ before token after. Unit) g.T.Spoken.spoken c.args.self.now (token_of c.args.token.now) _ _ (sym c.is_end.ensures ∙ c.if-is_end.false) c.in-Ok.ensures.taken
+returns-in-Ok-clause-ok g c = takes_token _ (λ before token after. Unit) g.T.Spoken.spoken c.args.self.now (token_of c.args.token.now) _ _
+    (sym c.is_end.ensures ∙ c.if-is_end.false) c.in-Ok.ensures.taken
 
 pub returns-in-Err-Memory-clause-err : goal.returns-in-Err-Memory-clause-err
 returns-in-Err-Memory-clause-err g c = (

@@ -8,4 +8,5 @@ pub returns : goal.returns
 returns g c = λ bytes w.
     let column : c.column_after.result ≡ column_after c.self.inside.column (take c.in_ok-at.at c.self.inside.kept.items) = search rules in
     column
-    ∙ (ap (λ k. column_after k.column (take c.in_ok-at.at k.bytes)) c.self.view_is ∙ column_kept c.args.self.now bytes w c.args.offset c.in_ok-at.at c.in_ok-at.ensures.is)
+    ∙ (ap (λ k. column_after k.column (take c.in_ok-at.at k.bytes)) c.self.view_is
+    ∙ column_kept c.args.self.now bytes w c.args.offset c.in_ok-at.at c.in_ok-at.ensures.is)

@@ -19,9 +19,11 @@ invariant_of-self g c =
     (omega (arith, few, column, size, c.self.invariant.0), omega (arith, left, c.self.invariant.1, within))
 
 -- what is left is what stands behind them
-behind : (all v : List ℕ) (n m count : ℕ) → v ≡ take (n - count) (copy_within all count m 0) → n ≡ length all → m ≡ length all → count ≤ length all → v ≡ drop count all
+behind : (all v : List ℕ) (n m count : ℕ) → v ≡ take (n - count) (copy_within all count m 0) → n ≡ length all → m ≡ length all →
+    count ≤ length all → v ≡ drop count all
 behind all v n m count e a b within =
-    e ∙ (ap (λ k. take (k - count) (copy_within all count m 0)) a ∙ (ap (λ k. take (length all - count) (copy_within all count k 0)) b ∙ moved_front all count within))
+    e ∙ (ap (λ k. take (k - count) (copy_within all count m 0)) a
+    ∙ (ap (λ k. take (length all - count) (copy_within all count k 0)) b ∙ moved_front all count within))
 
 pub returns-clause-same : goal.returns-clause-same
 returns-clause-same g c = λ bytes v.
@@ -30,7 +32,8 @@ returns-clause-same g c = λ bytes v.
     let front = take c.args.count all in
     let within : c.args.count ≤ length all = search rules in
     let rest : c.truncate.new.self.items ≡ drop c.args.count all =
-    behind all c.truncate.new.self.items c.len.result c.self.inside.kept.len c.args.count (c.truncate.ensures.items ∙ ap (take (c.len.result - c.args.count)) c.copy_within.ensures.items) (search rules) (search rules) within in
+    behind all c.truncate.new.self.items c.len.result c.self.inside.kept.len c.args.count (c.truncate.ensures.items
+    ∙ ap (take (c.len.result - c.args.count)) c.copy_within.ensures.items) (search rules) (search rules) within in
     let column : c.column_after-self-inside.result ≡ column_after c.self.inside.column front = search rules in
     let size : length front ≡ c.args.count = search rules in
     let parts : front ++ c.truncate.new.self.items ≡ all = ap (λ v. front ++ v) rest ∙ take-append-drop c.args.count all in

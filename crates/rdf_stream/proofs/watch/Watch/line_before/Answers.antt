@@ -10,8 +10,10 @@ pub returns-in-Some : goal.returns-in-Some
 returns-in-Some g c = λ bytes w.
     let front = take c.args.at c.deref.result.now in
     let kept : c.deref.result.now ≡ c.args.self.now.bytes = search rules in
-    let line = line_of_last w.gone front c.in-Some.feed c.in-Some.ensures.0.high c.in-Some.ensures.1 (λ k a t. false_from_ne_true _ (c.in-Some.ensures.0.after k a t)) in
-    let told : c.last_of.result.now ≡ last_of reach (drop (c.in-Some.feed + 1) front) = c.last_of.ensures ∙ ap (last_of reach) (take_rest front (c.in-Some.feed + 1)) in
+    let line = line_of_last w.gone front c.in-Some.feed c.in-Some.ensures.0.high c.in-Some.ensures.1
+    (λ k a t. false_from_ne_true _ (c.in-Some.ensures.0.after k a t)) in
+    let told : c.last_of.result.now ≡ last_of reach (drop (c.in-Some.feed + 1) front) =
+    c.last_of.ensures ∙ ap (last_of reach) (take_rest front (c.in-Some.feed + 1)) in
     told ∙ (ap (last_of reach) (sym line) ∙ ap (λ v. last_of reach (line_after [] (w.gone ++ take c.args.at v))) kept)
 
 pub returns-in-None : goal.returns-in-None

@@ -21,9 +21,11 @@ grown (Err f) now was text iri u e n = tt
 
 pub invariant_of-self : goal.invariant_of-self
 invariant_of-self g c =
-    kept c.push_str.result _ (string_bytes c.self.inside.text) c.args.text.now c.args.self.now (IsUtf8-string_bytes c.self.inside.text) c.self.view_is c.push_str.ensures.bytes
+    kept c.push_str.result _ (string_bytes c.self.inside.text) c.args.text.now c.args.self.now
+    (IsUtf8-string_bytes c.self.inside.text) c.self.view_is c.push_str.ensures.bytes
     c.requires c.self.invariant
 
 pub returns-clause-appended : goal.returns-clause-appended
 returns-clause-appended g c =
-    grown c.push_str.result _ (string_bytes c.self.inside.text) c.args.text.now c.args.self.now (IsUtf8-string_bytes c.self.inside.text) c.self.view_is c.push_str.ensures.bytes
+    grown c.push_str.result _ (string_bytes c.self.inside.text) c.args.text.now c.args.self.now
+    (IsUtf8-string_bytes c.self.inside.text) c.self.view_is c.push_str.ensures.bytes

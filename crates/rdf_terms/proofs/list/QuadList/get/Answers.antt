@@ -6,7 +6,8 @@ use Rattle.rdf_terms.proofs.list.QuadList.get.Goals as goal
 
 pub returns-in-Some : goal.returns-in-Some
 returns-in-Some g c =
-    seen_here owned_quad _ _ _ c.args.index c.deref.ensures.value c.self.view_is c.in-Some.quad.now _ (ltb-true c.args.index _ (sym c.in-Some.ensures.lookup.0)) c.in-Some.ensures.lookup.1 c.view.ensures
+    seen_here owned_quad _ _ _ c.args.index c.deref.ensures.value c.self.view_is c.in-Some.quad.now _
+    (ltb-true c.args.index _ (sym c.in-Some.ensures.lookup.0)) c.in-Some.ensures.lookup.1 c.view.ensures
 
 pub returns-in-None : goal.returns-in-None
 returns-in-None g c =

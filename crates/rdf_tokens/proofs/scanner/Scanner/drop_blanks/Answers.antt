@@ -11,7 +11,8 @@ pub returns-clause-moves : goal.returns-clause-moves
 returns-clause-moves g c =
     let begun = ap (λ v. v.begun) c.self.view_is ∙ c.requires in
     let rest = c.rest-2.ensures ∙ ap (λ v. v.text) (sym c.self.view_is) in
-    let new = bared_is _ c.advance.new.self (chars c.rest-2.result.now) c.blank_run-blank.result.len c.blank_run-blank.result.in_comment c.advance.ensures rest begun
+    let new = bared_is _ c.advance.new.self (chars c.rest-2.result.now) c.blank_run-blank.result.len c.blank_run-blank.result.in_comment
+    c.advance.ensures rest begun
     c.blank_run-blank.ensures.len c.blank_run-blank.ensures.comment ∙ ap bared c.self.view_is in
     subst (Moves c.args.self.now []) (sym new) (moves_bared c.args.self.now c.requires)
 
@@ -19,7 +20,8 @@ pub returns-clause-stands : goal.returns-clause-stands
 returns-clause-stands g c =
     let begun = ap (λ v. v.begun) c.self.view_is ∙ c.requires in
     let rest = c.rest-2.ensures ∙ ap (λ v. v.text) (sym c.self.view_is) in
-    let new = bared_is _ c.advance.new.self (chars c.rest-2.result.now) c.blank_run-blank.result.len c.blank_run-blank.result.in_comment c.advance.ensures rest begun
+    let new = bared_is _ c.advance.new.self (chars c.rest-2.result.now) c.blank_run-blank.result.len c.blank_run-blank.result.in_comment
+    c.advance.ensures rest begun
     c.blank_run-blank.ensures.len c.blank_run-blank.ensures.comment ∙ ap bared c.self.view_is in
     subst Stands (sym new) (stands_bared c.args.self.now)
 
@@ -66,7 +68,8 @@ pub returns-then-is_in_comment-clause-moves : goal.returns-then-is_in_comment-cl
 returns-then-is_in_comment-clause-moves g c =
     let d = c.args.self.now.dialect in
     let is = c.if-is_in_comment.true in
-    let new = one_bared c.args.self.now c.move_on-then-is_in_comment.new.self (chars c.rest-rest.result.now) c.move_on-then-is_in_comment.ensures c.rest-rest.ensures c.requires
+    let new = one_bared c.args.self.now c.move_on-then-is_in_comment.new.self
+    (chars c.rest-rest.result.now) c.move_on-then-is_in_comment.ensures c.rest-rest.ensures c.requires
     (ap (λ v. v.comment) (sym c.self.view_is) ∙ c.if-self.true) (c.is_in_comment.ensures.len d is) (c.is_in_comment.ensures.comment d is) in
     subst (Moves c.args.self.now []) (sym new) (moves_bared c.args.self.now c.requires)
 
@@ -74,6 +77,7 @@ pub returns-then-is_in_comment-clause-stands : goal.returns-then-is_in_comment-c
 returns-then-is_in_comment-clause-stands g c =
     let d = c.args.self.now.dialect in
     let is = c.if-is_in_comment.true in
-    let new = one_bared c.args.self.now c.move_on-then-is_in_comment.new.self (chars c.rest-rest.result.now) c.move_on-then-is_in_comment.ensures c.rest-rest.ensures c.requires
+    let new = one_bared c.args.self.now c.move_on-then-is_in_comment.new.self
+    (chars c.rest-rest.result.now) c.move_on-then-is_in_comment.ensures c.rest-rest.ensures c.requires
     (ap (λ v. v.comment) (sym c.self.view_is) ∙ c.if-self.true) (c.is_in_comment.ensures.len d is) (c.is_in_comment.ensures.comment d is) in
     subst Stands (sym new) (stands_bared c.args.self.now)

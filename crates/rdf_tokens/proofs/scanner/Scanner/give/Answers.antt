@@ -51,9 +51,17 @@ invariant_of-self g c =
     let e : c.args.len ≡ bytes_of n (chars (drop s.start (string_bytes s.text))) = c.requires.bytes.1 ∙ ap (λ v. bytes_of n v.text) (sym c.self.view_is) in
     let bytes = c.as_bytes.ensures.value in
     let feeds = c.feeds_of-feeds.ensures ∙ ap (λ b. count_by (λ x. x == 10) (take (s.start + c.args.len - s.start) (drop s.start b))) bytes in
-    let held = held_advanced (string_bytes s.text) s.start n c.args.len s.pending.items _ _ c.self.invariant.held (IsUtf8-string_bytes s.text) e c.feeds_of-feeds.result feeds in
+    let held = held_advanced (string_bytes s.text) s.start n c.args.len s.pending.items _ _ c.self.invariant.held
+    (IsUtf8-string_bytes s.text) e c.feeds_of-feeds.result feeds in
     let bounded = c.self.invariant.bounded in
-    rw c.add_feeds.ensures (record { held = held; walked = subst (Walked s.dialect (drop (s.start + c.args.len) (string_bytes s.text))) (sym c.forget.ensures) tt; no_names = none_advanced s.dialect (string_bytes s.text) s.start c.args.len s.no_names c.self.invariant.no_names; bounded = omega arith })
+    rw c.add_feeds.ensures (record {
+      held = held;
+      walked = subst (Walked s.dialect (drop (s.start + c.args.len) (string_bytes s.text)))
+          (sym c.forget.ensures) tt;
+      no_names =
+          none_advanced s.dialect (string_bytes s.text) s.start c.args.len s.no_names c.self.invariant.no_names;
+      bounded = omega arith;
+    })
 
 pub range-requires-clause-end_boundary : goal.range-requires-clause-end_boundary
 range-requires-clause-end_boundary g c =
@@ -75,7 +83,8 @@ colon_of : (text front : List ℕ) (start len colon : ℕ) → IsUtf8 text → I
     KnowsColon (take len (encode_utf8_all (chars (drop start text)))) colon → KnowsColon front colon
 colon_of text front start len colon u b e h =
     let n : start + len - start ≡ len = omega arith in
-    subst (λ w. KnowsColon w colon) (ap (take len) (encodes-chars (drop start text) (IsUtf8-drop text start u b)) ∙ sym (e ∙ ap (λ k. take k (drop start text)) n)) h
+    subst (λ w. KnowsColon w colon) (ap (take len) (encodes-chars (drop start text) (IsUtf8-drop text start u b))
+    ∙ sym (e ∙ ap (λ k. take k (drop start text)) n)) h
 
 pub returns : goal.returns
 returns g c =
@@ -85,11 +94,14 @@ returns g c =
     let given : GivesBytes c.args.self.now c.args.kind c.args.len _ _ = λ n e.
     let e : c.args.len ≡ bytes_of n (chars (drop s.start (string_bytes s.text))) = e ∙ ap (λ v. bytes_of n v.text) (sym c.self.view_is) in
     let feeds = c.feeds_of-feeds.ensures ∙ ap (λ b. count_by (λ x. x == 10) (take (s.start + c.args.len - s.start) (drop s.start b))) bytes in
-    let place = place_advanced (string_bytes s.text) s.start n c.args.len s.pending.items _ _ c.self.invariant.held (IsUtf8-string_bytes s.text) e c.feeds_of-feeds.result feeds in
+    let place = place_advanced (string_bytes s.text) s.start n c.args.len s.pending.items _ _ c.self.invariant.held
+    (IsUtf8-string_bytes s.text) e c.feeds_of-feeds.result feeds in
     let text = text_advanced (string_bytes s.text) s.start n c.args.len s.pending.items _ _ c.self.invariant.held (IsUtf8-string_bytes s.text) e in
-    let chars_are = ap chars front ∙ front_advanced (string_bytes s.text) s.start n c.args.len s.pending.items _ _ c.self.invariant.held (IsUtf8-string_bytes s.text) e in
+    let chars_are = ap chars front ∙ front_advanced (string_bytes s.text) s.start n c.args.len s.pending.items _ _ c.self.invariant.held
+    (IsUtf8-string_bytes s.text) e in
     let all = same_given (unread_of s) c.args.kind n chars_are place text in
     given_too c.self.view_is all in
-    let colon = colon_of (string_bytes s.text) c.range.result.now s.start c.args.len c.args.colon (IsUtf8-string_bytes s.text) c.self.invariant.held.boundary front
+    let colon = colon_of (string_bytes s.text) c.range.result.now s.start c.args.len c.args.colon
+    (IsUtf8-string_bytes s.text) c.self.invariant.held.boundary front
     (subst (λ v. KnowsColon (take c.args.len (encode_utf8_all v.text)) c.args.colon) (sym c.self.view_is) c.requires.colon) in
     rw c.add_feeds.ensures ((refl, (λ _. tt), (given, colon)), tt)

@@ -21,7 +21,8 @@ overflow_add-self g c =
     let feeds : c.args.feeds ≡ count_by (λ x. x == 10) (take (s.start + c.args.len - s.start) (drop s.start (string_bytes s.text))) =
     c.requires.2 ∙ (ap (λ v. count_by (λ x. x == 10) (take n v.text)) (sym c.self.view_is)
     ∙ sym (feeds_advanced (string_bytes s.text) s.start n c.args.len s.pending.items _ _ c.self.invariant.held (IsUtf8-string_bytes s.text) e)) in
-    let held = held_advanced (string_bytes s.text) s.start n c.args.len s.pending.items _ _ c.self.invariant.held (IsUtf8-string_bytes s.text) e c.args.feeds feeds in
+    let held = held_advanced (string_bytes s.text) s.start n c.args.len s.pending.items _ _ c.self.invariant.held
+    (IsUtf8-string_bytes s.text) e c.args.feeds feeds in
     let lines = held.lines in
     let within = held.within in
     let most = held.most in
@@ -37,7 +38,8 @@ overflow_add-self-2 g c =
     let feeds : c.args.feeds ≡ count_by (λ x. x == 10) (take (s.start + c.args.len - s.start) (drop s.start (string_bytes s.text))) =
     c.requires.2 ∙ (ap (λ v. count_by (λ x. x == 10) (take n v.text)) (sym c.self.view_is)
     ∙ sym (feeds_advanced (string_bytes s.text) s.start n c.args.len s.pending.items _ _ c.self.invariant.held (IsUtf8-string_bytes s.text) e)) in
-    let held = held_advanced (string_bytes s.text) s.start n c.args.len s.pending.items _ _ c.self.invariant.held (IsUtf8-string_bytes s.text) e c.args.feeds feeds in
+    let held = held_advanced (string_bytes s.text) s.start n c.args.len s.pending.items _ _ c.self.invariant.held
+    (IsUtf8-string_bytes s.text) e c.args.feeds feeds in
     let lines = held.lines in
     let within = held.within in
     let most = held.most in
@@ -53,7 +55,8 @@ overflow_add-self-3 g c =
     let feeds : c.args.feeds ≡ count_by (λ x. x == 10) (take (s.start + c.args.len - s.start) (drop s.start (string_bytes s.text))) =
     c.requires.2 ∙ (ap (λ v. count_by (λ x. x == 10) (take n v.text)) (sym c.self.view_is)
     ∙ sym (feeds_advanced (string_bytes s.text) s.start n c.args.len s.pending.items _ _ c.self.invariant.held (IsUtf8-string_bytes s.text) e)) in
-    let held = held_advanced (string_bytes s.text) s.start n c.args.len s.pending.items _ _ c.self.invariant.held (IsUtf8-string_bytes s.text) e c.args.feeds feeds in
+    let held = held_advanced (string_bytes s.text) s.start n c.args.len s.pending.items _ _ c.self.invariant.held
+    (IsUtf8-string_bytes s.text) e c.args.feeds feeds in
     let lines = held.lines in
     let within = held.within in
     let most = held.most in
@@ -69,7 +72,8 @@ invariant_of-self g c =
     let feeds : c.args.feeds ≡ count_by (λ x. x == 10) (take (s.start + c.args.len - s.start) (drop s.start (string_bytes s.text))) =
     c.requires.2 ∙ (ap (λ v. count_by (λ x. x == 10) (take n v.text)) (sym c.self.view_is)
     ∙ sym (feeds_advanced (string_bytes s.text) s.start n c.args.len s.pending.items _ _ c.self.invariant.held (IsUtf8-string_bytes s.text) e)) in
-    let held = held_advanced (string_bytes s.text) s.start n c.args.len s.pending.items _ _ c.self.invariant.held (IsUtf8-string_bytes s.text) e c.args.feeds feeds in
+    let held = held_advanced (string_bytes s.text) s.start n c.args.len s.pending.items _ _ c.self.invariant.held
+    (IsUtf8-string_bytes s.text) e c.args.feeds feeds in
     let bounded = c.self.invariant.bounded in
     record {
       held = held;
@@ -90,6 +94,7 @@ returns g c = λ m f.
     let feeds : c.args.feeds ≡ count_by (λ x. x == 10) (take (s.start + c.args.len - s.start) (drop s.start (string_bytes s.text))) =
     c.requires.2 ∙ (ap (λ v. count_by (λ x. x == 10) (take n v.text)) (sym c.self.view_is)
     ∙ sym (feeds_advanced (string_bytes s.text) s.start n c.args.len s.pending.items _ _ c.self.invariant.held (IsUtf8-string_bytes s.text) en)) in
-    let place = place_advanced (string_bytes s.text) s.start m c.args.len s.pending.items _ _ c.self.invariant.held (IsUtf8-string_bytes s.text) e c.args.feeds feeds in
+    let place = place_advanced (string_bytes s.text) s.start m c.args.len s.pending.items _ _ c.self.invariant.held
+    (IsUtf8-string_bytes s.text) e c.args.feeds feeds in
     let text = text_advanced (string_bytes s.text) s.start m c.args.len s.pending.items _ _ c.self.invariant.held (IsUtf8-string_bytes s.text) e in
     moved_same (unread_of s) place text ∙ ap (λ v. moved v (past v.place (take m v.text)) v.begun v.comment (drop m v.text)) c.self.view_is

@@ -24,4 +24,13 @@ returns-clause-read g c = read_new c.args.dialect c.args.limit _ _ c.new.ensures
 
 pub returns-clause-running : goal.returns-clause-running
 returns-clause-running g c =
-    record { running = refl; more = refl; few = omega (arith, ap (λ b. length (encode_utf8_all (chars b))) c.new.ensures.bytes, ap (λ w. length (encode_utf8_all w)) chars-nil, ap length c.new-2.ensures.items) }
+    record {
+      running = refl;
+      more = refl;
+      few = omega (
+        arith,
+        ap (λ b. length (encode_utf8_all (chars b))) c.new.ensures.bytes,
+        ap (λ w. length (encode_utf8_all w)) chars-nil,
+        ap length c.new-2.ensures.items,
+      );
+    }

@@ -20,7 +20,8 @@ returns-in-Undecided g c =
     let same = sym c.in-Undecided.ensures.same in
     let running : old.stopped ≡ false = ap (λ v. v.stopped) (sym c.self.view_is) ∙ c.if-self.false in
     let begins : BeginsChar old.pending = subst (λ v. BeginsChar v.pending) c.self.view_is c.self.invariant.held.begins in
-    let m = subst (Moves old []) same (moves_both old c.drop_mark.new.self c.drop_blanks.new.self [] [] c.drop_mark.ensures.moves c.drop_blanks.ensures.moves) in
+    let m = subst (Moves old []) same
+    (moves_both old c.drop_mark.new.self c.drop_blanks.new.self [] [] c.drop_mark.ensures.moves c.drop_blanks.ensures.moves) in
     let stands = subst Stands same c.drop_blanks.ensures.stands in
     ((refl, (λ _. tt), waits old mid m running begins stands c.in-Undecided.ensures.look), tt)
 
@@ -31,9 +32,19 @@ returns-in-Complete g c =
     let same = sym c.in-Complete.ensures.same in
     let running : old.stopped ≡ false = ap (λ v. v.stopped) (sym c.self.view_is) ∙ c.if-self.false in
     let begins : BeginsChar old.pending = subst (λ v. BeginsChar v.pending) c.self.view_is c.self.invariant.held.begins in
-    let m = subst (Moves old []) same (moves_both old c.drop_mark.new.self c.drop_blanks.new.self [] [] c.drop_mark.ensures.moves c.drop_blanks.ensures.moves) in
-    let stands = subst Stands same c.drop_blanks.ensures.stands in
-    ((refl, (λ _. tt), (ends_at old mid m running begins stands c.give_end.follows.holds-at-none.0 c.in-Complete.ensures.look, c.give_end.follows.holds-at-none.1)), tt)
+    let m = subst (Moves old []) same
+    (moves_both old c.drop_mark.new.self c.drop_blanks.new.self [] [] c.drop_mark.ensures.moves c.drop_blanks.ensures.moves) in
+    let stands = subst Stands same c.drop_blanks.ensures.stands in (
+      (
+        refl,
+        (λ _. tt),
+        (
+          ends_at old mid m running begins stands c.give_end.follows.holds-at-none.0 c.in-Complete.ensures.look,
+          c.give_end.follows.holds-at-none.1,
+        ),
+      ),
+      tt,
+    )
 
 pub returns-in-Stop : goal.returns-in-Stop
 returns-in-Stop g c =
@@ -42,7 +53,8 @@ returns-in-Stop g c =
     let same = sym c.in-Stop.ensures.same in
     let running : old.stopped ≡ false = ap (λ v. v.stopped) (sym c.self.view_is) ∙ c.if-self.false in
     let begins : BeginsChar old.pending = subst (λ v. BeginsChar v.pending) c.self.view_is c.self.invariant.held.begins in
-    let m = subst (Moves old []) same (moves_both old c.drop_mark.new.self c.drop_blanks.new.self [] [] c.drop_mark.ensures.moves c.drop_blanks.ensures.moves) in
+    let m = subst (Moves old []) same
+    (moves_both old c.drop_mark.new.self c.drop_blanks.new.self [] [] c.drop_mark.ensures.moves c.drop_blanks.ensures.moves) in
     let stands = subst Stands same c.drop_blanks.ensures.stands in
     let e = c.stop_here.ensures in
     ((refl, (λ _. tt), stops_at old mid m running begins stands e.reason e.place e.stopped c.in-Stop.ensures.look), tt)
@@ -57,6 +69,16 @@ returns-in-Token g c =
     let same = sym c.in-Token.ensures.same in
     let running : old.stopped ≡ false = ap (λ v. v.stopped) (sym c.self.view_is) ∙ c.if-self.false in
     let begins : BeginsChar old.pending = subst (λ v. BeginsChar v.pending) c.self.view_is c.self.invariant.held.begins in
-    let m = subst (Moves old []) same (moves_both old c.drop_mark.new.self c.drop_blanks.new.self [] [] c.drop_mark.ensures.moves c.drop_blanks.ensures.moves) in
-    let stands = subst Stands same c.drop_blanks.ensures.stands in
-    ((refl, (λ _. tt), (gives_look old mid m running begins stands _ _ _ _ c.in-Token.ensures.look c.give.follows.holds-at-none.0, c.give.follows.holds-at-none.1)), tt)
+    let m = subst (Moves old []) same
+    (moves_both old c.drop_mark.new.self c.drop_blanks.new.self [] [] c.drop_mark.ensures.moves c.drop_blanks.ensures.moves) in
+    let stands = subst Stands same c.drop_blanks.ensures.stands in (
+      (
+        refl,
+        (λ _. tt),
+        (
+          gives_look old mid m running begins stands _ _ _ _ c.in-Token.ensures.look c.give.follows.holds-at-none.0,
+          c.give.follows.holds-at-none.1,
+        ),
+      ),
+      tt,
+    )

@@ -15,11 +15,13 @@ returns-else-blank-clause-passes g c =
 
 pub returns-else-blank-clause-forward : goal.returns-else-blank-clause-forward
 returns-else-blank-clause-forward g c = λ _.
-    blanks_less c.requires c.self.view_is c.rest-2.ensures c.advance.ensures c.blank_run-blank.ensures.len c.blank_run-blank.ensures.comment c.if-blank-eq0.false
+    blanks_less c.requires c.self.view_is c.rest-2.ensures c.advance.ensures c.blank_run-blank.ensures.len c.blank_run-blank.ensures.comment
+    c.if-blank-eq0.false
 
 pub returns-else-blank-clause-again : goal.returns-else-blank-clause-again
 returns-else-blank-clause-again g c = λ _.
-    blanks_again c.requires c.self.view_is c.rest-2.ensures c.advance.ensures c.blank_run-blank.ensures.len c.blank_run-blank.ensures.comment (ap not c.if-blank.false)
+    blanks_again c.requires c.self.view_is c.rest-2.ensures c.advance.ensures c.blank_run-blank.ensures.len
+    c.blank_run-blank.ensures.comment (ap not c.if-blank.false)
 
 pub returns-then-blank-eq0-clause-passes : goal.returns-then-blank-eq0-clause-passes
 returns-then-blank-eq0-clause-passes g c = search rules

@@ -26,7 +26,8 @@ returns-clause-place g c =
     let all : place_of c.match-reason.result ≡ fault_place c.args.reason v.place v.text = elim c.match-reason.branch [
       | in-BadUtf8 w ↦
           ap place_of w.result-is
-          ∙ (at_rest v.place (w.range_from-rest.ensures.value ∙ ap (drop s.start) w.as_str.ensures.value) (w.line_feeds.ensures ∙ ap (count_by (λ b. b == 10)) w.as_bytes.ensures.value)
+          ∙ (at_rest v.place (w.range_from-rest.ensures.value ∙ ap (drop s.start) w.as_str.ensures.value)
+          (w.line_feeds.ensures ∙ ap (count_by (λ b. b == 10)) w.as_bytes.ensures.value)
           ∙ (place_after (string_bytes s.text) s.start s.pending.items _ _ c.self.invariant.held (IsUtf8-string_bytes s.text)
           ∙ ap (λ r. fault_place r v.place v.text) (sym w.in-BadUtf8.is)))
       | in_default w ↦ ap place_of w.result-is ∙ sym (here c.args.reason w.in_default.not-BadUtf8 v.place v.text)

@@ -28,7 +28,8 @@ module _ {Z : Type 0} where
 abbrev with_fields : Unread → ℕ → List ℕ → List ℕ → Bool → Place → Unread
 with_fields v held text pending broken taken = record v { text = text; pending = pending; broken = broken; taken = taken; held = held }
 
-same_fields : (v : Unread) (n : ℕ) {t t' p p' : List ℕ} {b b' : Bool} {q q' : Place} → t ≡ t' → p ≡ p' → b ≡ b' → q ≡ q' → with_fields v n t p b q ≡ with_fields v n t' p' b' q'
+same_fields : (v : Unread) (n : ℕ) {t t' p p' : List ℕ} {b b' : Bool} {q q' : Place} → t ≡ t' → p ≡ p' → b ≡ b' → q ≡ q' →
+    with_fields v n t p b q ≡ with_fields v n t' p' b' q'
 same_fields v n e f h k = cc
 
 -- what has come, and how much is held
@@ -50,14 +51,24 @@ invariant_of-self-2 g c =
           w.in_ok-self-inside.ensures.text ∙ ap (λ x. x ++ good_bytes (s.pending.items ++ piece)) w.in_ok-drop_front.ensures.ok in
           let kept : w.add_piece.new.pending.items ≡ cond (is_broken (s.pending.items ++ piece)) [] (rest_of_bytes (s.pending.items ++ piece)) =
           w.in_ok-self-inside.ensures.pending ∙ ap (λ b. cond b [] (rest_of_bytes (s.pending.items ++ piece))) w.in_ok-self-inside.ensures.broken in
-          let held = subst (λ n. Held (string_bytes w.add_piece.new.text) 0 w.add_piece.new.pending.items (record { offset = s.offset; line = s.line }) (after s piece n)) (sym c.line_feeds.ensures)
-          (held_grown (string_bytes s.text) (string_bytes w.add_piece.new.text) s.start s.pending.items w.add_piece.new.pending.items piece _ _ c.self.invariant.held most (IsUtf8-string_bytes w.add_piece.new.text) new kept) in
-          let walked = walked_grown s.dialect (string_bytes s.text) (string_bytes w.add_piece.new.text) s.start s.walk (s.pending.items ++ piece) (IsUtf8-string_bytes s.text) c.self.invariant.held.boundary new c.self.invariant.walked in
-          let bounded = bounded_grown (string_bytes s.text) (string_bytes w.add_piece.new.text) s.start s.pending.items w.add_piece.new.pending.items piece (most_unread s.limit) new kept room in
+          let held = subst (λ n. Held (string_bytes w.add_piece.new.text) 0 w.add_piece.new.pending.items
+          (record { offset = s.offset; line = s.line }) (after s piece n)) (sym c.line_feeds.ensures)
+          (held_grown (string_bytes s.text) (string_bytes w.add_piece.new.text) s.start s.pending.items w.add_piece.new.pending.items piece
+          _ _ c.self.invariant.held most (IsUtf8-string_bytes w.add_piece.new.text) new kept) in
+          let walked = walked_grown s.dialect (string_bytes s.text) (string_bytes w.add_piece.new.text) s.start s.walk
+          (s.pending.items ++ piece) (IsUtf8-string_bytes s.text) c.self.invariant.held.boundary new c.self.invariant.walked in
+          let bounded = bounded_grown (string_bytes s.text) (string_bytes w.add_piece.new.text) s.start s.pending.items
+          w.add_piece.new.pending.items piece (most_unread s.limit) new kept room in
           subst P (sym w.self-inside-is) (record { held = held; walked = walked; no_names = tt; bounded = bounded })
       | else-not-self w ↦
-          let held = subst (λ n. HeldAt s (after s piece n)) (sym c.line_feeds.ensures) (held_counted (string_bytes s.text) s.start s.pending.items piece _ _ c.self.invariant.held most) in
-          subst P (sym w.self-inside-is) (record { held = held; walked = c.self.invariant.walked; no_names = c.self.invariant.no_names; bounded = c.self.invariant.bounded })
+          let held = subst (λ n. HeldAt s (after s piece n)) (sym c.line_feeds.ensures)
+          (held_counted (string_bytes s.text) s.start s.pending.items piece _ _ c.self.invariant.held most) in
+          subst P (sym w.self-inside-is) (record {
+            held = held;
+            walked = c.self.invariant.walked;
+            no_names = c.self.invariant.no_names;
+            bounded = c.self.invariant.bounded;
+          })
     ]
 
 pub returns-clause-ok : goal.returns-clause-ok
@@ -72,13 +83,17 @@ returns-clause-ok g c =
       | then-not-self+in_ok-drop_front+in_ok-self-inside w ↦
           let new : string_bytes w.add_piece.new.text ≡ drop s.start (string_bytes s.text) ++ good_bytes (s.pending.items ++ piece) =
           w.in_ok-self-inside.ensures.text ∙ ap (λ x. x ++ good_bytes (s.pending.items ++ piece)) w.in_ok-drop_front.ensures.ok in
-          let text = text_grown (string_bytes s.text) (string_bytes w.add_piece.new.text) s.start s.pending.items piece _ _ c.self.invariant.held (IsUtf8-string_bytes s.text) new in
+          let text = text_grown (string_bytes s.text) (string_bytes w.add_piece.new.text) s.start s.pending.items piece _ _
+          c.self.invariant.held (IsUtf8-string_bytes s.text) new in
           let kept : w.add_piece.new.pending.items ≡ cond (is_broken (s.pending.items ++ piece)) [] (rest_of_bytes (s.pending.items ++ piece)) =
           w.in_ok-self-inside.ensures.pending ∙ ap (λ b. cond b [] (rest_of_bytes (s.pending.items ++ piece))) w.in_ok-self-inside.ensures.broken in
-          subst P (sym w.self-inside-is) (same_fields v (all_bytes (string_bytes w.add_piece.new.text) w.add_piece.new.pending.items) text kept w.in_ok-self-inside.ensures.broken (ap (λ n. after s piece n) c.line_feeds.ensures)
-          ∙ ap (holding (all_bytes (string_bytes w.add_piece.new.text) w.add_piece.new.pending.items)) (sym (cond-false s.broken (counted v piece) (lengthened v piece) w.if-not-self.true)))
+          subst P (sym w.self-inside-is) (same_fields v (all_bytes (string_bytes w.add_piece.new.text) w.add_piece.new.pending.items) text
+          kept w.in_ok-self-inside.ensures.broken (ap (λ n. after s piece n) c.line_feeds.ensures)
+          ∙ ap (holding (all_bytes (string_bytes w.add_piece.new.text) w.add_piece.new.pending.items))
+          (sym (cond-false s.broken (counted v piece) (lengthened v piece) w.if-not-self.true)))
       | else-not-self w ↦
           subst P (sym w.self-inside-is)
-          (ap (λ n. unread_at s (after s piece n)) c.line_feeds.ensures ∙ ap (holding (held s)) (sym (cond-true s.broken (counted v piece) (lengthened v piece) w.if-not-self.false)))
+          (ap (λ n. unread_at s (after s piece n)) c.line_feeds.ensures
+          ∙ ap (holding (held s)) (sym (cond-true s.broken (counted v piece) (lengthened v piece) w.if-not-self.false)))
     ] in
     all ∙ ap (λ v. holding (held i) (grown v piece)) c.self.view_is

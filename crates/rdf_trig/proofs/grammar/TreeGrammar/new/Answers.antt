@@ -10,7 +10,10 @@ abbrev stands : DocForm → Sizes → State → ℕ → TreeAt
 stands form limits state held = record { form = form; limit = limits.token; state = state; held = held }
 
 pub invariant_of-result : goal.invariant_of-result
-invariant_of-result g c = (ap (λ (s : InForce). s.limits) c.start.ensures ∙ sym c.rules.ensures.limits, c.new.ensures.keeps c.rules.result.form c.rules.result.limits)
+invariant_of-result g c = (
+  ap (λ (s : InForce). s.limits) c.start.ensures ∙ sym c.rules.ensures.limits,
+  c.new.ensures.keeps c.rules.result.form c.rules.result.limits,
+)
 
 pub returns : goal.returns
 returns g c =

@@ -10,7 +10,13 @@ use Rattle.rdf_trig.proofs.grammar.TreeGrammarForesees.may_come.Goals as goal
 pub returns : goal.returns
 returns g c =
     let r = c.self.inside in
-    let here : TreeAt = record { form = r.rules.form; limit = r.rules.limits.token; state = state_of r.rules.form r.scope r.state; held = grammar_bytes r.state r.scope } in
+    let here : TreeAt = record {
+      form = r.rules.form;
+      limit = r.rules.limits.token;
+      state = state_of r.rules.form r.scope r.state;
+      held = grammar_bytes r.state r.scope;
+    } in
     record {
-      exact = subst (λ y. KnowsNext tree_words (λ x. trees x.form x.start) y c.args.kind c.may_come.result) c.self.view_is (knows_next here c.args.kind c.may_come.result c.may_come.ensures);
+      exact = subst (λ y. KnowsNext tree_words (λ x. trees x.form x.start) y c.args.kind c.may_come.result) c.self.view_is
+          (knows_next here c.args.kind c.may_come.result c.may_come.ensures);
     }

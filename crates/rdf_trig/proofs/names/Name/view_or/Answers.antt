@@ -8,4 +8,5 @@ pub returns-else-len-gt0 : goal.returns-else-len-gt0
 returns-else-len-gt0 g c =
     let len = c.len.ensures in
     let none = c.if-len-gt0.false in
-    c.known.ensures ∙ ap (λ o. unwrap_or o (known_chars c.args.other)) (none_named (chars c.self.inside.text) c.args.self.now c.self.view_is (omega (arith, len, none)))
+    c.known.ensures ∙ ap (λ o. unwrap_or o (known_chars c.args.other))
+    (none_named (chars c.self.inside.text) c.args.self.now c.self.view_is (omega (arith, len, none)))

@@ -12,13 +12,15 @@ use Rattle.rdf_trig.proofs.reader.TrigReader.feed.Goals as goal
 pub returns-clause-exact : goal.returns-clause-exact
 returns-clause-exact g c =
     subst
-    (λ (r : TrigRead). (x : Chosen) (bytes : List ℕ) (quads : List Quad) → HasRead tree_words r x bytes quads → Exactly c.feed.result (GoesOn (in_words tree_words x r.scanner.limit) (bytes ++ c.args.piece.now)))
+    (λ (r : TrigRead). (x : Chosen) (bytes : List ℕ) (quads : List Quad) → HasRead tree_words r x bytes quads →
+    Exactly c.feed.result (GoesOn (in_words tree_words x r.scanner.limit) (bytes ++ c.args.piece.now)))
     c.self.view_is c.feed.ensures.exact
 
 pub returns-clause-place : goal.returns-clause-place
 returns-clause-place g c =
     subst
-    (λ (r : TrigRead). IfErr c.feed.result (λ f. (x : Chosen) (bytes : List ℕ) (quads : List Quad) → HasRead tree_words r x bytes quads → IsPlaced f.reason (bytes ++ c.args.piece.now) (place_of f)))
+    (λ (r : TrigRead). IfErr c.feed.result (λ f. (x : Chosen) (bytes : List ℕ) (quads : List Quad) → HasRead tree_words r x bytes quads →
+    IsPlaced f.reason (bytes ++ c.args.piece.now) (place_of f)))
     c.self.view_is c.feed.ensures.place
 
 pub returns-clause-limits : goal.returns-clause-limits

@@ -22,11 +22,15 @@ returns-clause-all g c = subst (λ (r : TrigRead). all_bytes r ≤ R.most_held t
 pub returns-clause-least : goal.returns-clause-least
 returns-clause-least g c =
     subst
-    (λ (r : TrigRead). (x : Chosen) (bytes : List ℕ) (quads : List Quad) (size : ℕ) → HasRead tree_words r x bytes quads → Owed x.form x.start (tokens_of tree_words.dialect r.scanner.limit bytes false).tokens size → unread_bytes r.scanner + bytes_held r.grammar.state.setting.scope + size ≤ c.held.result)
+    (λ (r : TrigRead). (x : Chosen) (bytes : List ℕ) (quads : List Quad) (size : ℕ) → HasRead tree_words r x bytes quads →
+    Owed x.form x.start (tokens_of tree_words.dialect r.scanner.limit bytes false).tokens size →
+    unread_bytes r.scanner + bytes_held r.grammar.state.setting.scope + size ≤ c.held.result)
     c.self.view_is (owed_held _ c.held.result c.held.ensures.sum)
 
 pub returns-clause-owed : goal.returns-clause-owed
 returns-clause-owed g c =
     subst
-    (λ (r : TrigRead). (x : Chosen) (bytes : List ℕ) (quads : List Quad) (size : ℕ) → HasRead tree_words r x bytes quads → OwedInAll x.form x.start (tokens_of tree_words.dialect r.scanner.limit bytes false).tokens size → length (open_bytes tree_words.dialect r.scanner.limit bytes) + size ≤ c.held.result)
+    (λ (r : TrigRead). (x : Chosen) (bytes : List ℕ) (quads : List Quad) (size : ℕ) → HasRead tree_words r x bytes quads →
+    OwedInAll x.form x.start (tokens_of tree_words.dialect r.scanner.limit bytes false).tokens size →
+    length (open_bytes tree_words.dialect r.scanner.limit bytes) + size ≤ c.held.result)
     c.self.view_is (all_owed_held _ c.held.result c.held.ensures.sum)

@@ -92,7 +92,8 @@ returns-in_err-look_up-clause-err g c =
     let k = c.args.token.now.kind in
     let l = leaf c.args.token.now in
     told_stops c.from_residual-in_err-look_up.result c.in_err-look_up.field-0.0 _ c.from_residual-in_err-look_up.ensures.1
-    (λ s e. fails_stops g.S.QuadSink.takes g.S.QuadSink.leaves g.S.QuadSink.has_failed form (state_of form s self) k l c.in_err-look_up.field-0.0 c.args.sink.now c.requires.live
+    (λ s e. fails_stops g.S.QuadSink.takes g.S.QuadSink.leaves g.S.QuadSink.has_failed form
+    (state_of form s self) k l c.in_err-look_up.field-0.0 c.args.sink.now c.requires.live
     (c.in_ok-turn.ensures.ok s l (ap (λ z. z.depth) e.limits ∙ sym c.requires.most)) (c.in_err-look_up.ensures.err form s e))
 
 pub returns-in_err-given-clause-err : goal.returns-in_err-given-clause-err
@@ -103,9 +104,11 @@ returns-in_err-given-clause-err g c =
     let k = token.kind in
     let l = leaf token in
     told_stops c.from_residual-in_err-given.result c.in_err-given.field-0.0 _ c.from_residual-in_err-given.ensures.1
-    (λ s e. fails_gave g.S.QuadSink.takes g.S.QuadSink.leaves g.S.QuadSink.has_failed form (state_of form s self) k l c.in_err-given.field-0.0 c.args.sink.now c.give.new.sink
+    (λ s e. fails_gave g.S.QuadSink.takes g.S.QuadSink.leaves g.S.QuadSink.has_failed form
+    (state_of form s self) k l c.in_err-given.field-0.0 c.args.sink.now c.give.new.sink
     (c.in_ok-turn.ensures.ok s l (ap (λ z. z.depth) e.limits ∙ sym c.requires.most)) (c.in_ok-look_up.ensures.ok form s e).admitted
-    (subst (λ r. GaveUp g.S.QuadSink.takes g.S.QuadSink.leaves g.S.QuadSink.has_failed c.in_err-given.field-0.0 (given form s r token) c.args.sink.now c.give.new.sink)
+    (subst (λ r. GaveUp g.S.QuadSink.takes g.S.QuadSink.leaves g.S.QuadSink.has_failed c.in_err-given.field-0.0
+    (given form s r token) c.args.sink.now c.give.new.sink)
     c.look_up.ensures.same (c.in_err-given.ensures.err form s)))
 
 pub returns-in_err-move_on-clause-err : goal.returns-in_err-move_on-clause-err
@@ -116,7 +119,8 @@ returns-in_err-move_on-clause-err g c =
     let k = token.kind in
     let l = leaf token in
     told_stops c.from_residual-in_err-move_on.result c.in_err-move_on.field-0.0 _ c.from_residual-in_err-move_on.ensures.1
-    (λ s e. fails_after g.S.QuadSink.takes g.S.QuadSink.leaves g.S.QuadSink.has_failed form (state_of form s self) k l c.in_err-move_on.field-0.0 c.args.sink.now c.give.new.sink
+    (λ s e. fails_after g.S.QuadSink.takes g.S.QuadSink.leaves g.S.QuadSink.has_failed form
+    (state_of form s self) k l c.in_err-move_on.field-0.0 c.args.sink.now c.give.new.sink
     (c.in_ok-turn.ensures.ok s l (ap (λ z. z.depth) e.limits ∙ sym c.requires.most)) (c.in_ok-look_up.ensures.ok form s e).admitted
     (subst (λ r. Appends g.S.QuadSink.takes c.args.sink.now (given form s r token) c.give.new.sink) c.look_up.ensures.same (c.in_ok-given.ensures.ok form s))
     c.in_err-move_on.ensures.err c.in_ok-given.ensures.live)
@@ -200,7 +204,8 @@ pub returns-in_err-look_up-clause-stays : goal.returns-in_err-look_up-clause-sta
 returns-in_err-look_up-clause-stays g c =
     let here = c.args.scope.now in
     other_fault c.from_residual-in_err-look_up.result c.in_err-look_up.field-0.0 _ c.from_residual-in_err-look_up.ensures.1
-    (λ u. subst (FindsNone c.args.self.now c.args.self.now.mode here c.args.token.now) u c.in_err-look_up.ensures.err c.args.rules.now.form here (same_scope here))
+    (λ u. subst (FindsNone c.args.self.now c.args.self.now.mode here c.args.token.now) u c.in_err-look_up.ensures.err c.args.rules.now.form
+    here (same_scope here))
 
 pub returns-in_err-given-clause-stays : goal.returns-in_err-given-clause-stays
 returns-in_err-given-clause-stays g c =
@@ -208,5 +213,6 @@ returns-in_err-given-clause-stays g c =
     let here = c.args.scope.now in
     other_fault c.from_residual-in_err-given.result c.in_err-given.field-0.0 _ c.from_residual-in_err-given.ensures.1
     (λ u.
-    subst (λ e. GaveUp g.S.QuadSink.takes g.S.QuadSink.leaves g.S.QuadSink.has_failed e (given form here c.look_up.new.self c.args.token.now) c.args.sink.now c.give.new.sink) u
+    subst (λ e. GaveUp g.S.QuadSink.takes g.S.QuadSink.leaves g.S.QuadSink.has_failed e
+    (given form here c.look_up.new.self c.args.token.now) c.args.sink.now c.give.new.sink) u
     (c.in_err-given.ensures.err form here))

@@ -10,7 +10,8 @@ use Rattle.rdf_trig.proofs.code.TurnsLemmas.{turn_goes}
 use Rattle.rdf_trig.proofs.state.State.check.Goals as goal
 
 pub returns-in-None-clause-err : goal.returns-in-None-clause-err
-returns-in-None-clause-err g c s l e = no_reply c.args.rules.now.form (state_of c.args.rules.now.form s c.args.self.now) c.args.kind l (c.in-None.ensures.means s l)
+returns-in-None-clause-err g c s l e =
+    no_reply c.args.rules.now.form (state_of c.args.rules.now.form s c.args.self.now) c.args.kind l (c.in-None.ensures.means s l)
 
 pub returns-then-is_too_deep-clause-err : goal.returns-then-is_too_deep-clause-err
 returns-then-is_too_deep-clause-err g c s l e =

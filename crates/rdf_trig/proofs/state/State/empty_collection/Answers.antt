@@ -17,4 +17,11 @@ pub returns-clause-fits : goal.returns-clause-fits
 returns-clause-fits g c = λ n h f.
     let closed = c.collection_closed-mode in
     stands_fits n closed.new.self c.stand.new.self closed.result held.Nothing None c.stand.ensures
-    (closed.ensures.fits n (record { graph = f.graph; object = f.object; tail = f.tail; frame = (empty_fits n _ kind.Nil c.set_nil.ensures, f.frame.1); frames = f.frames; spares = f.spares }))
+    (closed.ensures.fits n (record {
+      graph = f.graph;
+      object = f.object;
+      tail = f.tail;
+      frame = (empty_fits n _ kind.Nil c.set_nil.ensures, f.frame.1);
+      frames = f.frames;
+      spares = f.spares;
+    }))

@@ -9,10 +9,18 @@ pub returns-clause-takes : goal.returns-clause-takes
 returns-clause-takes g c = on_ok c.object.result _ _ (λ h form s u.
     let self = c.args.self.now in
     let at = c.args.token.now.offset in
-    subst (λ y. begun (setting_in s self) u self.name (M.InCollection at at (up_in self)) (rest_of (graph_of self.level self.graph) y) c.args.start (leaf c.args.token.now)
+    subst (λ y. begun (setting_in s self) u self.name (M.InCollection at at (up_in self))
+    (rest_of (graph_of self.level self.graph) y) c.args.start (leaf c.args.token.now)
     ≡ moved form s u c.object.new.self) c.none.ensures (h form s u)) c.object.ensures.takes
 
 pub returns-clause-fits : goal.returns-clause-fits
 returns-clause-fits g c =
     on_ok c.object.result _ _
-    (λ h n t i f. h n t i (record { graph = f.graph; object = f.object; tail = f.tail; frame = f.frame; frames = f.frames; spares = f.spares })) c.object.ensures.fits
+    (λ h n t i f. h n t i (record {
+      graph = f.graph;
+      object = f.object;
+      tail = f.tail;
+      frame = f.frame;
+      frames = f.frames;
+      spares = f.spares;
+    })) c.object.ensures.fits

@@ -10,7 +10,8 @@ use Rattle.rdf_trig.proofs.state.State.first_verb.Goals as goal
 pub returns-clause-takes : goal.returns-clause-takes
 returns-clause-takes g c = λ l form s u.
     let self = c.args.self.now in
-    subst (λ x. Go u None None (setting_in s self) (M.Want (M.Listed x (verb_by c.args.verb self.name) (M.InPropertyList (up_in self)))) ≡ moved form s u c.verb.new.self)
+    subst (λ x. Go u None None (setting_in s self) (M.Want (M.Listed x (verb_by c.args.verb self.name) (M.InPropertyList (up_in self))))
+    ≡ moved form s u c.verb.new.self)
     c.set_anon.ensures (c.verb.ensures.takes l form s u)
 
 pub returns-clause-fits : goal.returns-clause-fits

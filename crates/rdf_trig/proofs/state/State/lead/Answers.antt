@@ -8,7 +8,13 @@ use Rattle.rdf_trig.proofs.state.State.lead.Goals as goal
 pub returns-clause-same : goal.returns-clause-same
 returns-clause-same g c =
     let self = c.args.self.now in
-    c.stand.ensures ∙ ap (λ o. record self { level = level.Top; frame = record self.frame { container = o }; rest = None; held = held.Nothing; mode = mode.Outer c.args.outer }) c.none-self.ensures
+    c.stand.ensures ∙ ap (λ o. record self {
+      level = level.Top;
+      frame = record self.frame { container = o };
+      rest = None;
+      held = held.Nothing;
+      mode = mode.Outer c.args.outer;
+    }) c.none-self.ensures
 
 pub returns-clause-fits : goal.returns-clause-fits
 returns-clause-fits g c = λ n h f.

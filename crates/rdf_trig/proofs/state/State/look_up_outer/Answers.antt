@@ -15,7 +15,8 @@ returns-in_default g c =
     let l = leaf c.args.token.now in
     let n = c.in_default in
     record {
-      ok = outer_looks self c.args.outer t k l c.look_up_name.new.self.name c.look_up_name.result n.not-WantPrefix n.not-WantPrefixIri n.not-WantBaseIri c.look_up_name.ensures.ok;
+      ok = outer_looks self c.args.outer t k l c.look_up_name.new.self.name c.look_up_name.result n.not-WantPrefix n.not-WantPrefixIri
+          n.not-WantBaseIri c.look_up_name.ensures.ok;
       fits = c.look_up_name.ensures.fits;
       same = c.look_up_name.ensures.same;
       err = outer_none self c.args.outer t k l c.look_up_name.result n.not-WantPrefix n.not-WantPrefixIri n.not-WantBaseIri c.look_up_name.ensures.err;

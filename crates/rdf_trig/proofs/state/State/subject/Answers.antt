@@ -10,5 +10,6 @@ returns-in_ok-set_label-in-Label-clause-fits g c = λ n t h o.
     let label = c.set_label.new.self in
     let size = label_fits n label _ (leaf c.args.token.now).text c.in_ok-set_label-in-Label.ensures c.label_of.ensures.label t in
     let f = c.begin.ensures.fits n o in
-    stands_fits n (record self { frame = record self.frame { subject = label } }) c.stand-in-Label.new.self mode.AfterSubject held.Nothing _ c.stand-in-Label.ensures
+    stands_fits n (record self { frame = record self.frame { subject = label } }) c.stand-in-Label.new.self mode.AfterSubject held.Nothing _
+    c.stand-in-Label.ensures
     (record { graph = f.graph; object = f.object; tail = f.tail; frame = (size, f.frame.1); frames = f.frames; spares = f.spares })

@@ -60,7 +60,8 @@ returns-in_ok-take_tag-in-Tag-clause-takes g c = rw c.in-Tag.is c.in_ok-take_tag
 
 pub returns-in_ok-object-in-Object-clause-takes : goal.returns-in_ok-object-in-Object-clause-takes
 returns-in_ok-object-in-Object-clause-takes g c =
-    rw c.in-Object.is (subst (λ y. Begins c.args.self.now y c.in-Object.start (leaf c.args.token.now) c.object.new.self) c.none.ensures c.in_ok-object-in-Object.ensures.takes)
+    rw c.in-Object.is (subst (λ y. Begins c.args.self.now y c.in-Object.start (leaf c.args.token.now) c.object.new.self) c.none.ensures
+    c.in_ok-object-in-Object.ensures.takes)
 
 pub returns-in-GraphName-clause-fits : goal.returns-in-GraphName-clause-fits
 returns-in-GraphName-clause-fits g c = λ n t. c.graph_name.ensures.fits n
