@@ -11,8 +11,8 @@ use Rattle.std.proofs.lemmas.List.Elements.{All-weaker}
 use Rattle.std.proofs.lemmas.List.Sums.{sum_by-cons, sum_by-le}
 use Rattle.rdf_iri.specs.Texts.{byte_len}
 use Rattle.rdf_iri.specs.Limits.{Sizes, InRange}
-use Rattle.rdf_iri.specs.Prefixes.{entry_bytes}
-use Rattle.rdf_iri.specs.Scope.{entries_of, bound_to, BaseFits, base_bytes, binding_bytes, most_bytes_held}
+use Rattle.rdf_iri.specs.Prefixes.{entry_bytes, entries_of}
+use Rattle.rdf_iri.specs.Scope.{bound_to, BaseFits, base_bytes, binding_bytes, most_bytes_held}
 use Rattle.rdf_iri.proofs.ResolvedText.{byte_len-chars}
 use Rattle.rdf_iri.proofs.ScopeLemmas.{bound_to-text, length-entries_of}
 

@@ -18,8 +18,8 @@ use Rattle.std.proofs.lemmas.Nat.{mul-le}
 use Rattle.std.proofs.lemmas.List.Sums.{sum_by-cons, sum_by-append}
 use Rattle.rdf_iri.specs.Texts.{equal, byte_len}
 use Rattle.rdf_iri.specs.Seen.{text_of}
-use Rattle.rdf_iri.specs.Scope.{bound_to, entries_of, binding_bytes}
-use Rattle.rdf_iri.specs.Prefixes.{KeptApart, StandsAt, Sets}
+use Rattle.rdf_iri.specs.Scope.{bound_to, binding_bytes}
+use Rattle.rdf_iri.specs.Prefixes.{entries_of, KeptApart, StandsAt, Sets}
 use Rattle.rdf_iri.proofs.TextsLemmas.{equal-true, equal-self}
 use Rattle.rdf_iri.specs.Limits.{Sizes}
 use Rattle.rdf_iri.proofs.ScopeLemmas.{swapped, some_not, same_text, length-entries_of, bound_to-text}

@@ -1,7 +1,6 @@
 -- A map with text as keys, as a list of prefixes and IRIs.
 use Rattle.std.proofs.Common.{◌≡◌, ◌≢◌, ◌≤◌, ◌<◌, ◌+◌, ◌*◌, ℕ, suc, Bool, true, false, cond, List, [], ◌∷◌, ◌++◌, length, Option, Some, None, refl, sym, ap, ◌∙◌, subst, ⊎_elim, arith}
-use Rattle.std.specs.Prelude.{String, is_some, MatchBool, nat_lt}
-use Rattle.std.specs.Prelude.{Result, Ok, Err, OnOk, IfErr}
+use Rattle.std.specs.Prelude.{String, is_some, MatchBool, nat_lt, Result, Ok, Err, OnOk, IfErr}
 use Rattle.rdf_iri.specs.declared.fault.IriFault.{IriFault}
 use Rattle.rdf_iri.specs.declared.fault.IriFault.TheVariants.{NoBase, IriTooLong, Memory, Unbound, TooManyBindings}
 use Rattle.std.specs.String.{string_bytes, string_cmp}
@@ -19,9 +18,9 @@ use Rattle.std.proofs.lemmas.Bool.{cases_Bool, cond-true, cond-false, false≢tr
 use lib.Utf8.{scalars}
 use Rattle.rdf_terms.specs.Terms.{IsIri}
 use Rattle.rdf_iri.specs.Texts.{IsIriText, equal, byte_len}
-use Rattle.rdf_iri.specs.Scope.{InForce, entries_of, bound_to, Binds, HasRoom, KeepsLimits, BaseFits, Expands, ExpandsHere, NotJoined, NotExpanded}
+use Rattle.rdf_iri.specs.Scope.{InForce, bound_to, Binds, HasRoom, KeepsLimits, BaseFits, Expands, ExpandsHere, NotExpanded}
+use Rattle.rdf_iri.specs.Prefixes.{entries_of, NotJoined, Sets}
 use Rattle.rdf_iri.specs.Limits.{Sizes}
-use Rattle.rdf_iri.specs.Prefixes.{Sets}
 use Rattle.rdf_iri.proofs.TextsLemmas.{equal-true, equal-from, has_scheme-append}
 use Rattle.rdf_iri.proofs.IriKept.{all_have-append}
 use Rattle.rdf_iri.proofs.Encoded.{same_test}

@@ -9,8 +9,8 @@ use Rattle.std.proofs.lemmas.List.{take-append-drop, get_or_append_left, get_or_
 use Rattle.std.proofs.lemmas.Str.{IsUtf8-string_bytes}
 use Rattle.std.proofs.lemmas.Slice.Eq.{bytes_eq-Decides}
 use Rattle.rdf_iri.specs.Texts.{equal}
-use Rattle.rdf_iri.specs.Scope.{bound_to, entries_of}
-use Rattle.rdf_iri.specs.Prefixes.{KeptApart, StandsAt}
+use Rattle.rdf_iri.specs.Scope.{bound_to}
+use Rattle.rdf_iri.specs.Prefixes.{entries_of, KeptApart, StandsAt}
 use Rattle.rdf_iri.specs.Table.{hash_of, first_slot, mark_of, Names, HasSlot, IsFree, keys_of, IsKeyAt, HaveSlots, KeepsSlots, Kept}
 use Rattle.rdf_iri.proofs.TextsLemmas.{equal-true, equal-from}
 use Rattle.rdf_iri.proofs.ScopeLemmas.{some_not, same_text}

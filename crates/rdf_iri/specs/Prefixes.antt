@@ -1,6 +1,9 @@
 -- The prefixes of a scope as they are kept: the first of them in a row, the others in a map.
-use Rattle.std.specs.Prelude.{◌≡◌, ℕ, ◌+◌, cond, List, [], ◌∷◌, ◌++◌, length, Some, None, is_some, String, ⊤}
+use Rattle.std.specs.Prelude.{◌≡◌, ℕ, ◌+◌, ◌<◌, ◌≤◌, cond, List, [], ◌∷◌, ◌++◌, length, Some, None, is_some, String, ⊤}
 use Rattle.std.specs.String.{string_bytes}
+use Rattle.std.specs.Str.{chars}
+use Rattle.rdf_iri.specs.declared.fault.IriFault.{IriFault}
+use Rattle.rdf_iri.specs.declared.fault.IriFault.TheVariants.{NoBase, IriTooLong, Memory, Unbound, TooManyBindings}
 use Rattle.rdf_iri.specs.Texts.{equal, byte_len}
 use Rattle.rdf_iri.specs.Scope.{bound_to}
 
@@ -26,3 +29,16 @@ pub record Sets (old : List (List ℕ × List ℕ)) (prefix iri : List ℕ) (new
 -- the bytes of a prefix, as a text, and of its IRI
 abbrev pub entry_bytes : {Z : Type 0} → String Z × List ℕ → ℕ
 entry_bytes e = length (string_bytes e.0) + byte_len e.1
+
+-- the prefixes and IRIs of a map, in its order
+abbrev pub entries_of : {Z : Type 0} → List (String Z × List ℕ) → List (List ℕ × List ℕ)
+entries_of [] = []
+entries_of (e ∷ es) = (chars (string_bytes e.0), e.1) ∷ entries_of es
+
+-- why an IRI and a local part were not joined
+abbrev pub NotJoined : List ℕ → List ℕ → ℕ → IriFault → Type 0
+NotJoined front local limit IriTooLong = limit < byte_len (front ++ local)
+NotJoined front local limit Memory = byte_len (front ++ local) ≤ limit
+NotJoined front local limit NoBase = ⊥
+NotJoined front local limit Unbound = ⊥
+NotJoined front local limit TooManyBindings = ⊥

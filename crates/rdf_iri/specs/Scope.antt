@@ -1,7 +1,5 @@
 -- The scope at a place of a document: the base in force, or none, and the prefixes that are bound, with their IRIs.
-use Rattle.std.specs.Prelude.{◌≡◌, ℕ, ◌+◌, ◌*◌, ◌<◌, ◌≤◌, cond, List, [], ◌∷◌, ◌++◌, length, Option, Some, None, MatchOption, is_some, String, ⊤}
-use Rattle.std.specs.String.{string_bytes}
-use Rattle.std.specs.Str.{chars}
+use Rattle.std.specs.Prelude.{◌≡◌, ℕ, ◌+◌, ◌*◌, ◌<◌, ◌≤◌, cond, List, [], ◌∷◌, ◌++◌, length, Option, Some, None, MatchOption, is_some, ⊤}
 use Rattle.std.specs.List.{sum_by}
 use Rattle.rdf_iri.specs.declared.fault.IriFault.{IriFault}
 use Rattle.rdf_iri.specs.declared.fault.IriFault.TheVariants.{NoBase, IriTooLong, Memory, Unbound, TooManyBindings}
@@ -15,11 +13,6 @@ pub record InForce : Type 0 where
   pub base : Option (List ℕ)
   pub bindings : List (List ℕ × List ℕ)
   pub limits : Sizes
-
--- the prefixes and IRIs of a map, in its order
-abbrev pub entries_of : {Z : Type 0} → List (String Z × List ℕ) → List (List ℕ × List ℕ)
-entries_of [] = []
-entries_of (e ∷ es) = (chars (string_bytes e.0), e.1) ∷ entries_of es
 
 -- the IRI that a prefix is bound to
 abbrev pub bound_to : List (List ℕ × List ℕ) → List ℕ → Option (List ℕ)
@@ -104,11 +97,3 @@ NotExpanded s prefix local IriTooLong = (iri : List ℕ) × Expands s prefix loc
 NotExpanded s prefix local Memory = (iri : List ℕ) × ExpandsHere s prefix local iri
 NotExpanded s prefix local NoBase = ⊥
 NotExpanded s prefix local TooManyBindings = ⊥
-
--- why two texts were not joined
-abbrev pub NotJoined : List ℕ → List ℕ → ℕ → IriFault → Type 0
-NotJoined front local limit IriTooLong = limit < byte_len (front ++ local)
-NotJoined front local limit Memory = byte_len (front ++ local) ≤ limit
-NotJoined front local limit NoBase = ⊥
-NotJoined front local limit Unbound = ⊥
-NotJoined front local limit TooManyBindings = ⊥

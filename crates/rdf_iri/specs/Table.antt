@@ -2,8 +2,8 @@
 use Rattle.std.specs.Prelude.{◌≡◌, ℕ, ◌+◌, ◌*◌, ◌/◌, ◌%◌, ◌<◌, ◌≤◌, List, [], ◌∷◌, length, get_or, slice_index, String, None}
 use Rattle.std.specs.String.{string_bytes}
 use Rattle.std.specs.Str.{chars}
-use Rattle.rdf_iri.specs.Scope.{bound_to, entries_of}
-use Rattle.rdf_iri.specs.Prefixes.{KeptApart}
+use Rattle.rdf_iri.specs.Scope.{bound_to}
+use Rattle.rdf_iri.specs.Prefixes.{entries_of, KeptApart}
 
 -- the hash of bytes, after others with this one
 abbrev pub hash_of : ℕ → List ℕ → ℕ

@@ -6,7 +6,8 @@ ghost use Rattle.std.specs.List.{sum_by};
 ghost use Rattle.std.specs.Str.{chars, bytes_eq};
 ghost use Rattle.rdf_iri.specs.Texts.{byte_len};
 ghost use Rattle.rdf_iri.specs.Seen.{text_of};
-ghost use Rattle.rdf_iri.specs.Scope.{bound_to, binding_bytes, entries_of};
+ghost use Rattle.rdf_iri.specs.Scope.{bound_to, binding_bytes};
+ghost use Rattle.rdf_iri.specs.Prefixes.{entries_of};
 ghost use Rattle.rdf_iri.specs.Prefixes.{KeptApart, StandsAt, Sets, entry_bytes};
 ghost use Rattle.rdf_iri.specs.Table.{HaveSlots};
 
@@ -32,7 +33,7 @@ pub(crate) struct Prefixes<A: Allocator = Global> {
 
 impl<A: Allocator> Model for Prefixes<A> {
     ghost use Rattle.std.specs.Prelude.{ℕ, List, ◌++◌};
-    ghost use Rattle.rdf_iri.specs.Scope.{entries_of};
+    ghost use Rattle.rdf_iri.specs.Prefixes.{entries_of};
     ghost use Rattle.rdf_iri.specs.Table.{Kept};
 
     ghost Value = { List (List ℕ × List ℕ) };

@@ -9,7 +9,8 @@ ghost use Rattle.rdf_terms.specs.Terms.{IsIri};
 ghost use Rattle.rdf_iri.specs.Texts.{IsIriText, byte_len};
 ghost use Rattle.rdf_iri.specs.Seen.{text_of};
 ghost use Rattle.rdf_iri.specs.Scope.{BaseFits, bound_to, ResolvesHere, UnresolvedHere, IsBased, IsBound, NotBound};
-ghost use Rattle.rdf_iri.specs.Scope.{HasRoom, IsFull, ExpandsHere, NotExpanded, NotJoined, base_bytes, bytes_held};
+ghost use Rattle.rdf_iri.specs.Scope.{HasRoom, IsFull, ExpandsHere, NotExpanded, base_bytes, bytes_held};
+ghost use Rattle.rdf_iri.specs.Prefixes.{NotJoined};
 ghost use Rattle.rdf_iri.specs.Scope.{most_bytes_held};
 
 use crate::base::Base;

@@ -4,7 +4,8 @@ ghost use Rattle.std.specs.Prelude.{◌≡◌, ◌≤◌, ◌<◌, ◌+◌, ◌*
 ghost use Rattle.std.specs.Prelude.{IfOk, IfSome, length, slice_index, ⊤};
 ghost use Rattle.std.specs.Option.{is_some};
 ghost use Rattle.std.specs.Str.{chars};
-ghost use Rattle.rdf_iri.specs.Scope.{bound_to, entries_of};
+ghost use Rattle.rdf_iri.specs.Scope.{bound_to};
+ghost use Rattle.rdf_iri.specs.Prefixes.{entries_of};
 ghost use Rattle.rdf_iri.specs.Table.{hash_of, first_slot, mark_of, Names, HasSlot, IsKeyAt, KeepsSlots, IsNext};
 ghost use Rattle.rdf_iri.specs.Table.{IsFree};
 

@@ -1,6 +1,6 @@
 -- What a run is asked for.
 use Rattle.std.specs.Prelude.{ℕ, List, [], Option, None, Some}
-use Rattle.rdf_iri.specs.Limits.{Sizes, default_sizes}
+use Rattle.rdf_iri.specs.Limits.{Sizes}
 use Rattle.rdf_lines.specs.declared.form.Escapes.{Escapes}
 use Rattle.rdf_lines.specs.declared.form.Escapes.TheVariants.{Plain}
 use Rattle.rdf_stream.specs.declared.form.Form.{Form}
@@ -20,7 +20,3 @@ pub record JobRead : Type 0 where
 abbrev pub word_of : Option (List ℕ) → List ℕ
 word_of None = []
 word_of (Some w) = w
-
--- without a base and bindings, in plain lines without a word and a graph, and with the default limits
-abbrev pub job_of : Form → JobRead
-job_of form = record { form = form; base = None; bindings = []; escapes = Plain; node_prefix = []; graph = None; limits = default_sizes }

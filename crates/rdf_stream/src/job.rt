@@ -36,7 +36,7 @@ pub struct Job<A: Allocator = Global> {
 impl<A: Allocator> Model for Job<A> {
     ghost use Rattle.std.specs.Prelude.{◌≡◌, IfSome};
     ghost use Rattle.rdf_iri.specs.Scope.{BaseFits};
-    ghost use Rattle.rdf_trig.specs.Language.{handed_in};
+    ghost use Rattle.rdf_trig.specs.Accepting.{handed_in};
     ghost use Rattle.rdf_stream.specs.Jobs.{JobRead, word_of};
 
     ghost Value = { JobRead };

@@ -1,5 +1,5 @@
 -- Turtle and TriG as a grammar that a reader drives.
-use Rattle.std.specs.Prelude.{◌≡◌, ℕ, ◌+◌, ◌≤◌, List, false, length}
+use Rattle.std.specs.Prelude.{◌≡◌, ℕ, ◌+◌, ◌≤◌, List, [], Option, Some, None, false, length}
 use Rattle.rdf_terms.specs.declared.kind.Dialect.TheVariants.{Turtle as turtle}
 use Rattle.rdf_terms.specs.declared.reason.Reason.{Reason}
 use Rattle.rdf_terms.specs.declared.reason.Reason.TheVariants as reason
@@ -7,6 +7,7 @@ use Rattle.rdf_terms.specs.Terms.{Quad}
 use Rattle.rdf_tokens.specs.Good.{tokens_of}
 use Rattle.rdf_tokens.specs.Scans.{unread_bytes}
 use Rattle.rdf_tokens.specs.Laws.{open_bytes}
+use Rattle.rdf_iri.specs.Bindings.{BindingMap}
 use Rattle.rdf_iri.specs.Scope.{bytes_held}
 use Rattle.rdf_driver.specs.Words.{Words}
 use Rattle.rdf_driver.specs.Readers.{Driven, HasRead}
@@ -19,6 +20,11 @@ use Rattle.rdf_trig.specs.Alike.{RunsTo}
 use Rattle.rdf_trig.specs.Owed.{Owed, OwedInAll, most_kept}
 use Rattle.rdf_trig.specs.Language.{Chosen}
 use Rattle.rdf_trig.specs.Refusals.{Blamed}
+
+-- the bindings before the first token: those that are handed in, or none
+abbrev pub handed_in : Option BindingMap → List (List ℕ × List ℕ)
+handed_in None = []
+handed_in (Some b) = b.bindings
 
 -- what accepts the tokens of Turtle or TriG: the form, the most characters of a token, and what has been read
 pub record TreeAt : Type 0 where

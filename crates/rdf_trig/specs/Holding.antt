@@ -1,17 +1,43 @@
--- The bounds of the texts of a state of the reader's code, which each step keeps.
+-- The bytes of the texts of a state of the reader's code, field by field, and their bounds, which each step keeps.
 use Rattle.std.specs.Prelude.{◌≡◌, ℕ, ◌+◌, ◌-◌, ◌*◌, ◌≤◌, List, length, max, Option, Some, None, ⊤}
 use Rattle.std.specs.String.{string_bytes}
-use Rattle.std.specs.List.{AllByRecursion}
+use Rattle.std.specs.List.{AllByRecursion, sum_by}
 use Rattle.rdf_terms.specs.declared.kind.Kind.{Kind}
 use Rattle.rdf_terms.specs.declared.kind.Kind.TheVariants.{OpenBracket, CloseBracket, OpenParen, CloseParen}
 use Rattle.rdf_tokens.specs.declared.token.Token.{Token as Given}
 use Rattle.rdf_iri.specs.Texts.{byte_len}
 use Rattle.rdf_iri.specs.Limits.{Sizes}
+use Rattle.rdf_iri.specs.Scope.{InForce, bytes_held}
+use Rattle.rdf_trig.specs.declared.spares.Spares.{Spares}
 use Rattle.rdf_trig.specs.declared.state.Frame.{Frame}
 use Rattle.rdf_trig.specs.declared.state.State.{State}
 use Rattle.rdf_trig.specs.Owed.{iri_size}
-use Rattle.rdf_trig.specs.Texts.{spare_bytes}
 use Rattle.rdf_trig.specs.States.{leaf}
+
+-- the bytes of the texts of a frame: of its subject and its verb
+abbrev pub frame_bytes : {A : Type 0} → Frame A → ℕ
+frame_bytes f = f.subject.size + iri_size f.verb
+
+-- those of the frames that are kept for brackets that open
+abbrev pub spare_bytes : {A : Type 0} → Spares A → ℕ
+spare_bytes s = sum_by frame_bytes s.frames.items
+
+-- those of a state: of the graph, the object, a lexical form or prefix with its datatype and its tag, the last token's IRI, and of all frames
+abbrev pub state_bytes : {A : Type 0} → State A → ℕ
+state_bytes r =
+    r.graph.size
+    + r.object.size
+    + length (string_bytes r.text)
+    + iri_size r.datatype
+    + iri_size r.tag
+    + iri_size r.name
+    + frame_bytes r.frame
+    + sum_by frame_bytes r.frames.items
+    + spare_bytes r.spares
+
+-- those of a grammar, by its state and its scope, which has the base, and each bound prefix with its IRI
+abbrev pub grammar_bytes : {A : Type 0} → State A → InForce → ℕ
+grammar_bytes r s = state_bytes r + bytes_held s
 
 -- the bytes of a state's text
 abbrev pub text_bytes : {A : Type 0} → State A → ℕ

@@ -1,9 +1,8 @@
 -- Turtle and TriG as languages.
 use Rattle.rdf_terms.specs.declared.kind.Dialect.TheVariants.{Turtle as turtle}
-use Rattle.std.specs.Prelude.{ℕ, List, [], Option, Some, None}
+use Rattle.std.specs.Prelude.{ℕ, List, [], Option}
 use Rattle.rdf_tokens.specs.Grammars.{Language}
 use Rattle.rdf_iri.specs.Limits.{Sizes}
-use Rattle.rdf_iri.specs.Bindings.{BindingMap}
 use Rattle.rdf_iri.specs.Scope.{InForce}
 use Rattle.rdf_trig.specs.declared.form.DocForm.{DocForm}
 use Rattle.rdf_trig.specs.Documents.{documents, Passes}
@@ -17,11 +16,6 @@ pub record Chosen : Type 0 where
 -- this form, from a scope with this base or none and no prefix bound, within these limits
 abbrev pub chosen_alone : DocForm → Option (List ℕ) → Sizes → Chosen
 chosen_alone form base limits = record { form = form; start = record { base = base; bindings = []; limits = limits } }
-
--- the bindings before the first token: those that are handed in, or none
-abbrev pub handed_in : Option BindingMap → List (List ℕ × List ℕ)
-handed_in None = []
-handed_in (Some b) = b.bindings
 
 -- A form as a language, from this scope on, by the limits of it.
 abbrev pub language : DocForm → InForce → Language

@@ -8,7 +8,7 @@ ghost use Rattle.rdf_tokens.specs.Scans.{KnowsItsColon};
 ghost use Rattle.rdf_trig.specs.declared.form.DocForm.{DocForm};
 ghost use Rattle.rdf_trig.specs.Machine as M;
 ghost use Rattle.rdf_trig.specs.States.{leaf, IsTurtleToken, mode_in, DepthMoves};
-ghost use Rattle.rdf_trig.specs.Texts.{state_bytes};
+ghost use Rattle.rdf_trig.specs.Holding.{state_bytes};
 ghost use Rattle.rdf_trig.specs.Turns.{Suits, SuitsIn, IsTurn, KeepsFrames, Takes, TakesFit, FramesTaken};
 ghost use Rattle.rdf_trig.specs.Steps.{state_of, MayAll, DepthMay, Keeps, AcceptsAll, Counts, FailsAll, RefusedWithin};
 

@@ -34,7 +34,7 @@ impl<A: Allocator> Model for TreeGrammar<A> {
     ghost use Rattle.std.specs.Prelude.{◌≡◌};
     ghost use Rattle.rdf_trig.specs.Accepting.{TreeAt};
     ghost use Rattle.rdf_trig.specs.Steps.{state_of, Keeps};
-    ghost use Rattle.rdf_trig.specs.Texts.{grammar_bytes};
+    ghost use Rattle.rdf_trig.specs.Holding.{grammar_bytes};
     ghost use Rattle.rdf_trig.specs.Coded.{up_code, around_code, place_code};
     ghost use Rattle.std.specs.Coded.{codes};
 

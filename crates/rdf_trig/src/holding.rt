@@ -2,7 +2,7 @@
 
 ghost use Rattle.std.specs.Prelude.{◌≡◌, ◌<◌, ◌^◌};
 ghost use Rattle.std.specs.List.{sum_by};
-ghost use Rattle.rdf_trig.specs.Texts.{frame_bytes, state_bytes};
+ghost use Rattle.rdf_trig.specs.Holding.{frame_bytes, state_bytes};
 
 use crate::state::{Frame, State};
 use std::alloc::Allocator;

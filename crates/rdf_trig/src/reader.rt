@@ -36,7 +36,8 @@ pub struct Options<A: Allocator = Global> {
 impl<A: Allocator> Model for Options<A> {
     ghost use Rattle.std.specs.Prelude.{◌≡◌, IfSome};
     ghost use Rattle.rdf_iri.specs.Scope.{BaseFits};
-    ghost use Rattle.rdf_trig.specs.Language.{Chosen, handed_in};
+    ghost use Rattle.rdf_trig.specs.Language.{Chosen};
+    ghost use Rattle.rdf_trig.specs.Accepting.{handed_in};
 
     ghost Value = { Chosen };
 

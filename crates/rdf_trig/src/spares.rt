@@ -1,7 +1,7 @@
 // Frames that are used again: a bracket that opens takes over the buffers of one that has ended.
 
 ghost use Rattle.std.specs.Prelude.{◌≡◌, ◌+◌, ◌<◌, ◌^◌, IfOk};
-ghost use Rattle.rdf_trig.specs.Texts.{frame_bytes, spare_bytes};
+ghost use Rattle.rdf_trig.specs.Holding.{frame_bytes, spare_bytes};
 
 use crate::holding::frames_len;
 use crate::state::{Container, Frame};

@@ -2,7 +2,7 @@
 
 ghost use Rattle.std.specs.Prelude.{◌≡◌};
 ghost use Rattle.rdf_trig.specs.States.{first_of, cell_of};
-ghost use Rattle.rdf_trig.specs.Texts.{frame_bytes};
+ghost use Rattle.rdf_trig.specs.Holding.{frame_bytes};
 
 use crate::names::Name;
 use crate::rest::Rest;

@@ -31,8 +31,7 @@ use Rattle.rdf_trig.specs.Machine.{Topic}
 use Rattle.rdf_trig.specs.Slots.{topic_at}
 use Rattle.rdf_trig.specs.declared.slots.SubjectKind.{SubjectKind}
 use Rattle.rdf_trig.specs.declared.slots.SubjectKind.TheVariants as kind
-use Rattle.rdf_trig.specs.Texts.{frame_bytes, state_bytes}
-use Rattle.rdf_trig.specs.Holding.{most_text, TextFits, NameFits, FrameFits, Fits}
+use Rattle.rdf_trig.specs.Holding.{frame_bytes, state_bytes, most_text, TextFits, NameFits, FrameFits, Fits}
 use Rattle.rdf_trig.proofs.code.AnswersOfSteps.{bytes_at_most}
 
 -- a text of no more characters than another has at most four bytes for each of the other's

@@ -17,7 +17,7 @@ use Rattle.rdf_trig.specs.Machine as M
 use Rattle.rdf_trig.specs.Machine.{place_size, up_size, mode_size}
 use Rattle.rdf_trig.specs.States.{level_of, place_at, place_of, up_from, up_in, text_in, outer_of, after_semicolon_at, mode_at, mode_in}
 use Rattle.rdf_trig.specs.Owed.{iri_size}
-use Rattle.rdf_trig.specs.Texts.{frame_bytes, state_bytes}
+use Rattle.rdf_trig.specs.Holding.{frame_bytes, state_bytes}
 
 -- what is open holds what its place has beside what stands round it
 list_within : (v : M.Level) (o : Container) (s : M.Topic) (p : Option (List ℕ)) (u : M.Up) → place_size (place_at v o s p u) ≤ up_size u + (s.size + iri_size p)

@@ -3,8 +3,8 @@ use Rattle.std.proofs.Common.{◌≡◌, ◌+◌, ◌≤◌, ◌*◌, ◌∙◌,
 use Rattle.std.specs.List.{sum_by}
 use Rattle.std.proofs.lemmas.List.Sums.{sum_by-append}
 use Rattle.rdf_iri.specs.Texts.{byte_len}
-use Rattle.rdf_iri.specs.Scope.{bound_to, entries_of, binding_bytes}
-use Rattle.rdf_iri.specs.Prefixes.{entry_bytes}
+use Rattle.rdf_iri.specs.Scope.{bound_to, binding_bytes}
+use Rattle.rdf_iri.specs.Prefixes.{entries_of, entry_bytes}
 use Rattle.rdf_iri.proofs.HeldLemmas.{sum-cons, sum-entries_of, sum_within, most_fits}
 use Rattle.rdf_iri.proofs.PrefixLemmas.{bound_to-apart, all_within, row_bound}
 use Rattle.rdf_iri.proofs.prefixes.Prefixes.held.Goals as goal

@@ -2,8 +2,8 @@
 use Rattle.std.proofs.Common.{rules, ◌≡◌, ◌∙◌, List, [], ◌∷◌, ◌++◌, ℕ, None, refl, ap, sym, subst, arith}
 use Rattle.std.proofs.Math.ListN.{set}
 use Rattle.std.specs.Str.{chars}
-use Rattle.rdf_iri.specs.Scope.{entries_of, bound_to}
-use Rattle.rdf_iri.specs.Prefixes.{KeptApart, StandsAt, Sets}
+use Rattle.rdf_iri.specs.Scope.{bound_to}
+use Rattle.rdf_iri.specs.Prefixes.{entries_of, KeptApart, StandsAt, Sets}
 use Rattle.rdf_iri.specs.Table.{HaveSlots, Kept, IsNext}
 use Rattle.rdf_iri.proofs.ScopeLemmas.{Sets-inserted}
 use Rattle.rdf_iri.proofs.PrefixLemmas.{place_within, key_there, entries_of-anew, entries_of-append, Sets-after, Sets-anew, Sets-pushed, KeptApart-anew, KeptApart-pushed, KeptApart-others}

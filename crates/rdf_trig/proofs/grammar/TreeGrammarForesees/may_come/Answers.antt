@@ -2,7 +2,7 @@ use Rattle.std.proofs.Common.{subst}
 use Rattle.rdf_driver.specs.Words.{KnowsNext}
 use Rattle.rdf_trig.specs.Documents.{trees}
 use Rattle.rdf_trig.specs.Steps.{state_of}
-use Rattle.rdf_trig.specs.Texts.{grammar_bytes}
+use Rattle.rdf_trig.specs.Holding.{grammar_bytes}
 use Rattle.rdf_trig.specs.Accepting.{TreeAt, tree_words}
 use Rattle.rdf_trig.proofs.code.NextKinds.{knows_next}
 use Rattle.rdf_trig.proofs.grammar.TreeGrammarForesees.may_come.Goals as goal
