@@ -172,6 +172,7 @@ def contracts(path):
                 is_trait = False
         is_public = (is_trait and owner in names) or (head[2] == 'fn' and head[1] == 'pub ' and (
             is_open or head[3] in names or (block[:1].isspace() and owner in names)))
+        is_public = is_public or (head[2] == 'impl' and bool(re.search(r'\bDefault for \w', block)) and owner in names)
         clauses = ' '.join(re.findall(r'(?:requires|ensures|ghost)\b[^{]*\{(.*?)\}(?=\s*(?:\n|;|$|requires|ensures))', block, re.S))
         cited = {meant(scope, it) for it in WORD.findall(clauses)} - {None}
         yield head[3], is_public, cited
@@ -182,7 +183,7 @@ def cited_by(wanted=None):
     found = set()
     for path in glob.glob(os.path.join(TOP, 'crates', 'rdf_*', 'src', '**', '*.rt'), recursive=True):
         crate = path.split(os.sep + 'crates' + os.sep)[1].split(os.sep)[0]
-        if crate == 'rdf_tests' or (wanted and crate != 'rdf_stream'):
+        if crate.endswith('_tests') or (wanted and crate != 'rdf_stream'):
             continue
         for name, is_public, cited in contracts(path):
             if is_public and wanted in (None, name):

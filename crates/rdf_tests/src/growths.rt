@@ -1,10 +1,9 @@
 // How often the readers grow their buffers over lines that are alike.
 
-use crate::reading::{Document, Form, Piece, read};
-use crate::sinks::CountingSink;
 use rdf_iri::Limits;
 use rdf_lines::LineForm;
 use rdf_trig::DocForm;
+use read_pieces::{CountingSink, Document, Form, Piece, read};
 use refusing_alloc::Refusing;
 use std::alloc::{Allocator, Global};
 

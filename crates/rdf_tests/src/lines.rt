@@ -2,11 +2,10 @@
 
 ghost use Rattle.std.specs.Prelude.{◌≡◌, ◌≤◌, false, length};
 
-use crate::reading::{Document, Form, Piece, Report, read};
-use crate::sinks::{RecordingSink, recording_sink};
 use rdf_iri::Limits;
 use rdf_lines::LineForm;
 use rdf_terms::Reason;
+use read_pieces::{Document, Form, Piece, RecordingSink, Report, read, recording_sink};
 use std::alloc::Global;
 
 /// How many quads, tokens and bytes a document has, or why it is refused, at which byte and line.

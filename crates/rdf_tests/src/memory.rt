@@ -2,8 +2,6 @@
 
 ghost use Rattle.std.specs.Prelude.{◌≡◌, ◌≤◌};
 
-use crate::reading::{Form, Report, read_pieces};
-use crate::sinks::put_copy;
 use rdf_driver::Fault;
 use rdf_iri::{BindingFault, BindingReason, IriFault, Limits, Scope, read_bindings, resolve};
 use rdf_lines::{
@@ -16,6 +14,7 @@ use rdf_terms::{
 };
 use rdf_tokens::{Dialect, Scanner};
 use rdf_trig::{DocForm, Options, read_document};
+use read_pieces::{Form, Report, put_copy, read_pieces};
 use refusing_alloc::Refusing;
 use std::alloc::{AllocError, Allocator, Global};
 

@@ -1,10 +1,9 @@
 // Documents whose sink fails at one of its puts.
 
-use crate::reading::{Form, Report, read_pieces};
-use crate::sinks::{RecordingSink, recording_sink};
 use rdf_lines::LineForm;
 use rdf_terms::Reason;
 use rdf_trig::DocForm;
+use read_pieces::{Form, RecordingSink, Report, read_pieces, recording_sink};
 use std::alloc::Global;
 
 /// What reading a document comes to, if the next call reports that reading has ended.

@@ -1,7 +1,7 @@
 // Outside values: the examples of the Recommendations, and characters at the ends of their classes.
 
-use crate::sinks::{has_lines, put_copy};
 use rdf_terms::*;
+use read_pieces::{has_lines, put_copy};
 use std::alloc::Global;
 
 /// The classes of characters.

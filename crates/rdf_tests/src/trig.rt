@@ -1,4 +1,4 @@
 // Readers of Turtle and TriG.
 
-mod documents;
 mod sizes;
+mod steps;

@@ -3,6 +3,7 @@
 ghost use Rattle.std.specs.Prelude.{◌≡◌, ◌≢◌};
 ghost use Rattle.rdf_iri.specs.Limits.{Sizes};
 ghost use Rattle.rdf_iri.specs.Scope.{bytes_held};
+ghost use Rattle.rdf_driver.specs.Words.{KnowsNext};
 ghost use Rattle.rdf_trig.specs.declared.form.DocForm.{DocForm};
 ghost use Rattle.rdf_trig.specs.Documents.{trees};
 ghost use Rattle.rdf_trig.specs.Machine as M;
@@ -14,6 +15,7 @@ use crate::form::DocForm;
 use crate::reader::Options;
 use crate::rules::Rules;
 use crate::state::State;
+use crate::step::Step;
 use rdf_driver::{Foresees, Grammar, Hint, Holds, QuadGrammar, QuadItem};
 use rdf_iri::Scope;
 use rdf_terms::{Dialect, Kind, QuadSink, Reason};
@@ -68,6 +70,14 @@ impl<A: Allocator + Copy> TreeGrammar<A> {
             scope: options.start(alloc),
             state: State::new(alloc),
         }
+    }
+
+    /// Where the grammar stands, and what a token of this kind does there, to be printed with `{:?}`. It takes no
+    /// memory.
+    pub fn step(&self, kind: Kind) -> Step
+        ensures exact { KnowsNext tree_words (λ x. trees x.form x.start) self.now kind result }
+    {
+        self.state.step(self.rules.form, kind)
     }
 }
 

@@ -12,7 +12,7 @@ use rdf_terms::Known;
 use std::alloc::{Allocator, Global};
 
 /// The graph of a block.
-#[derive(Clone, Copy)]
+#[derive(Clone, Copy, Debug)]
 pub enum Block {
     /// The default graph.
     Default,
@@ -21,7 +21,7 @@ pub enum Block {
 }
 
 /// Where a statement stands.
-#[derive(Clone, Copy)]
+#[derive(Clone, Copy, Debug)]
 pub enum Level {
     /// Outside of a block.
     Top,
@@ -30,7 +30,7 @@ pub enum Level {
 }
 
 /// What a predicate list stands in.
-#[derive(Clone, Copy)]
+#[derive(Clone, Copy, Debug)]
 pub enum Around {
     /// It is that of a statement.
     Statement,
@@ -57,7 +57,7 @@ pub struct Frame<A: Allocator = Global> {
 }
 
 /// How a directive is spelled.
-#[derive(Clone, Copy)]
+#[derive(Clone, Copy, Debug)]
 pub enum Spelling {
     /// With `@`, and a dot at its end.
     Dotted,
@@ -66,7 +66,7 @@ pub enum Spelling {
 }
 
 /// Where the reader stands outside of statements.
-#[derive(Clone, Copy)]
+#[derive(Clone, Copy, Debug)]
 pub enum Outer {
     /// Between statements, outside of a block.
     Start,
@@ -87,7 +87,7 @@ pub enum Outer {
 
 /// Where the reader stands. The texts that belong to it are in the state: the subject that has come is that of the
 /// frame in hand, a string is the state's text.
-#[derive(Clone, Copy)]
+#[derive(Clone, Copy, Debug)]
 pub enum Mode {
     Outer(Outer),
     /// After a subject; outside of a block it may be a graph's label in TriG.
@@ -107,7 +107,7 @@ pub enum Mode {
 }
 
 /// The quad whose head ended with the last token.
-#[derive(Clone, Copy)]
+#[derive(Clone, Copy, Debug)]
 pub enum Held {
     Nothing,
     /// That of the object, an IRI or a blank node, where the mode says.

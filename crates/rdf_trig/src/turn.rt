@@ -4,7 +4,7 @@ use crate::state::{Around, Level, Outer, Spelling};
 use rdf_terms::Known;
 
 /// How a subject begins.
-#[derive(Clone, Copy)]
+#[derive(Clone, Copy, Debug)]
 pub enum SubjectStart {
     /// An IRI, as a reference or a name.
     Name,
@@ -15,7 +15,7 @@ pub enum SubjectStart {
 }
 
 /// What a verb is.
-#[derive(Clone, Copy)]
+#[derive(Clone, Copy, Debug)]
 pub enum Verb {
     /// An IRI, as a reference or a name.
     Name,
@@ -24,7 +24,7 @@ pub enum Verb {
 }
 
 /// How an object begins.
-#[derive(Clone, Copy)]
+#[derive(Clone, Copy, Debug)]
 pub enum ObjectStart {
     /// An IRI, as a reference or a name.
     Name,
@@ -41,7 +41,7 @@ pub enum ObjectStart {
 }
 
 /// What a token does. It has nothing that the state has, as the offset of a bracket that has come.
-#[derive(Clone, Copy)]
+#[derive(Clone, Copy, Debug)]
 pub enum Turn {
     /// It leads outside of statements, to a mode whose texts are there: of a directive all but its prefix, GRAPH,
     /// what opens and closes a block, the end of a statement, the end of the document.

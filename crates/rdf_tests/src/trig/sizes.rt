@@ -1,11 +1,10 @@
 // Brackets in their tens of thousands, piece by piece, and how much is held.
 
-use crate::reading::{Document, Form, Piece, Report, read};
-use crate::sinks::CountingSink;
 use rdf_driver::{Fault, Summary};
 use rdf_iri::Limits;
 use rdf_terms::Reason;
 use rdf_trig::DocForm;
+use read_pieces::{CountingSink, Document, Form, Piece, Report, read};
 use std::alloc::Global;
 
 /// Documents with nested brackets: how many may be open; what opens some and what closes them, and how often each

@@ -1,0 +1,5 @@
+//! The tests of the command line, over a host in memory.
+#![tactic(auto)]
+
+#[cfg(test)]
+mod command;
