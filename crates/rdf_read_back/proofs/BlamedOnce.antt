@@ -3,7 +3,7 @@ use Rattle.std.proofs.Common.{◌≡◌, ◌⊎◌, inl, inr, false, List, [], �
 use Rattle.rdf_terms.specs.declared.kind.Kind.{Kind}
 use Rattle.rdf_terms.specs.declared.kind.Kind.TheVariants.{IriRef, PnameNs, PnameLn, OpenBracket, OpenParen}
 use Rattle.rdf_terms.specs.declared.reason.Reason.{Reason}
-use Rattle.rdf_terms.specs.declared.reason.Reason.TheVariants as reason
+use Rattle.rdf_terms.specs.declared.reason.Reason.TheVariants.{Unexpected, TooDeep, Unbound, NoBase, IriTooLong, TooManyBindings}
 use Rattle.rdf_tokens.specs.Tokens.{Token}
 use Rattle.rdf_tokens.specs.Grammars.{Shaped, Viable}
 use Rattle.rdf_tokens.specs.Leaves.{Leaf, leaf_of}
@@ -14,7 +14,6 @@ use Rattle.rdf_trig.specs.Events.{Use, document_events, event_quads, itself, tok
 use Rattle.rdf_trig.specs.Refusals.{Blamed}
 use Rattle.rdf_trig.specs.Machine.{Reply, No, Go, Start, depth, step}
 use Rattle.rdf_trig.specs.Quads.{in_default}
-use Rattle.rdf_trig.specs.Refused.{Refusal, reported, RefusedFor, unexpected, too_deep, unbound, no_base, iri_too_long, too_many_bindings}
 use Rattle.rdf_trig.proofs.machine.DepthAndSense.{Facts, IsUse, step_facts}
 use Rattle.rdf_trig.proofs.machine.ViableTokens.{Stand, any_passing, begins_reached, on_reply, reach, reach-snoc, stand, step_on, and_on}
 use Rattle.rdf_trig.proofs.trees.BoundNames.{settled}
@@ -77,56 +76,48 @@ module _ (form : DocForm) (start : InForce) (ahead : List Token) (t : Token) whe
   long_apart : (u v : Use) → StandsFor form start ahead t u → StandsFor form start ahead t v → IsLong start.limits u → (IsLong start.limits v → ⊥) → ⊥
   long_apart u v x y l n = n (subst (IsLong start.limits) (settled form start ahead t u v x.place y.place) l)
 
-  one : (x y : Refusal) → RefusedFor form start ahead t x → RefusedFor form start ahead t y → x ≡ y
-  one unexpected unexpected h k = refl
-  one unexpected unbound h k = absurd (h k.0.shaped)
-  one unexpected no_base h k = absurd (h k.0.shaped)
-  one unexpected too_deep h k = absurd (h (stands_shaped k.0 k.1))
-  one unexpected iri_too_long h k = absurd (h (stands_shaped k.0 k.1))
-  one unexpected too_many_bindings h k = absurd (h (stands_shaped k.0 k.1))
-  one unbound unexpected h k = absurd (k h.0.shaped)
-  one unbound unbound h k = refl
-  one unbound no_base h k = absurd (no_reference h.1.0 k.1.0)
-  one unbound too_deep h k = absurd (h.0.excluded (stands_viable k.0 k.1))
-  one unbound iri_too_long h k = absurd (h.0.excluded (stands_viable k.0 k.1))
-  one unbound too_many_bindings h k = absurd (h.0.excluded (stands_viable k.0 k.1))
-  one no_base unexpected h k = absurd (k h.0.shaped)
-  one no_base unbound h k = absurd (no_reference k.1.0 h.1.0)
-  one no_base no_base h k = refl
-  one no_base too_deep h k = absurd (h.0.excluded (stands_viable k.0 k.1))
-  one no_base iri_too_long h k = absurd (h.0.excluded (stands_viable k.0 k.1))
-  one no_base too_many_bindings h k = absurd (h.0.excluded (stands_viable k.0 k.1))
-  one too_deep unexpected h k = absurd (k (stands_shaped h.0 h.1))
-  one too_deep unbound h k = absurd (k.0.excluded (stands_viable h.0 h.1))
-  one too_deep no_base h k = absurd (k.0.excluded (stands_viable h.0 h.1))
-  one too_deep too_deep h k = refl
-  one too_deep iri_too_long h k = absurd (deep_apart k.0 k.1 h.2 (inl k.2))
-  one too_deep too_many_bindings h k = absurd (deep_apart k.0 k.1 h.2 (inr k.2))
-  one iri_too_long unexpected h k = absurd (k (stands_shaped h.0 h.1))
-  one iri_too_long unbound h k = absurd (k.0.excluded (stands_viable h.0 h.1))
-  one iri_too_long no_base h k = absurd (k.0.excluded (stands_viable h.0 h.1))
-  one iri_too_long too_deep h k = absurd (deep_apart h.0 h.1 k.2 (inl h.2))
-  one iri_too_long iri_too_long h k = refl
-  one iri_too_long too_many_bindings h k = absurd (long_apart h.0 k.0 h.1 k.1 h.2 k.3)
-  one too_many_bindings unexpected h k = absurd (k (stands_shaped h.0 h.1))
-  one too_many_bindings unbound h k = absurd (k.0.excluded (stands_viable h.0 h.1))
-  one too_many_bindings no_base h k = absurd (k.0.excluded (stands_viable h.0 h.1))
-  one too_many_bindings too_deep h k = absurd (deep_apart h.0 h.1 k.2 (inr h.2))
-  one too_many_bindings iri_too_long h k = absurd (long_apart k.0 h.0 k.1 h.1 k.2 h.3)
-  one too_many_bindings too_many_bindings h k = refl
-
-  refusal_of : (r : Reason) → Blamed form start r ahead t → (x : Refusal) × (r ≡ reported x) × RefusedFor form start ahead t x
-  refusal_of reason.Unexpected h = (unexpected, refl, h)
-  refusal_of reason.TooDeep h = (too_deep, refl, h)
-  refusal_of reason.Unbound h = (unbound, refl, h)
-  refusal_of reason.NoBase h = (no_base, refl, h)
-  refusal_of reason.IriTooLong h = (iri_too_long, refl, h)
-  refusal_of reason.TooManyBindings h = (too_many_bindings, refl, h)
-  refusal_of r h = absurd h
-
   -- So there is one reason for it.
   pub blamed_once : (r s : Reason) → Blamed form start r ahead t → Blamed form start s ahead t → r ≡ s
-  blamed_once r s h k =
-      let (x, e, a) = refusal_of r h in
-      let (y, f, b) = refusal_of s k in
-      e ∙ (ap reported (one x y a b) ∙ sym f)
+  blamed_once Unexpected Unexpected h k = refl
+  blamed_once Unexpected Unbound h k = absurd (h k.0.shaped)
+  blamed_once Unexpected NoBase h k = absurd (h k.0.shaped)
+  blamed_once Unexpected TooDeep h k = absurd (h (stands_shaped k.0 k.1))
+  blamed_once Unexpected IriTooLong h k = absurd (h (stands_shaped k.0 k.1))
+  blamed_once Unexpected TooManyBindings h k = absurd (h (stands_shaped k.0 k.1))
+  blamed_once Unexpected s h k = absurd k
+  blamed_once Unbound Unexpected h k = absurd (k h.0.shaped)
+  blamed_once Unbound Unbound h k = refl
+  blamed_once Unbound NoBase h k = absurd (no_reference h.1.0 k.1.0)
+  blamed_once Unbound TooDeep h k = absurd (h.0.excluded (stands_viable k.0 k.1))
+  blamed_once Unbound IriTooLong h k = absurd (h.0.excluded (stands_viable k.0 k.1))
+  blamed_once Unbound TooManyBindings h k = absurd (h.0.excluded (stands_viable k.0 k.1))
+  blamed_once Unbound s h k = absurd k
+  blamed_once NoBase Unexpected h k = absurd (k h.0.shaped)
+  blamed_once NoBase Unbound h k = absurd (no_reference k.1.0 h.1.0)
+  blamed_once NoBase NoBase h k = refl
+  blamed_once NoBase TooDeep h k = absurd (h.0.excluded (stands_viable k.0 k.1))
+  blamed_once NoBase IriTooLong h k = absurd (h.0.excluded (stands_viable k.0 k.1))
+  blamed_once NoBase TooManyBindings h k = absurd (h.0.excluded (stands_viable k.0 k.1))
+  blamed_once NoBase s h k = absurd k
+  blamed_once TooDeep Unexpected h k = absurd (k (stands_shaped h.0 h.1))
+  blamed_once TooDeep Unbound h k = absurd (k.0.excluded (stands_viable h.0 h.1))
+  blamed_once TooDeep NoBase h k = absurd (k.0.excluded (stands_viable h.0 h.1))
+  blamed_once TooDeep TooDeep h k = refl
+  blamed_once TooDeep IriTooLong h k = absurd (deep_apart k.0 k.1 h.2 (inl k.2))
+  blamed_once TooDeep TooManyBindings h k = absurd (deep_apart k.0 k.1 h.2 (inr k.2))
+  blamed_once TooDeep s h k = absurd k
+  blamed_once IriTooLong Unexpected h k = absurd (k (stands_shaped h.0 h.1))
+  blamed_once IriTooLong Unbound h k = absurd (k.0.excluded (stands_viable h.0 h.1))
+  blamed_once IriTooLong NoBase h k = absurd (k.0.excluded (stands_viable h.0 h.1))
+  blamed_once IriTooLong TooDeep h k = absurd (deep_apart h.0 h.1 k.2 (inl h.2))
+  blamed_once IriTooLong IriTooLong h k = refl
+  blamed_once IriTooLong TooManyBindings h k = absurd (long_apart h.0 k.0 h.1 k.1 h.2 k.3)
+  blamed_once IriTooLong s h k = absurd k
+  blamed_once TooManyBindings Unexpected h k = absurd (k (stands_shaped h.0 h.1))
+  blamed_once TooManyBindings Unbound h k = absurd (k.0.excluded (stands_viable h.0 h.1))
+  blamed_once TooManyBindings NoBase h k = absurd (k.0.excluded (stands_viable h.0 h.1))
+  blamed_once TooManyBindings TooDeep h k = absurd (deep_apart h.0 h.1 k.2 (inr h.2))
+  blamed_once TooManyBindings IriTooLong h k = absurd (long_apart k.0 h.0 k.1 h.1 k.2 h.3)
+  blamed_once TooManyBindings TooManyBindings h k = refl
+  blamed_once TooManyBindings s h k = absurd k
+  blamed_once r s h k = absurd h

@@ -1,8 +1,6 @@
 -- Turtle and TriG as a grammar that a reader drives.
 use Rattle.std.specs.Prelude.{◌≡◌, ℕ, ◌+◌, ◌≤◌, List, [], Option, Some, None, false, length}
 use Rattle.rdf_terms.specs.declared.kind.Dialect.TheVariants.{Turtle as turtle}
-use Rattle.rdf_terms.specs.declared.reason.Reason.{Reason}
-use Rattle.rdf_terms.specs.declared.reason.Reason.TheVariants as reason
 use Rattle.rdf_terms.specs.Terms.{Quad}
 use Rattle.rdf_tokens.specs.Good.{tokens_of}
 use Rattle.rdf_tokens.specs.Scans.{unread_bytes}
@@ -12,8 +10,6 @@ use Rattle.rdf_iri.specs.Scope.{bytes_held}
 use Rattle.rdf_driver.specs.Words.{Words}
 use Rattle.rdf_driver.specs.Readers.{Driven, HasRead}
 use Rattle.rdf_trig.specs.declared.form.DocForm.{DocForm}
-use Rattle.rdf_trig.specs.declared.fault.StepFault.{StepFault}
-use Rattle.rdf_trig.specs.declared.fault.StepFault.TheVariants as fault
 use Rattle.rdf_trig.specs.Documents.{documents, Passes}
 use Rattle.rdf_trig.specs.Machine.{State, mode_size}
 use Rattle.rdf_trig.specs.Alike.{RunsTo}
@@ -68,14 +64,3 @@ HoldsAllOwed r n =
     (x : Chosen) (bytes : List ℕ) (quads : List Quad) (size : ℕ) → HasRead tree_words r x bytes quads →
     OwedInAll x.form x.start (tokens_of tree_words.dialect r.scanner.limit bytes false).tokens size →
     length (open_bytes tree_words.dialect r.scanner.limit bytes) + size ≤ n
-
--- the error of a step, as a reader reports it
-abbrev pub reason_of : StepFault → Reason
-reason_of fault.Unexpected = reason.Unexpected
-reason_of fault.TooDeep = reason.TooDeep
-reason_of fault.Unbound = reason.Unbound
-reason_of fault.NoBase = reason.NoBase
-reason_of fault.IriTooLong = reason.IriTooLong
-reason_of fault.TooManyBindings = reason.TooManyBindings
-reason_of fault.Memory = reason.Memory
-reason_of fault.Sink = reason.Sink

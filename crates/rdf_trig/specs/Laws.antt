@@ -18,7 +18,7 @@ use Rattle.rdf_trig.specs.TreeQuads.{document_quads}
 use Rattle.rdf_trig.specs.Events.{Use, tokens, event_quads, document_events, BoundFront}
 use Rattle.rdf_trig.specs.Documents.{documents, trees, InTree, Passes}
 use Rattle.rdf_trig.specs.Owed.{HasToHold, scope_size}
-use Rattle.rdf_trig.specs.Refused.{Refusal, RefusedFor}
+use Rattle.rdf_trig.specs.Refusals.{Blamed}
 use Rattle.rdf_trig.specs.Machine.{Over, State, refuses, accept, at_start, ran, accept_all}
 use Rattle.rdf_trig.specs.Language.{Chosen, language}
 use Rattle.rdf_trig.specs.Accepting.{TrigRead, tree_words}
@@ -141,14 +141,14 @@ AcceptedBeginsADocument = (form : DocForm) (start : InForce) (ts : List Token) (
     accept_all form (at_start start) ts ≡ ran s qs → Reads form start ts qs
 
 -- Each token that it refuses is refused for its reason, and what stands before it is the front of the whole.
-pub record IsRefusedAfter (form : DocForm) (start : InForce) (ts : List Token) (t : Token) (more : List Token) (x : Refusal) : Type 0 where
-  pub reason : RefusedFor form start ts t x
+pub record IsRefusedAfter (form : DocForm) (start : InForce) (ts : List Token) (t : Token) (more : List Token) (x : Reason) : Type 0 where
+  pub reason : Blamed form start x ts t
   pub front : IsFront (documents form start) (Passes form start) (ts ++ t ∷ more) ts
 
 -- So it refuses no token too early, and none for a reason that does not hold.
 abbrev pub RefusedForItsReason : Type 0
 RefusedForItsReason = (form : DocForm) (start : InForce) (ts : List Token) (t : Token) (more : List Token) (s : State) (qs : List Quad)
-    (x : Refusal) → accept_all form (at_start start) ts ≡ ran s qs →
+    (x : Reason) → accept_all form (at_start start) ts ≡ ran s qs →
     accept form s t.kind (leaf_of t) ≡ refuses x → IsRefusedAfter form start ts t more x
 
 -- What a reader has read decides tokens that are all in the front, leaves the next one open, and the quads that were put are due after them.

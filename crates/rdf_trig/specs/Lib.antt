@@ -13,7 +13,6 @@ pub mod ReadWhole
 pub mod Machine
 pub mod TreeTokens
 pub mod TreeQuads
-pub mod Refused
 pub mod Laws
 pub mod Alike
 pub mod States

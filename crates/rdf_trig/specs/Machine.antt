@@ -6,6 +6,8 @@ use Rattle.rdf_terms.specs.Terms.{Cell, Blank, Term, Quad}
 use Rattle.rdf_terms.specs.Terms as term
 use Rattle.rdf_terms.specs.Known.{known_chars}
 use Rattle.rdf_terms.specs.declared.constants.Known.TheVariants.{RdfType, RdfFirst, RdfNil, XsdInteger, XsdDecimal, XsdDouble, XsdBoolean}
+use Rattle.rdf_terms.specs.declared.reason.Reason.{Reason}
+use Rattle.rdf_terms.specs.declared.reason.Reason.TheVariants.{Unexpected, TooDeep, Unbound, NoBase, IriTooLong, TooManyBindings}
 use Rattle.rdf_tokens.specs.Tokens.{Token}
 use Rattle.rdf_iri.specs.Limits.{Sizes}
 use Rattle.rdf_iri.specs.Texts.{byte_len}
@@ -16,7 +18,6 @@ use Rattle.rdf_trig.specs.declared.form.DocForm.TheVariants.{Turtle, TriG}
 use Rattle.rdf_trig.specs.Trees.{Verb}
 use Rattle.rdf_trig.specs.Names.{prefix_of, reference_in, name_in, with_base, with_binding, is_full}
 use Rattle.rdf_trig.specs.Quads.{Setting, in_default, in_graph, verb_of, stated, named, node, resource, anon_at, labelled, short_value, long_value, tag_of, plain_literal, tagged_literal, typed_literal, cell_at, rest_quad}
-pub use Rattle.rdf_trig.specs.Refused.{Refusal, unexpected, too_deep, unbound, no_base, iri_too_long, too_many_bindings}
 use Rattle.rdf_trig.specs.Owed.{iri_size, term_size, verb_size}
 use Rattle.rdf_trig.specs.Events.{Use, itself, stands, binds, Event, Took, give}
 
@@ -476,15 +477,15 @@ pub record State : Type 0 where
   pub mode : Mode
   pub held : List Quad
 
--- what a token does: it is refused; or accepted, with the quads that are given out
+-- what a token does: it is refused, for a reason; or accepted, with the quads that are given out
 pub data Answer : Type 0 where
-  refuses : Refusal → Answer
+  refuses : Reason → Answer
   accepts : List Quad → State → Answer
 
 -- an IRIREF has no IRI where it needs a base; a prefixed name where its prefix is not bound
-abbrev pub unnamed : Kind → Refusal
-unnamed IriRef = no_base
-unnamed k = unbound
+abbrev pub unnamed : Kind → Reason
+unnamed IriRef = NoBase
+unnamed k = Unbound
 
 -- an IRI has more bytes than the limit
 abbrev pub too_long : Sizes → List ℕ → Bool
@@ -494,9 +495,9 @@ too_long sizes i = nat_lt sizes.iri (byte_len i)
 abbrev pub by_use : Sizes → Kind → Use → Answer → Answer
 by_use sizes k itself a = a
 by_use sizes k (stands None) a = refuses (unnamed k)
-by_use sizes k (stands (Some i)) a = cond (too_long sizes i) (refuses iri_too_long) a
-by_use sizes k (binds full None) a = refuses no_base
-by_use sizes k (binds full (Some i)) a = cond (too_long sizes i) (refuses iri_too_long) (cond full (refuses too_many_bindings) a)
+by_use sizes k (stands (Some i)) a = cond (too_long sizes i) (refuses IriTooLong) a
+by_use sizes k (binds full None) a = refuses NoBase
+by_use sizes k (binds full (Some i)) a = cond (too_long sizes i) (refuses IriTooLong) (cond full (refuses TooManyBindings) a)
 
 -- the token opens a bracket or parenthesis
 abbrev pub deepens : Kind → Bool
@@ -506,7 +507,7 @@ deepens k = false
 
 -- a bracket is refused first of all if as many are open as may be
 abbrev pub by_depth : Sizes → ℕ → Kind → Answer → Answer
-by_depth sizes n k a = cond (deepens k && nat_le sizes.depth n) (refuses too_deep) a
+by_depth sizes n k a = cond (deepens k && nat_le sizes.depth n) (refuses TooDeep) a
 
 -- a list of quads with one before it, if there is one
 abbrev pub kept : Option Quad → List Quad → List Quad
@@ -515,7 +516,7 @@ kept (Some q) qs = q ∷ qs
 
 -- the quads that were held are given out, and the one that was waiting
 abbrev pub answer : Sizes → State → Kind → Option Quad → Reply → Answer
-answer sizes s k w No = refuses unexpected
+answer sizes s k w No = refuses Unexpected
 answer sizes s k w (Go u early now c m) =
     by_depth sizes (depth s.mode) k (by_use sizes k u (accepts (s.held ++ kept w []) (record { setting = c; mode = m; held = kept early (kept now []) })))
 
@@ -530,7 +531,7 @@ at_start scope = record { setting = in_default scope; mode = Start; held = [] }
 -- some tokens: the state after them and the quads that were given out, or the first refusal
 pub data Run : Type 0 where
   ran : State → List Quad → Run
-  refused : Refusal → Run
+  refused : Reason → Run
 
 -- the quads of one token come before those of the tokens after it
 abbrev pub with_quads : List Quad → Run → Run

@@ -3,6 +3,7 @@ use Rattle.std.specs.Prelude.{◌≡◌, ℕ, true, List, is_some, Option, Some,
 use Rattle.rdf_terms.specs.declared.kind.Kind.{Kind}
 use Rattle.rdf_terms.specs.declared.kind.Kind.TheVariants.{IriRef, PnameNs, PnameLn}
 use Rattle.rdf_terms.specs.Values.{local_value}
+use Rattle.rdf_terms.specs.declared.reason.Reason.TheVariants as reason
 use Rattle.rdf_iri.specs.declared.fault.IriFault.{IriFault}
 use Rattle.rdf_iri.specs.declared.fault.IriFault.TheVariants as iri
 use Rattle.rdf_iri.specs.Limits.{Sizes}
@@ -16,7 +17,6 @@ use Rattle.rdf_trig.specs.declared.fault.StepFault.{StepFault}
 use Rattle.rdf_trig.specs.declared.fault.StepFault.TheVariants as fault
 use Rattle.rdf_trig.specs.Names.{reference_in, with_base, is_full, SameNames}
 use Rattle.rdf_trig.specs.Events.{Use, stands, binds}
-use Rattle.rdf_trig.specs.Refused as refusal
 use Rattle.rdf_trig.specs.Machine as M
 use Rattle.rdf_trig.specs.Machine.{by_use, refuses}
 use Rattle.rdf_trig.specs.States.{leaf, mode_at, name_at, use_at, IsNamed, NameIn, IsNamedIn, use_in, scope_in}
@@ -57,10 +57,10 @@ IsAdmitted sizes k u = (a : M.Answer) → by_use sizes k u a ≡ a
 
 -- what the token stands for is refused for this reason, whatever the grammar says; for want of memory anything may be
 abbrev pub IsDenied : Sizes → Kind → Use → StepFault → Type 0
-IsDenied sizes k u fault.Unbound = (a : M.Answer) → by_use sizes k u a ≡ refuses refusal.unbound
-IsDenied sizes k u fault.NoBase = (a : M.Answer) → by_use sizes k u a ≡ refuses refusal.no_base
-IsDenied sizes k u fault.IriTooLong = (a : M.Answer) → by_use sizes k u a ≡ refuses refusal.iri_too_long
-IsDenied sizes k u fault.TooManyBindings = (a : M.Answer) → by_use sizes k u a ≡ refuses refusal.too_many_bindings
+IsDenied sizes k u fault.Unbound = (a : M.Answer) → by_use sizes k u a ≡ refuses reason.Unbound
+IsDenied sizes k u fault.NoBase = (a : M.Answer) → by_use sizes k u a ≡ refuses reason.NoBase
+IsDenied sizes k u fault.IriTooLong = (a : M.Answer) → by_use sizes k u a ≡ refuses reason.IriTooLong
+IsDenied sizes k u fault.TooManyBindings = (a : M.Answer) → by_use sizes k u a ≡ refuses reason.TooManyBindings
 IsDenied sizes k u fault.Memory = ⊤
 IsDenied sizes k u r = ⊥
 

@@ -18,15 +18,27 @@ use Rattle.rdf_trig.specs.declared.state.Held.{Held}
 use Rattle.rdf_trig.specs.declared.state.Held.TheVariants as held
 use Rattle.rdf_trig.specs.declared.state.State.{State}
 use Rattle.rdf_trig.specs.Quads.{stated, plain_literal}
-use Rattle.rdf_trig.specs.Refused as refusal
 use Rattle.rdf_trig.specs.Machine as M
 use Rattle.rdf_terms.specs.declared.kind.Kind.{Kind}
 use Rattle.rdf_terms.specs.declared.kind.Kind.TheVariants.{LangTag, AtBase, AtPrefix, Carets, OpenBracket, CloseBracket, OpenParen, CloseParen}
+use Rattle.rdf_terms.specs.declared.reason.Reason.{Reason}
+use Rattle.rdf_terms.specs.declared.reason.Reason.TheVariants as reason
 use Rattle.rdf_tokens.specs.Leaves.{Leaf}
 use Rattle.rdf_trig.specs.Machine.{nil, subject_at, verb_at, kept}
 use Rattle.rdf_trig.specs.States.{leaf, text_in, place_of, object_of, object_quad, cells_quad, mode_in, graph_in, setting, rest_of, held_of, is_go, PrefixFits}
 use Rattle.rdf_trig.specs.Scopes.{SameScope}
 use Rattle.rdf_trig.specs.Holding.{most_text, Fits}
+
+-- the error of a step, as a reader reports it
+abbrev pub reason_of : StepFault → Reason
+reason_of Unexpected = reason.Unexpected
+reason_of TooDeep = reason.TooDeep
+reason_of Unbound = reason.Unbound
+reason_of NoBase = reason.NoBase
+reason_of IriTooLong = reason.IriTooLong
+reason_of TooManyBindings = reason.TooManyBindings
+reason_of Memory = reason.Memory
+reason_of Sink = reason.Sink
 
 -- puts of some of the quads, from the first one on, lead from one sink to the other; the last of them may have been refused
 abbrev pub Begins : {S : Type 0} → (S → Quad → S → Type 0) → (S → Quad → S → Type 0) → List Quad → S → S → Type 0
@@ -108,8 +120,8 @@ May form n k l = (is_go (M.step form n.setting n.mode k l) ≡ true) × ((M.deep
 
 -- the machine refuses for the same reason, where the grammar or the limit of open brackets is the reason
 abbrev pub Refused : StepFault → M.Answer → Type 0
-Refused Unexpected a = a ≡ M.refuses refusal.unexpected
-Refused TooDeep a = a ≡ M.refuses refusal.too_deep
+Refused Unexpected a = a ≡ M.refuses reason.Unexpected
+Refused TooDeep a = a ≡ M.refuses reason.TooDeep
 Refused r a = ⊥
 
 -- the same of a state of the reader, in each scope with this limit of open brackets
@@ -150,14 +162,9 @@ answered (M.refuses e) = []
 
 -- the machine refuses for this reason and nothing was put; or memory was short or the device failed, when some of the quads were put
 abbrev pub Fails : {S : Type 0} → (S → Quad → S → Type 0) → (S → Quad → S → Type 0) → (S → Bool) → StepFault → M.Answer → S → S → Type 0
-Fails takes leaves failed Unexpected a old new = (a ≡ M.refuses refusal.unexpected) × (new ≡ old)
-Fails takes leaves failed TooDeep a old new = (a ≡ M.refuses refusal.too_deep) × (new ≡ old)
-Fails takes leaves failed Unbound a old new = (a ≡ M.refuses refusal.unbound) × (new ≡ old)
-Fails takes leaves failed NoBase a old new = (a ≡ M.refuses refusal.no_base) × (new ≡ old)
-Fails takes leaves failed IriTooLong a old new = (a ≡ M.refuses refusal.iri_too_long) × (new ≡ old)
-Fails takes leaves failed TooManyBindings a old new = (a ≡ M.refuses refusal.too_many_bindings) × (new ≡ old)
 Fails takes leaves failed Memory a old new = Begins takes leaves (answered a) old new × (failed new ≡ false)
 Fails takes leaves failed Sink a old new = Begins takes leaves (answered a) old new × (failed new ≡ true)
+Fails takes leaves failed e a old new = (a ≡ M.refuses (reason_of e)) × (new ≡ old)
 
 -- the token is allowed in each scope with this limit of open brackets
 abbrev pub MayAll : {A : Type 0} → DocForm → ℕ → State A → Kind → Type 0

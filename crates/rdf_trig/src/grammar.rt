@@ -7,8 +7,8 @@ ghost use Rattle.rdf_driver.specs.Words.{KnowsNext};
 ghost use Rattle.rdf_trig.specs.declared.form.DocForm.{DocForm};
 ghost use Rattle.rdf_trig.specs.Documents.{trees};
 ghost use Rattle.rdf_trig.specs.Machine as M;
-ghost use Rattle.rdf_trig.specs.Steps.{Keeps};
-ghost use Rattle.rdf_trig.specs.Accepting.{tree_words, reason_of};
+ghost use Rattle.rdf_trig.specs.Steps.{reason_of, Keeps};
+ghost use Rattle.rdf_trig.specs.Accepting.{tree_words};
 
 use crate::fault::StepFault;
 use crate::form::DocForm;

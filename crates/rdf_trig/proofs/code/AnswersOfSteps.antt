@@ -8,6 +8,8 @@ use Rattle.rdf_terms.specs.Terms.{Quad}
 use Rattle.rdf_terms.specs.Sinks.{Appends}
 use Rattle.rdf_iri.specs.Limits.{Sizes}
 use Rattle.rdf_terms.proofs.CharsLemmas.{few_bytes}
+use Rattle.rdf_terms.specs.declared.reason.Reason.{Reason}
+use Rattle.rdf_terms.specs.declared.reason.Reason.TheVariants as reason
 use Rattle.rdf_iri.specs.Texts.{byte_len}
 use Rattle.rdf_iri.specs.Scope.{InForce}
 use Rattle.rdf_tokens.specs.Leaves.{Leaf}
@@ -21,7 +23,6 @@ use Rattle.rdf_trig.specs.declared.state.Outer.TheVariants as outer
 use Rattle.rdf_trig.specs.Names.{reference_in}
 use Rattle.rdf_trig.specs.Quads.{Setting}
 use Rattle.rdf_trig.specs.Events.{Use}
-use Rattle.rdf_trig.specs.Refused as refusal
 use Rattle.rdf_trig.specs.Machine as M
 use Rattle.rdf_trig.specs.Machine.{Reply, No, Go, kept, by_use, refuses, accepts}
 use Rattle.rdf_trig.specs.States.{mode_at, use_in, scope_in, is_go, moved, DepthMoves, ShortPrefix, PrefixFits}
@@ -43,7 +44,7 @@ goes (Go u early now c m) h = (u, early, now, c, m, refl)
 
 -- a token for which the grammar has no reply is refused as unexpected
 pub no_reply : (form : DocForm) (n : M.State) (k : Kind) (l : Leaf) → M.step form n.setting n.mode k l ≡ No →
-    M.accept form n k l ≡ refuses refusal.unexpected
+    M.accept form n k l ≡ refuses reason.Unexpected
 no_reply form n k l h = ap (M.answer n.setting.scope.limits n k (M.waiting n.setting n.mode k l)) h
 
 -- the depth can be counted after a token that the grammar allows: no overflow at '[' or '(', and none is closed that is not open
@@ -78,12 +79,12 @@ after early now c m = record { setting = c; mode = m; held = kept early (kept no
 
 -- a bracket that the grammar allows is refused where as many are open as may be
 pub deep_refused : (form : DocForm) (n : M.State) (k : Kind) (l : Leaf) → is_go (M.step form n.setting n.mode k l) ≡ true →
-    (M.deepens k && nat_le n.setting.scope.limits.depth (M.depth n.mode)) ≡ true → M.accept form n k l ≡ refuses refusal.too_deep
+    (M.deepens k && nat_le n.setting.scope.limits.depth (M.depth n.mode)) ≡ true → M.accept form n k l ≡ refuses reason.TooDeep
 deep_refused form n k l g d =
     let r = goes (M.step form n.setting n.mode k l) g in
     let sizes = n.setting.scope.limits in
     ap (M.answer sizes n k (M.waiting n.setting n.mode k l)) r.5
-    ∙ cond-true (M.deepens k && nat_le sizes.depth (M.depth n.mode)) (refuses refusal.too_deep)
+    ∙ cond-true (M.deepens k && nat_le sizes.depth (M.depth n.mode)) (refuses reason.TooDeep)
     (by_use sizes k r.0 (accepts (quads_out n k l) (after r.1 r.2 r.3 r.4))) d
 
 -- the answer to an allowed token is decided by what the token stands for alone
@@ -92,7 +93,7 @@ answer_is : (form : DocForm) (n : M.State) (k : Kind) (l : Leaf) (u : Use) (earl
     (accepts (quads_out n k l) (after early now c m))
 answer_is form n k l u early now c m may e =
     ap (M.answer n.setting.scope.limits n k (M.waiting n.setting n.mode k l)) e
-    ∙ cond-false (M.deepens k && nat_le n.setting.scope.limits.depth (M.depth n.mode)) (refuses refusal.too_deep)
+    ∙ cond-false (M.deepens k && nat_le n.setting.scope.limits.depth (M.depth n.mode)) (refuses reason.TooDeep)
     (by_use n.setting.scope.limits k u (accepts (quads_out n k l) (after early now c m))) may.1
 
 -- and what it stands for passes
@@ -108,7 +109,7 @@ passed form n k l may p =
     )
 
 -- or it does not
-stops_answer : (form : DocForm) (n : M.State) (k : Kind) (l : Leaf) (e : refusal.Refusal) → May form n k l →
+stops_answer : (form : DocForm) (n : M.State) (k : Kind) (l : Leaf) (e : Reason) → May form n k l →
     ((a : M.Answer) → by_use n.setting.scope.limits k (use_in n.setting.scope n.mode k l) a ≡ refuses e) → M.accept form n k l ≡ refuses e
 stops_answer form n k l e may s =
     let r = goes (M.step form n.setting n.mode k l) may.0 in
@@ -121,10 +122,10 @@ stops_answer form n k l e may s =
 pub fails_stops : {S : Type 0} (takes leaves : S → Quad → S → Type 0) (failed : S → Bool) (form : DocForm) (n : M.State) (k : Kind) (l : Leaf)
     (r : StepFault) (sink : S) → failed sink ≡ false →
     May form n k l → LooksUpNone n.setting.scope n.mode k l r → Fails takes leaves failed r (M.accept form n k l) sink sink
-fails_stops takes leaves failed form n k l fault.Unbound sink live may s = (stops_answer form n k l refusal.unbound may s, refl)
-fails_stops takes leaves failed form n k l fault.NoBase sink live may s = (stops_answer form n k l refusal.no_base may s, refl)
-fails_stops takes leaves failed form n k l fault.IriTooLong sink live may s = (stops_answer form n k l refusal.iri_too_long may s, refl)
-fails_stops takes leaves failed form n k l fault.TooManyBindings sink live may s = (stops_answer form n k l refusal.too_many_bindings may s, refl)
+fails_stops takes leaves failed form n k l fault.Unbound sink live may s = (stops_answer form n k l reason.Unbound may s, refl)
+fails_stops takes leaves failed form n k l fault.NoBase sink live may s = (stops_answer form n k l reason.NoBase may s, refl)
+fails_stops takes leaves failed form n k l fault.IriTooLong sink live may s = (stops_answer form n k l reason.IriTooLong may s, refl)
+fails_stops takes leaves failed form n k l fault.TooManyBindings sink live may s = (stops_answer form n k l reason.TooManyBindings may s, refl)
 fails_stops takes leaves failed form n k l fault.Memory sink live may s = (([], answered (M.accept form n k l), refl, refl), live)
 fails_stops takes leaves failed form n k l r sink live may s = absurd s
 

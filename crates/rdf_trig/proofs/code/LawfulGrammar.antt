@@ -3,7 +3,6 @@ use Rattle.std.proofs.Common.{◌≡◌, ◌+◌, ◌≤◌, arith, ℕ, Bool, L
 use Rattle.std.proofs.lemmas.List.{append-nil}
 use Rattle.rdf_terms.specs.declared.kind.Kind.TheVariants.{End}
 use Rattle.rdf_terms.specs.declared.reason.Reason.{Reason}
-use Rattle.rdf_terms.specs.declared.reason.Reason.TheVariants as reason
 use Rattle.rdf_terms.specs.Terms.{Quad}
 use Rattle.rdf_terms.specs.Sinks.{Attempts}
 use Rattle.rdf_tokens.specs.Tokens.{Token}
@@ -16,14 +15,13 @@ use Rattle.rdf_trig.specs.declared.fault.StepFault.{StepFault}
 use Rattle.rdf_trig.specs.declared.fault.StepFault.TheVariants as fault
 use Rattle.rdf_trig.specs.declared.state.State.{State as Code}
 use Rattle.rdf_trig.specs.Documents.{documents, Passes}
-use Rattle.rdf_trig.specs.Refused.{Refusal, RefusedFor, unexpected, too_deep, unbound, no_base, iri_too_long, too_many_bindings}
 use Rattle.rdf_trig.specs.Machine.{State, Answer, accepts, refuses, accept, at_start, mode_size}
 use Rattle.rdf_trig.specs.Alike.{SameState}
 use Rattle.rdf_trig.specs.States.{mode_in}
-use Rattle.rdf_trig.specs.Steps.{state_of, Accepts, answered, Begins, Fails}
+use Rattle.rdf_trig.specs.Steps.{reason_of, state_of, Accepts, answered, Begins, Fails}
 use Rattle.rdf_trig.specs.Language.{Chosen}
 use Rattle.rdf_trig.specs.Refusals.{Blamed}
-use Rattle.rdf_trig.specs.Accepting.{TreeAt, reason_of, tree_words}
+use Rattle.rdf_trig.specs.Accepting.{TreeAt, tree_words}
 use Rattle.rdf_trig.proofs.machine.AlikeLemmas.{state_self}
 use Rattle.rdf_trig.proofs.machine.ExactDocuments.{due_ran, accepted_document, not_both}
 use Rattle.rdf_trig.proofs.machine.EndOfInput.{ends_over}
@@ -49,19 +47,7 @@ lawful = record {
 
     ends : (x : Chosen) (why : Reason) (ts : List Token) (t : Token) → Blamed x.form x.start why ts t →
         Viable (documents x.form x.start) (ts ++ t ∷ []) → PassesNone (Passes x.form x.start) (ts ++ t ∷ []) → ⊥
-    ends x why ts t b v n = by why b
-      where
-        refused : (y : Refusal) → RefusedFor x.form x.start ts t y → ⊥
-        refused y b = not_both x.form x.start ts t y b v (n ts [] t refl)
-
-        by : (why : Reason) → Blamed x.form x.start why ts t → ⊥
-        by reason.Unexpected b = refused unexpected b
-        by reason.TooDeep b = refused too_deep b
-        by reason.Unbound b = refused unbound b
-        by reason.NoBase b = refused no_base b
-        by reason.IriTooLong b = refused iri_too_long b
-        by reason.TooManyBindings b = refused too_many_bindings b
-        by why b = b
+    ends x why ts t b v n = not_both x.form x.start ts t why b v (n ts [] t refl)
 
 -- Before the first token nothing was accepted.
 pub begins_here : (g : TreeAt) (x : Chosen) → g ≡ record { form = x.form; limit = x.start.limits.token; state = at_start x.start; held = bytes_held x.start } →
@@ -157,24 +143,17 @@ module _ {S : Type 0} (takes : S → Quad → S → Type 0) (g : TreeAt) (t : To
         }
 
     -- The machine refuses, and nothing was put.
-    refused : (why : Reason) (y : Refusal) → (answer g.form g t ≡ refuses y) × (new ≡ old) →
-        ((x : Chosen) (ts : List Token) → RefusedFor x.form x.start ts t y → Blamed x.form x.start why ts t) → Blames tree_words why g t old new
-    refused why y f is = record {
+    refused : (why : Reason) → (answer g.form g t ≡ refuses why) × (new ≡ old) → Blames tree_words why g t old new
+    refused why f = record {
       sink = f.1;
       blames = λ x ts qs r.
-          is x ts
-          (stops x.form x.start ts t [] r.2.machine qs y r.2.accepted
-          (runs_refused x.form x.start ts t qs g.state y r.2 (by_form x (refuses y) r.0 f.0))).reason;
+          (stops x.form x.start ts t [] r.2.machine qs why r.2.accepted
+          (runs_refused x.form x.start ts t qs g.state why r.2 (by_form x (refuses why) r.0 f.0))).reason;
     }
 
     -- The step fails for its reason, as the driver asks.
     pub misses_token : (why : StepFault) → Fails takes leaves failed why (answer g.form g t) old new →
         Misses tree_words takes leaves failed (reason_of why) g t old new
-    misses_token fault.Unexpected f = refused reason.Unexpected unexpected f (λ x ts h. h)
-    misses_token fault.TooDeep f = refused reason.TooDeep too_deep f (λ x ts h. h)
-    misses_token fault.Unbound f = refused reason.Unbound unbound f (λ x ts h. h)
-    misses_token fault.NoBase f = refused reason.NoBase no_base f (λ x ts h. h)
-    misses_token fault.IriTooLong f = refused reason.IriTooLong iri_too_long f (λ x ts h. h)
-    misses_token fault.TooManyBindings f = refused reason.TooManyBindings too_many_bindings f (λ x ts h. h)
     misses_token fault.Memory f = (tried f.0, f.1)
     misses_token fault.Sink f = (tried f.0, f.1)
+    misses_token why f = refused (reason_of why) f

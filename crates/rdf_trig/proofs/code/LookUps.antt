@@ -7,6 +7,7 @@ use Rattle.rdf_terms.specs.declared.kind.Kind.TheVariants.{IriRef, PnameNs, Pnam
 use Rattle.rdf_terms.specs.Local.{without_backslashes}
 use Rattle.rdf_terms.specs.Terms.{has_scheme}
 use Rattle.rdf_terms.proofs.LocalLemmas.{value_is}
+use Rattle.rdf_terms.specs.declared.reason.Reason.TheVariants as reason
 use Rattle.rdf_iri.specs.declared.fault.IriFault.{IriFault}
 use Rattle.rdf_iri.specs.declared.fault.IriFault.TheVariants as iri
 use Rattle.rdf_iri.specs.Limits.{Sizes}
@@ -18,7 +19,6 @@ use Rattle.rdf_tokens.specs.Leaves.{Leaf, iri_of}
 use Rattle.rdf_trig.specs.declared.fault.StepFault.{StepFault}
 use Rattle.rdf_trig.specs.Names.{reference_in, name_in, prefix_of, local_of, with_base, is_full}
 use Rattle.rdf_trig.specs.Events.{stands, binds}
-use Rattle.rdf_trig.specs.Refused as refusal
 use Rattle.rdf_trig.specs.Machine as M
 use Rattle.rdf_trig.specs.Machine.{by_use, refuses, too_long}
 use Rattle.rdf_trig.specs.Scopes.{IsReference, IsPrefixed, MeansLocal, step_fault, IsAdmitted, IsDenied, Names, Unnamed, Based, Binding, NotBinding}
@@ -29,8 +29,8 @@ stands_passes sizes k o i e h a = subst (λ x. by_use sizes k (stands x) a ≡ a
 
 -- an IRI that is too long is refused as such, whatever the grammar says
 stands_long : (sizes : Sizes) (k : Kind) (o : Option (List ℕ)) (i : List ℕ) → o ≡ Some i → sizes.iri < byte_len i → (a : M.Answer) →
-    by_use sizes k (stands o) a ≡ refuses refusal.iri_too_long
-stands_long sizes k o i e h a = subst (λ x. by_use sizes k (stands x) a ≡ refuses refusal.iri_too_long) (sym e)
+    by_use sizes k (stands o) a ≡ refuses reason.IriTooLong
+stands_long sizes k o i e h a = subst (λ x. by_use sizes k (stands x) a ≡ refuses reason.IriTooLong) (sym e)
     (cond-true (too_long sizes i) _ _ (lt-ltb sizes.iri (byte_len i) h))
 
 -- references
@@ -82,7 +82,7 @@ name_names s PnameLn l p v i k e f r =
 name_names s k l p v i h e f r = absurd h
 
 -- why the scope did not expand a name is why the machine refuses its token
-name_stops_at : (s : InForce) (k : Kind) (l : Leaf) (p v : List ℕ) (f : IriFault) → M.unnamed k ≡ refusal.unbound → p ≡ prefix_of l → v ≡ local_of l →
+name_stops_at : (s : InForce) (k : Kind) (l : Leaf) (p v : List ℕ) (f : IriFault) → M.unnamed k ≡ reason.Unbound → p ≡ prefix_of l → v ≡ local_of l →
     NotExpanded s p v f →
     IsDenied s.limits k (stands (name_in s l)) (step_fault f)
 name_stops_at s k l p v iri.Unbound u e f h = λ a. ap (λ x. by_use s.limits k (stands x) a) (name_none s l p e h) ∙ ap refuses u

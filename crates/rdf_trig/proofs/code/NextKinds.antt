@@ -20,8 +20,8 @@ use Rattle.rdf_trig.specs.Documents.{trees}
 use Rattle.rdf_trig.specs.Machine.{Start, Reply, No, Go, step}
 use Rattle.rdf_trig.specs.States.{graph_at, is_go, mode_at, setting}
 use Rattle.rdf_trig.specs.Turns.{Decides}
-use Rattle.rdf_trig.specs.Steps.{Keeps}
-use Rattle.rdf_trig.specs.Accepting.{TreeAt, reason_of, tree_words}
+use Rattle.rdf_trig.specs.Steps.{reason_of, Keeps}
+use Rattle.rdf_trig.specs.Accepting.{TreeAt, tree_words}
 use Rattle.rdf_trig.proofs.machine.ViableTokens.{Stand, stand, reach, reached_shaped, reach-snoc, and_on, lax, on_reply, unexpected}
 use Rattle.rdf_trig.proofs.machine.RefusedTokens.{reached_start}
 use Rattle.rdf_trig.proofs.code.TurnsLemmas.{turn_goes}
@@ -77,13 +77,7 @@ is_unexpected f = inr (λ e. cc)
 -- and a reader reports it as such only where it is
 pub reason_unexpected : (f : StepFault) → reason_of f ≡ reason.Unexpected → f ≡ fault.Unexpected
 reason_unexpected fault.Unexpected e = refl
-reason_unexpected fault.TooDeep e = absurd (let z : reason.TooDeep ≡ reason.Unexpected = e in cc)
-reason_unexpected fault.Unbound e = absurd (let z : reason.Unbound ≡ reason.Unexpected = e in cc)
-reason_unexpected fault.NoBase e = absurd (let z : reason.NoBase ≡ reason.Unexpected = e in cc)
-reason_unexpected fault.IriTooLong e = absurd (let z : reason.IriTooLong ≡ reason.Unexpected = e in cc)
-reason_unexpected fault.TooManyBindings e = absurd (let z : reason.TooManyBindings ≡ reason.Unexpected = e in cc)
-reason_unexpected fault.Memory e = absurd (let z : reason.Memory ≡ reason.Unexpected = e in cc)
-reason_unexpected fault.Sink e = absurd (let z : reason.Sink ≡ reason.Unexpected = e in cc)
+reason_unexpected f e = absurd (let z : reason_of f ≡ reason.Unexpected = e in cc)
 
 -- After a fault the state and the scope are as they were, or begin anew: what a state keeps holds.
 pub kept_after : {A : Type 0} (f : StepFault) (form : DocForm) (limits : Sizes) (was mid new : Code A) (before between after : InForce) →

@@ -12,6 +12,7 @@ use Rattle.rdf_terms.specs.Shapes.{shape, kind_of, is_live}
 use Rattle.rdf_terms.specs.Values.{is_fit}
 use Rattle.rdf_terms.specs.Terms.{Resource, Quad}
 use Rattle.rdf_terms.specs.Terms as term
+use Rattle.rdf_terms.specs.declared.reason.Reason.TheVariants.{TooManyBindings}
 use Rattle.rdf_tokens.specs.Tokens.{Place, Token, step, read, tokens}
 use Rattle.rdf_tokens.specs.Tokens.Outcome.{complete, token_too_long}
 use Rattle.rdf_tokens.specs.Good.{tokens_of}
@@ -25,7 +26,6 @@ use Rattle.rdf_trig.specs.declared.form.DocForm.TheVariants.{Turtle}
 use Rattle.rdf_trig.specs.Names.{reference_in, name_in, is_full}
 use Rattle.rdf_trig.specs.Quads.{in_default}
 use Rattle.rdf_trig.specs.Documents.{documents, Passes}
-use Rattle.rdf_trig.specs.Refused.{too_many_bindings}
 use Rattle.rdf_trig.specs.Machine.{Sparql, WantPrefixIri, Start, Over, State, at_start, ran, accept_all}
 use Rattle.rdf_trig.specs.Language.{language}
 use Rattle.rdf_trig.specs.Accepting.{TrigRead, tree_words}
@@ -143,6 +143,6 @@ second_ran : accept_all Turtle (at_start bound) second_tokens ≡ ran second_sta
 unfolding reference_in name_in resolved is_full has encode
 second_ran = refl
 
-pub second_is_too_many : IsRefusedAfter Turtle bound second_tokens second_token [] too_many_bindings
+pub second_is_too_many : IsRefusedAfter Turtle bound second_tokens second_token [] TooManyBindings
 unfolding reference_in name_in resolved is_full has encode
-second_is_too_many = stops Turtle bound second_tokens second_token [] second_state [] too_many_bindings second_ran refl
+second_is_too_many = stops Turtle bound second_tokens second_token [] second_state [] TooManyBindings second_ran refl

@@ -8,10 +8,11 @@ use Rattle.rdf_iri.specs.Resolve.{resolved}
 use Rattle.rdf_tokens.specs.Grammars.{Due, unmarked, IsFront, Rises}
 use Rattle.rdf_iri.specs.Scope.{bound_to, Binds}
 use Rattle.rdf_terms.specs.declared.kind.Kind.TheVariants.{IriRef, Prefix, PnameNs, PnameLn, Semicolon, OpenBracket, CloseBracket, OpenBrace, End}
-use Rattle.rdf_terms.specs.Terms.{Node, Label, Anon, Cell, Blank, Term, Quad}
+use Rattle.rdf_terms.specs.Terms.{Anon, Cell, Blank, Quad}
 use Rattle.rdf_terms.specs.Terms as term
 use Rattle.rdf_terms.specs.Known.{known_chars}
 use Rattle.rdf_terms.specs.declared.constants.Known.TheVariants.{RdfFirst, XsdBoolean}
+use Rattle.rdf_terms.specs.declared.reason.Reason.TheVariants.{Unexpected, TooDeep, Unbound, NoBase, IriTooLong, TooManyBindings}
 use Rattle.rdf_tokens.specs.Tokens.{Token}
 use Rattle.rdf_tokens.specs.Grammars.{Marked}
 use Rattle.rdf_iri.specs.Scope.{InForce}
@@ -22,7 +23,6 @@ use Rattle.rdf_trig.specs.Quads.{in_default}
 use Rattle.rdf_trig.specs.Events.{Use, stands, document_events, event_quads}
 use Rattle.rdf_trig.specs.TreeQuads.{document_quads}
 use Rattle.rdf_trig.specs.Documents.{documents, trees, InTree}
-use Rattle.rdf_trig.specs.Refused.{unexpected, too_deep, unbound, no_base, iri_too_long, too_many_bindings}
 use Rattle.rdf_trig.specs.Machine.{sized, spelt, Top, Listed, WantPrefixIri, Sparql, Statement, InPropertyList, At, Start, Over, Want, After, AfterPropertyList, State, at_start, ran, accept_all}
 use Rattle.rdf_trig.specs.Laws.{CompletedBy, IsRefusedAfter, Reads, ViableWhereBound, ShapedAndBound, NamelessWhere}
 use Rattle.rdf_trig.proofs.examples.Documents.{leaf, quad, start, nested_tokens, nested_tree, nested_quads, nested_is, booleans_tokens, booleans_tree, booleans_quads, booleans_is, inner_collection_quads, inner_collection_tree, one_label_tokens, one_label_quads, one_label_is}
@@ -50,8 +50,8 @@ unfolding reference_in name_in resolved is_full has encode
 brackets_ran = refl
 
 -- A property list is no label of a graph: the brace after it is in no tree.
-pub brackets_is_no_label : IsRefusedAfter TriG start brackets_tokens brace [] unexpected
-brackets_is_no_label = stops TriG start brackets_tokens brace [] brackets_state _ unexpected brackets_ran refl
+pub brackets_is_no_label : IsRefusedAfter TriG start brackets_tokens brace [] Unexpected
+brackets_is_no_label = stops TriG start brackets_tokens brace [] brackets_state _ Unexpected brackets_ran refl
 
 -- A prefix that is not bound: `S P S ; <http://a/q> e:x`.
 abbrev unbound_tokens : List Token
@@ -75,10 +75,10 @@ unbound_ran : accept_all TriG (at_start start) unbound_tokens ≡ ran unbound_st
 unfolding reference_in name_in resolved is_full has encode
 unbound_ran = refl
 
-pub unbound_refused : IsRefusedAfter TriG start unbound_tokens unbound_token [] unbound
+pub unbound_refused : IsRefusedAfter TriG start unbound_tokens unbound_token [] Unbound
 unfolding reference_in name_in resolved is_full has encode
 unbound_refused = stops TriG start unbound_tokens unbound_token [] unbound_state (quad (term.Iri (codes "http://a/s")) (codes "http://a/p")
-    (Resource (term.Iri (codes "http://a/s"))) None ∷ []) unbound unbound_ran refl
+    (Resource (term.Iri (codes "http://a/s"))) None ∷ []) Unbound unbound_ran refl
 
 -- A reference without a base: `<s>`.
 abbrev baseless_tokens : List Token
@@ -94,9 +94,9 @@ baseless_ran : accept_all TriG (at_start start) baseless_tokens ≡ ran baseless
 unfolding reference_in name_in resolved is_full has encode
 baseless_ran = refl
 
-pub baseless_refused : IsRefusedAfter TriG start baseless_tokens baseless_token [] no_base
+pub baseless_refused : IsRefusedAfter TriG start baseless_tokens baseless_token [] NoBase
 unfolding reference_in name_in resolved is_full has encode
-baseless_refused = stops TriG start baseless_tokens baseless_token [] baseless_state [] no_base baseless_ran refl
+baseless_refused = stops TriG start baseless_tokens baseless_token [] baseless_state [] NoBase baseless_ran refl
 
 -- limits that are met soon
 abbrev tight : InForce
@@ -127,10 +127,10 @@ deep_ran : accept_all TriG (at_start tight) deep_tokens ≡ ran deep_state (quad
 unfolding reference_in name_in resolved is_full has encode
 deep_ran = refl
 
-pub deep_refused : IsRefusedAfter TriG tight deep_tokens deep_token [] too_deep
+pub deep_refused : IsRefusedAfter TriG tight deep_tokens deep_token [] TooDeep
 unfolding reference_in name_in resolved is_full has encode
 deep_refused = stops TriG tight deep_tokens deep_token [] deep_state
-    (quad (term.Iri (codes "a:s")) (codes "a:p") (Resource (Blank (Anon 12))) None ∷ []) too_deep deep_ran refl
+    (quad (term.Iri (codes "a:s")) (codes "a:p") (Resource (Blank (Anon 12))) None ∷ []) TooDeep deep_ran refl
 
 -- An IRI of 12 bytes, where 10 may be: `<http://a/ss>`.
 abbrev long_tokens : List Token
@@ -146,9 +146,9 @@ long_ran : accept_all TriG (at_start tight) long_tokens ≡ ran long_state []
 unfolding reference_in name_in resolved is_full has encode
 long_ran = refl
 
-pub long_refused : IsRefusedAfter TriG tight long_tokens long_token [] iri_too_long
+pub long_refused : IsRefusedAfter TriG tight long_tokens long_token [] IriTooLong
 unfolding reference_in name_in resolved is_full has encode
-long_refused = stops TriG tight long_tokens long_token [] long_state [] iri_too_long long_ran refl
+long_refused = stops TriG tight long_tokens long_token [] long_state [] IriTooLong long_ran refl
 
 -- A second prefix, where one may be bound; the first may be bound anew: `PREFIX a: <a:/> PREFIX a: <b:/> PREFIX b: <b:/>`.
 abbrev many_tokens : List Token
@@ -167,9 +167,9 @@ many_ran : accept_all TriG (at_start tight) many_tokens ≡ ran many_state []
 unfolding reference_in name_in resolved is_full has encode
 many_ran = refl
 
-pub many_refused : IsRefusedAfter TriG tight many_tokens many_token [] too_many_bindings
+pub many_refused : IsRefusedAfter TriG tight many_tokens many_token [] TooManyBindings
 unfolding reference_in name_in resolved is_full has encode
-many_refused = stops TriG tight many_tokens many_token [] many_state [] too_many_bindings many_ran refl
+many_refused = stops TriG tight many_tokens many_token [] many_state [] TooManyBindings many_ran refl
 
 -- A document that ends in a statement: `S P S` and the end.
 abbrev ended_tokens : List Token
@@ -192,9 +192,9 @@ ended_ran : accept_all TriG (at_start start) ended_tokens ≡ ran ended_state []
 unfolding reference_in name_in resolved is_full has encode
 ended_ran = refl
 
-pub ended_refused : IsRefusedAfter TriG start ended_tokens ended_token [] unexpected
+pub ended_refused : IsRefusedAfter TriG start ended_tokens ended_token [] Unexpected
 unfolding reference_in name_in resolved is_full has encode
-ended_refused = stops TriG start ended_tokens ended_token [] ended_state [] unexpected ended_ran refl
+ended_refused = stops TriG start ended_tokens ended_token [] ended_state [] Unexpected ended_ran refl
 
 booleans_are : document_quads start 0 booleans_tree ≡ booleans_quads
 unfolding reference_in name_in resolved is_full has

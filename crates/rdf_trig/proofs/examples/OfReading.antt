@@ -13,6 +13,7 @@ use Rattle.rdf_terms.specs.Shapes.{shape, kind_of, is_live}
 use Rattle.rdf_terms.specs.Values.{is_fit}
 use Rattle.rdf_terms.specs.Terms.{Resource, Quad}
 use Rattle.rdf_terms.specs.Terms as term
+use Rattle.rdf_terms.specs.declared.reason.Reason.TheVariants.{Unexpected}
 use Rattle.rdf_tokens.specs.Tokens.{Place, Token, step, read, tokens}
 use Rattle.rdf_tokens.specs.Tokens.Outcome.{complete, token_too_long}
 use Rattle.rdf_tokens.specs.Good.{tokens_of}
@@ -25,7 +26,6 @@ use Rattle.rdf_trig.specs.declared.form.DocForm.TheVariants.{Turtle}
 use Rattle.rdf_trig.specs.Names.{reference_in, name_in, is_full}
 use Rattle.rdf_trig.specs.Quads.{in_default}
 use Rattle.rdf_trig.specs.Documents.{documents, Passes}
-use Rattle.rdf_trig.specs.Refused.{unexpected}
 use Rattle.rdf_trig.specs.Machine.{sized, Top, Statement, Start, Over, WantVerb, State, at_start, ran, accept_all}
 use Rattle.rdf_trig.specs.Language.{language}
 use Rattle.rdf_trig.specs.Accepting.{TrigRead, tree_words}
@@ -135,8 +135,8 @@ subject_ran : accept_all Turtle (at_start small) (subject_token ∷ []) ≡ ran 
 unfolding reference_in name_in resolved is_full has encode
 subject_ran = refl
 
-dot_stops : IsRefusedAfter Turtle small (subject_token ∷ []) dot mode_after_dot unexpected
-dot_stops = stops Turtle small (subject_token ∷ []) dot mode_after_dot state_after_subject [] unexpected subject_ran refl
+dot_stops : IsRefusedAfter Turtle small (subject_token ∷ []) dot mode_after_dot Unexpected
+dot_stops = stops Turtle small (subject_token ∷ []) dot mode_after_dot state_after_subject [] Unexpected subject_ran refl
 
 dot_is_refused : Refused in_turtle subject true Unexpected (record { offset = 4; line = 1 })
 dot_is_refused = (

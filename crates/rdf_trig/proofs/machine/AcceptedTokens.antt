@@ -4,13 +4,13 @@ use Rattle.std.specs.Prelude.{nat_le}
 use Rattle.rdf_iri.specs.Limits.{Sizes}
 use Rattle.rdf_terms.specs.declared.kind.Kind.{Kind}
 use Rattle.rdf_terms.specs.Terms.{Quad}
+use Rattle.rdf_terms.specs.declared.reason.Reason.TheVariants.{Unexpected, TooDeep, NoBase, IriTooLong, TooManyBindings}
 use Rattle.rdf_tokens.specs.Tokens.{Token}
 use Rattle.rdf_tokens.specs.Leaves.{leaf_of}
 use Rattle.rdf_trig.specs.declared.form.DocForm.{DocForm}
 use Rattle.rdf_trig.specs.Quads.{Setting}
 use Rattle.rdf_trig.specs.Events.{Use, itself, stands, binds}
 use Rattle.rdf_trig.specs.Machine.{Mode, Reply, No, Go, step, waiting}
-use Rattle.rdf_trig.specs.Refused.{unexpected, too_deep, no_base, iri_too_long, too_many_bindings}
 use Rattle.rdf_trig.specs.Machine.{kept, State, Answer, refuses, accepts, unnamed, too_long, by_use, deepens, answer, accept, Run, ran, refused, with_quads, go, accept_all, depth}
 use Rattle.rdf_trig.proofs.machine.ClosingTokens.{has_iri}
 use Rattle.rdf_trig.proofs.machine.ViableTokens.{stand, reach, on_reply, if_true}
@@ -58,20 +58,20 @@ pub record Accepted (sizes : Sizes) (s : State) (k : Kind) (w : Option Quad) (r 
 fitted : (sizes : Sizes) (k : Kind) (u : Use) (a : Answer) (qs : List Quad) (n : State) → by_use sizes k u a ≡ accepts qs n → Fits sizes u × (a ≡ accepts qs n)
 fitted sizes k itself a qs n e = (tt, e)
 fitted sizes k (stands None) a qs n e = absurd (let z : refuses (unnamed k) ≡ accepts qs n = e in cc)
-fitted sizes k (stands (Some i)) a qs n e = second (too_long sizes i) (refuses iri_too_long) a (accepts qs n) e (λ z. cc)
-fitted sizes k (binds full None) a qs n e = absurd (let z : refuses no_base ≡ accepts qs n = e in cc)
+fitted sizes k (stands (Some i)) a qs n e = second (too_long sizes i) (refuses IriTooLong) a (accepts qs n) e (λ z. cc)
+fitted sizes k (binds full None) a qs n e = absurd (let z : refuses NoBase ≡ accepts qs n = e in cc)
 fitted sizes k (binds full (Some i)) a qs n e =
-    let x = second (too_long sizes i) (refuses iri_too_long) (cond full (refuses too_many_bindings) a) (accepts qs n) e (λ z. cc) in
-    let y = second full (refuses too_many_bindings) a (accepts qs n) x.1 (λ z. cc) in
+    let x = second (too_long sizes i) (refuses IriTooLong) (cond full (refuses TooManyBindings) a) (accepts qs n) e (λ z. cc) in
+    let y = second full (refuses TooManyBindings) a (accepts qs n) x.1 (λ z. cc) in
     ((x.0, y.0), y.1)
 
 -- an answer that accepts has all these parts
 pub accepted : (sizes : Sizes) (s : State) (k : Kind) (w : Option Quad) (r : Reply) (qs : List Quad) (n : State) → answer sizes s k w r ≡ accepts qs n →
     Accepted sizes s k w r qs n
-accepted sizes s k w No qs n e = absurd (let z : refuses unexpected ≡ accepts qs n = e in cc)
+accepted sizes s k w No qs n e = absurd (let z : refuses Unexpected ≡ accepts qs n = e in cc)
 accepted sizes s k w (Go u early now c m) qs n e =
     let a : Answer = accepts (s.held ++ kept w []) (moved early now c m) in
-    let d = second (deepens k && nat_le sizes.depth (depth s.mode)) (refuses too_deep) (by_use sizes k u a) (accepts qs n) e (λ z. cc) in
+    let d = second (deepens k && nat_le sizes.depth (depth s.mode)) (refuses TooDeep) (by_use sizes k u a) (accepts qs n) e (λ z. cc) in
     let f = fitted sizes k u a qs n d.1 in
     let same : accepts (s.held ++ kept w []) (moved early now c m) ≡ accepts qs n = f.1 in
     record { sense = u; early = early; now = now; setting = c; mode = m; reply = refl; shallow = d.0; fits = f.0; given = cc; state = cc }

@@ -3,8 +3,10 @@ use Rattle.std.proofs.Common.{◌≡◌, ℕ, Bool, true, false, cond, List, [],
 use Rattle.std.specs.Prelude.{nat_le}
 use Rattle.rdf_terms.specs.declared.kind.Kind.{Kind}
 use Rattle.rdf_terms.specs.declared.kind.Kind.TheVariants.{IriRef, LabelNode, ShortString, LongString, LangTag, Carets, Dot, Integer, Decimal, Double, True, False, A, AtPrefix, AtBase, Prefix, Base, Graph, PnameNs, PnameLn, Semicolon, Comma, OpenBracket, CloseBracket, OpenParen, CloseParen, OpenBrace, CloseBrace, End}
-use Rattle.rdf_terms.specs.Terms.{Node, Anon, Cell, Blank, Term, Quad}
+use Rattle.rdf_terms.specs.Terms.{Anon, Cell, Blank, Quad}
 use Rattle.rdf_terms.specs.Terms as term
+use Rattle.rdf_terms.specs.declared.reason.Reason.{Reason}
+use Rattle.rdf_terms.specs.declared.reason.Reason.TheVariants.{TooDeep, IriTooLong, TooManyBindings}
 use Rattle.rdf_iri.specs.Limits.{Sizes}
 use Rattle.rdf_iri.specs.Scope.{InForce}
 use Rattle.rdf_tokens.specs.Leaves.{Leaf}
@@ -12,7 +14,6 @@ use Rattle.rdf_trig.specs.declared.form.DocForm.{DocForm}
 use Rattle.rdf_trig.specs.declared.form.DocForm.TheVariants.{TriG}
 use Rattle.rdf_trig.specs.Names.{reference_in, name_in, with_base, with_binding, is_full, SameNames}
 use Rattle.rdf_trig.specs.Quads.{Setting, named, node, resource, typed_literal, cell_at, rest_quad}
-use Rattle.rdf_trig.specs.Refused.{Refusal, too_deep, iri_too_long, too_many_bindings}
 use Rattle.rdf_trig.specs.Events.{Use, itself, stands, binds}
 use Rattle.rdf_trig.specs.Machine.{Topic, sized, spelt, Level, Top, InBlock, Place, Listed, InCollection, Around, Statement, InPropertyList, Up, Subject, At, Spelling, Mode, Start, Over, WantPrefix, WantPrefixIri, WantBaseIri, WantDot, AfterLabel, GraphWord, GraphBracket, WantBrace, Inside, Want, After, AfterText, WantType, PropertyListStart, CollectionStart, WantVerb, AfterSemicolon, AfterPropertyList, Reply, No, Go, quad_at, object_start, want_type, verb_start, after_subject, predicate_list_end, after_semicolon, after, after_text, property_list_start, collection_start, after_property_list, subject_start, start, inside, want_brace, after_label, graph_word, graph_bracket, want_prefix, want_prefix_iri, want_base_iri, want_dot, step, waiting, depth}
 use Rattle.rdf_trig.specs.Machine.{kept, State, Answer, refuses, accepts, too_long, by_use, deepens, answer, accept}
@@ -282,23 +283,23 @@ SameAnswer (accepts qs n) (accepts rs m) = (qs ≡ rs) × SameState n m
 SameAnswer a b = ⊥
 
 -- a limit that is tested in both refuses in both
-cond_same : (b : Bool) (x : Refusal) (a c : Answer) → SameAnswer a c → SameAnswer (cond b (refuses x) a) (cond b (refuses x) c)
+cond_same : (b : Bool) (x : Reason) (a c : Answer) → SameAnswer a c → SameAnswer (cond b (refuses x) a) (cond b (refuses x) c)
 cond_same true x a c h = refl
 cond_same false x a c h = h
 
 use_same : (sizes : Sizes) (k : Kind) (u : Use) (a c : Answer) → SameAnswer a c → SameAnswer (by_use sizes k u a) (by_use sizes k u c)
 use_same sizes k itself a c h = h
 use_same sizes k (stands None) a c h = refl
-use_same sizes k (stands (Some i)) a c h = cond_same (too_long sizes i) iri_too_long a c h
+use_same sizes k (stands (Some i)) a c h = cond_same (too_long sizes i) IriTooLong a c h
 use_same sizes k (binds full None) a c h = refl
-use_same sizes k (binds full (Some i)) a c h = cond_same (too_long sizes i) iri_too_long _ _ (cond_same full too_many_bindings a c h)
+use_same sizes k (binds full (Some i)) a c h = cond_same (too_long sizes i) IriTooLong _ _ (cond_same full TooManyBindings a c h)
 
 -- replies that agree are answered alike
 reply_same : (sizes : Sizes) (s : State) (k : Kind) (w : Option Quad) (x y : Reply) → SameReply x y → SameAnswer (answer sizes s k w x) (answer sizes s k w y)
 reply_same sizes s k w No No h = refl
 reply_same sizes s k w (Go u e n c m) (Go v f o d j) h =
     subst (λ z. SameAnswer (answer sizes s k w (Go u e n c m)) (answer sizes s k w (Go z f o d j))) h.0
-    (cond_same (deepens k && nat_le sizes.depth (depth s.mode)) too_deep _ _
+    (cond_same (deepens k && nat_le sizes.depth (depth s.mode)) TooDeep _ _
     (use_same sizes k u _ _ (
       refl,
       record { scope = h.3.0; graph = h.3.1; mode = h.4; held = ap (λ a. kept a (kept n [])) h.1 ∙ ap (λ a. kept f (kept a [])) h.2 },
@@ -342,6 +343,6 @@ accepts_same (accepts rs n) qs m h = (n, ap (λ x. accepts x n) h.0, h.1)
 accepts_same (refuses x) qs m h = absurd h
 
 -- a refusal is the same in both
-pub refuses_same : (a : Answer) (x : Refusal) → SameAnswer a (refuses x) → a ≡ refuses x
+pub refuses_same : (a : Answer) (x : Reason) → SameAnswer a (refuses x) → a ≡ refuses x
 refuses_same (refuses y) x h = ap refuses h
 refuses_same (accepts rs n) x h = absurd h

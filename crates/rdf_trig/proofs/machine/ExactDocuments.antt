@@ -3,6 +3,8 @@ use Rattle.std.proofs.Common.{◌≡◌, ℕ, zero, suc, ◌+◌, ◌≤◌, ◌
 use Rattle.std.proofs.lemmas.List.{append-nil}
 use Rattle.rdf_tokens.specs.Grammars.{Viable, Due, PassesNone, IsFront, items_below, unmarked}
 use Rattle.rdf_terms.specs.Terms.{Quad}
+use Rattle.rdf_terms.specs.declared.reason.Reason.{Reason}
+use Rattle.rdf_terms.specs.declared.reason.Reason.TheVariants.{Unexpected, TooDeep, Unbound, NoBase, IriTooLong, TooManyBindings}
 use Rattle.rdf_tokens.specs.Tokens.{Token}
 use Rattle.rdf_tokens.specs.Grammars.{Marked}
 use Rattle.rdf_iri.specs.Scope.{InForce}
@@ -13,8 +15,7 @@ use Rattle.rdf_trig.specs.Quads.{Setting, in_default}
 use Rattle.rdf_trig.specs.Events.{Event, Took, Gave, give, document_events, tokens, event_quads}
 use Rattle.rdf_trig.specs.Machine.{Mode, Start, Over, Reply, No, Go, start, step, waiting, fronted, stop, go_on, run}
 use Rattle.rdf_trig.specs.Machine.{State, Answer, refuses, accepts, accept, at_start, ran, with_quads, go, accept_all, depth}
-use Rattle.rdf_trig.specs.Refusals.{Excluded}
-use Rattle.rdf_trig.specs.Refused.{Refusal, unexpected, too_deep, unbound, no_base, iri_too_long, too_many_bindings, RefusedFor}
+use Rattle.rdf_trig.specs.Refusals.{Excluded, Blamed}
 use Rattle.rdf_trig.specs.Documents.{documents, trees, Passes}
 use Rattle.rdf_trig.proofs.machine.Soundness.{read_found, unput}
 use Rattle.rdf_trig.proofs.machine.ClosingTokens.{Accepts, admits}
@@ -153,7 +154,7 @@ pub record Stuck (form : DocForm) (s : State) (ts : List Token) : Type 0 where
   pub more : List Token
   pub state : State
   pub given : List Quad
-  pub reason : Refusal
+  pub reason : Reason
   pub split : ts ≡ ahead ++ token ∷ more
   pub before : accept_all form s ahead ≡ ran state given
   pub refuses_it : accept form state token.kind (leaf_of token) ≡ refuses reason
@@ -190,14 +191,15 @@ viable_front : (form : DocForm) (start : InForce) (ts us : List Token) → Viabl
 viable_front form start ts us (more, qs, d) = (us ++ more, qs, subst (λ x. documents form start x qs) (append_assoc ts us more) d)
 
 -- A token that is refused is in no document after those before it, or passes a limit there.
-pub not_both : (form : DocForm) (start : InForce) (ts : List Token) (t : Token) (x : Refusal) → RefusedFor form start ts t x →
+pub not_both : (form : DocForm) (start : InForce) (ts : List Token) (t : Token) (x : Reason) → Blamed form start x ts t →
     Viable (documents form start) (ts ++ t ∷ []) → (Passes form start ts t → ⊥) → ⊥
-not_both form start ts t unexpected r v p = let d = v.2 in r (v.0, v.1, record { tree = d.tree; tokens = d.tokens; quads = d.quads })
-not_both form start ts t unbound r v p = Excluded.excluded r.0 v
-not_both form start ts t no_base r v p = Excluded.excluded r.0 v
-not_both form start ts t too_deep r v p = p (r.0, r.1, inl r.2)
-not_both form start ts t iri_too_long r v p = p (r.0, r.1, inr (inl r.2))
-not_both form start ts t too_many_bindings r v p = p (r.0, r.1, inr (inr r.2))
+not_both form start ts t Unexpected r v p = let d = v.2 in r (v.0, v.1, record { tree = d.tree; tokens = d.tokens; quads = d.quads })
+not_both form start ts t Unbound r v p = Excluded.excluded r.0 v
+not_both form start ts t NoBase r v p = Excluded.excluded r.0 v
+not_both form start ts t TooDeep r v p = p (r.0, r.1, inl r.2)
+not_both form start ts t IriTooLong r v p = p (r.0, r.1, inr (inl r.2))
+not_both form start ts t TooManyBindings r v p = p (r.0, r.1, inr (inr r.2))
+not_both form start ts t x r v p = r
 
 -- the machine refuses no token of a document that passes no limit
 stuck_not : (form : DocForm) (start : InForce) (ts : List Token) → Viable (documents form start) ts → PassesNone (Passes form start) ts →
@@ -253,7 +255,7 @@ document_accepted form start ts ms d p =
     )
 
 -- Tokens that are accepted up to one that is refused are the front of the whole.
-pub front_to : (form : DocForm) (start : InForce) (ts : List Token) (t : Token) (more : List Token) (s : State) (qs : List Quad) (x : Refusal) →
+pub front_to : (form : DocForm) (start : InForce) (ts : List Token) (t : Token) (more : List Token) (s : State) (qs : List Quad) (x : Reason) →
     accept_all form (at_start start) ts ≡ ran s qs →
     accept form s t.kind (leaf_of t) ≡ refuses x → IsFront (documents form start) (Passes form start) (ts ++ t ∷ more) ts
 front_to form start ts t more s qs x e a =

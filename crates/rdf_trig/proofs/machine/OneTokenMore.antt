@@ -2,12 +2,12 @@
 use Rattle.std.proofs.Common.{◌≡◌, ◌≤◌, ◌*◌, List, [], ◌∷◌, ◌++◌, length, sym, ap, ◌∙◌, subst, append_assoc}
 use Rattle.std.proofs.lemmas.List.{append-nil}
 use Rattle.rdf_terms.specs.Terms.{Quad}
+use Rattle.rdf_terms.specs.declared.reason.Reason.{Reason}
 use Rattle.rdf_tokens.specs.Tokens.{Token}
 use Rattle.rdf_tokens.specs.Grammars.{counted}
 use Rattle.rdf_iri.specs.Scope.{InForce}
 use Rattle.rdf_tokens.specs.Leaves.{leaf_of}
 use Rattle.rdf_trig.specs.declared.form.DocForm.{DocForm}
-use Rattle.rdf_trig.specs.Refused.{Refusal}
 use Rattle.rdf_trig.specs.Machine.{State, Answer, refuses, accepts, accept, at_start, ran, refused, with_quads, go, accept_all}
 use Rattle.rdf_trig.specs.Alike.{SameState, RunsTo}
 use Rattle.rdf_trig.proofs.machine.AcceptedTokens.{first_ran}
@@ -46,7 +46,7 @@ runs_one form start ts t rs qs old machine new r a s =
     }
 
 -- what the machine refuses there
-pub runs_refused : (form : DocForm) (start : InForce) (ts : List Token) (t : Token) (rs : List Quad) (old : State) (x : Refusal)
+pub runs_refused : (form : DocForm) (start : InForce) (ts : List Token) (t : Token) (rs : List Quad) (old : State) (x : Reason)
     (r : RunsTo form start ts rs old) →
     accept form old t.kind (leaf_of t) ≡ refuses x → accept form r.machine t.kind (leaf_of t) ≡ refuses x
 runs_refused form start ts t rs old x r a =

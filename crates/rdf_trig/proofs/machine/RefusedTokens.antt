@@ -8,6 +8,8 @@ use Rattle.rdf_iri.specs.Texts.{byte_len}
 use Rattle.rdf_terms.specs.declared.kind.Kind.{Kind}
 use Rattle.rdf_terms.specs.declared.kind.Kind.TheVariants.{IriRef, PnameNs, PnameLn, OpenBracket, OpenParen}
 use Rattle.rdf_terms.specs.Terms.{Quad}
+use Rattle.rdf_terms.specs.declared.reason.Reason.{Reason}
+use Rattle.rdf_terms.specs.declared.reason.Reason.TheVariants.{Unexpected, TooDeep, Unbound, NoBase, IriTooLong, TooManyBindings}
 use Rattle.rdf_tokens.specs.Tokens.{Token}
 use Rattle.rdf_iri.specs.Scope.{InForce}
 use Rattle.rdf_tokens.specs.Leaves.{Leaf, leaf_of}
@@ -17,11 +19,10 @@ use Rattle.rdf_trig.specs.Quads.{Setting, in_default}
 use Rattle.rdf_trig.specs.Events.{Use, itself, stands, binds}
 use Rattle.rdf_trig.specs.Machine.{Mode, Start, Reply, No, Go, start, step, waiting}
 use Rattle.rdf_trig.specs.Machine.{kept, State, Answer, refuses, accepts, unnamed, too_long, by_use, deepens, answer, accept, at_start, ran, refused, with_quads, go, accept_all, depth}
-use Rattle.rdf_trig.specs.Refusals.{Excluded}
-use Rattle.rdf_trig.specs.Refused.{Refusal, unexpected, too_deep, unbound, no_base, iri_too_long, too_many_bindings, RefusedFor}
+use Rattle.rdf_trig.specs.Refusals.{Excluded, Blamed}
 use Rattle.rdf_trig.specs.Documents.{InTree, StandsFor, opens, closes, opened, closed, open_in, IsDeep, IsLong, IsOneMore, Passes}
 use Rattle.rdf_trig.proofs.machine.ClosingTokens.{has_iri}
-use Rattle.rdf_trig.proofs.machine.ViableTokens.{Stand, stand, reach, reached_viable, nameless, goes_on}
+use Rattle.rdf_trig.proofs.machine.ViableTokens.{Stand, stand, reach, nameless}
 use Rattle.rdf_trig.proofs.machine.ViableTokens as reached
 use Rattle.rdf_trig.proofs.machine.AcceptedTokens.{Fits, accepted, first_ran, ran_tokens}
 use Rattle.rdf_trig.proofs.machine.DepthAndSense.{IsUse, Facts, step_facts, reached_limits, reached_depth, opened-append, closed-append}
@@ -142,44 +143,45 @@ abbrev Went : Reply → Use → Type 0
 Went r u = (early : Option Quad) × (now : Option Quad) × (c : Setting) × (m : Mode) × (r ≡ Go u early now c m)
 
 -- what the machine saw when it refused a token for a reason
-abbrev Why : Sizes → State → Kind → Reply → Refusal → Type 0
-Why sizes s k r unexpected = r ≡ No
-Why sizes s k r unbound = (k ≢ IriRef) × Went r (stands None)
-Why sizes s k r no_base = ((k ≡ IriRef) × Went r (stands None)) ⊎ ((full : Bool) × Went r (binds full None))
-Why sizes s k r too_deep = ((deepens k && nat_le sizes.depth (depth s.mode)) ≡ true) × ((u : Use) × Went r u)
-Why sizes s k r iri_too_long = (u : Use) × (has_iri u ≡ true) × Went r u × IsLong sizes u
-Why sizes s k r too_many_bindings = (u : Use) × (has_iri u ≡ true) × Went r u × IsOneMore u × (IsLong sizes u → ⊥)
+abbrev Why : Sizes → State → Kind → Reply → Reason → Type 0
+Why sizes s k r Unexpected = r ≡ No
+Why sizes s k r Unbound = (k ≢ IriRef) × Went r (stands None)
+Why sizes s k r NoBase = ((k ≡ IriRef) × Went r (stands None)) ⊎ ((full : Bool) × Went r (binds full None))
+Why sizes s k r TooDeep = ((deepens k && nat_le sizes.depth (depth s.mode)) ≡ true) × ((u : Use) × Went r u)
+Why sizes s k r IriTooLong = (u : Use) × (has_iri u ≡ true) × Went r u × IsLong sizes u
+Why sizes s k r TooManyBindings = (u : Use) × (has_iri u ≡ true) × Went r u × IsOneMore u × (IsLong sizes u → ⊥)
+Why sizes s k r x = ⊥
 
 -- a reason that is the one reported
-because : (sizes : Sizes) (s : State) (k : Kind) (r : Reply) (x y : Refusal) → Answer.refuses x ≡ Answer.refuses y → Why sizes s k r x → Why sizes s k r y
+because : (sizes : Sizes) (s : State) (k : Kind) (r : Reply) (x y : Reason) → Answer.refuses x ≡ Answer.refuses y → Why sizes s k r x → Why sizes s k r y
 because sizes s k r x y e w = let z : x ≡ y = cc in subst (Why sizes s k r) z w
 
 -- a token without an IRI is refused for a missing base or an unbound prefix, by its kind
-unnamed_why : (sizes : Sizes) (s : State) (k : Kind) (r : Reply) (x : Refusal) → Went r (stands None) → refuses (unnamed k) ≡ refuses x → Why sizes s k r x
-unnamed_why sizes s IriRef r x w e = because sizes s IriRef r no_base x e (inl (refl, w))
-unnamed_why sizes s k r x w e = because sizes s k r unbound x e ((λ z. cc), w)
+unnamed_why : (sizes : Sizes) (s : State) (k : Kind) (r : Reply) (x : Reason) → Went r (stands None) → refuses (unnamed k) ≡ refuses x → Why sizes s k r x
+unnamed_why sizes s IriRef r x w e = because sizes s IriRef r NoBase x e (inl (refl, w))
+unnamed_why sizes s k r x w e = because sizes s k r Unbound x e ((λ z. cc), w)
 
 -- a test with a known outcome took one of its sides
 either : {T : Type 0} (b : Bool) (x y z : T) → cond b x y ≡ z → ((b ≡ true) × (x ≡ z)) ⊎ ((b ≡ false) × (y ≡ z))
 either true x y z e = inl (refl, e)
 either false x y z e = inr (refl, e)
 
-use_why : (sizes : Sizes) (s : State) (k : Kind) (r : Reply) (u : Use) (gs : List Quad) (n : State) (x : Refusal) → Went r u →
+use_why : (sizes : Sizes) (s : State) (k : Kind) (r : Reply) (u : Use) (gs : List Quad) (n : State) (x : Reason) → Went r u →
     by_use sizes k u (accepts gs n) ≡ refuses x → Why sizes s k r x
 use_why sizes s k r itself gs n x w e = absurd (let z : accepts gs n ≡ refuses x = e in cc)
 use_why sizes s k r (stands None) gs n x w e = unnamed_why sizes s k r x w e
 use_why sizes s k r (stands (Some i)) gs n x w e =
     ⊎_elim
-    (λ h. because sizes s k r iri_too_long x h.1 (stands (Some i), refl, w, ltb-true sizes.iri (byte_len i) h.0))
+    (λ h. because sizes s k r IriTooLong x h.1 (stands (Some i), refl, w, ltb-true sizes.iri (byte_len i) h.0))
     (λ h. absurd (let z : accepts gs n ≡ refuses x = h.1 in cc))
-    (either (too_long sizes i) (refuses iri_too_long) (accepts gs n) (refuses x) e)
-use_why sizes s k r (binds full None) gs n x w e = because sizes s k r no_base x e (inr (full, w))
+    (either (too_long sizes i) (refuses IriTooLong) (accepts gs n) (refuses x) e)
+use_why sizes s k r (binds full None) gs n x w e = because sizes s k r NoBase x e (inr (full, w))
 use_why sizes s k r (binds full (Some i)) gs n x w e =
     ⊎_elim
-    (λ h. because sizes s k r iri_too_long x h.1 (binds full (Some i), refl, w, ltb-true sizes.iri (byte_len i) h.0))
+    (λ h. because sizes s k r IriTooLong x h.1 (binds full (Some i), refl, w, ltb-true sizes.iri (byte_len i) h.0))
     (λ h.
     ⊎_elim
-    (λ g. because sizes s k r too_many_bindings x g.1 (
+    (λ g. because sizes s k r TooManyBindings x g.1 (
       binds full (Some i),
       refl,
       w,
@@ -187,19 +189,19 @@ use_why sizes s k r (binds full (Some i)) gs n x w e =
       λ l. let z : true ≡ false = sym (lt-ltb sizes.iri (byte_len i) l) ∙ h.0 in cc,
     ))
     (λ g. absurd (let z : accepts gs n ≡ refuses x = g.1 in cc))
-    (either full (refuses too_many_bindings) (accepts gs n) (refuses x) h.1))
-    (either (too_long sizes i) (refuses iri_too_long) (cond full (refuses too_many_bindings) (accepts gs n)) (refuses x) e)
+    (either full (refuses TooManyBindings) (accepts gs n) (refuses x) h.1))
+    (either (too_long sizes i) (refuses IriTooLong) (cond full (refuses TooManyBindings) (accepts gs n)) (refuses x) e)
 
 -- each refusal comes with what the machine saw, so that its reason can be shown to hold
-why : (sizes : Sizes) (s : State) (k : Kind) (w : Option Quad) (r : Reply) (x : Refusal) → answer sizes s k w r ≡ refuses x → Why sizes s k r x
-why sizes s k w No x e = because sizes s k No unexpected x e refl
+why : (sizes : Sizes) (s : State) (k : Kind) (w : Option Quad) (r : Reply) (x : Reason) → answer sizes s k w r ≡ refuses x → Why sizes s k r x
+why sizes s k w No x e = because sizes s k No Unexpected x e refl
 why sizes s k w (Go u early now c m) x e =
     let n : State = record { setting = c; mode = m; held = kept early (kept now []) } in
     let went : Went (Go u early now c m) u = (early, now, c, m, refl) in
     ⊎_elim
-    (λ h. because sizes s k (Go u early now c m) too_deep x h.1 (h.0, (u, went)))
+    (λ h. because sizes s k (Go u early now c m) TooDeep x h.1 (h.0, (u, went)))
     (λ h. use_why sizes s k (Go u early now c m) u (s.held ++ kept w []) n x went h.1)
-    (either (deepens k && nat_le sizes.depth (depth s.mode)) (refuses too_deep) (by_use sizes k u (accepts (s.held ++ kept w []) n)) (refuses x) e)
+    (either (deepens k && nat_le sizes.depth (depth s.mode)) (refuses TooDeep) (by_use sizes k u (accepts (s.held ++ kept w []) n)) (refuses x) e)
 
 -- the kinds of tokens that may stand for nothing
 name_kind : (s : InForce) (k : Kind) (l : Leaf) → k ≢ IriRef → IsUse s k l (stands None) → (k ≡ PnameLn) ⊎ (k ≡ PnameNs)
@@ -226,9 +228,9 @@ use_of : (form : DocForm) (c : Setting) (m : Mode) (k : Kind) (l : Leaf) (u : Us
 use_of form c m k l u (early, now, c1, m1, e) = (subst (Facts (depth m) c.scope k l) e (step_facts form c m k l)).1
 
 -- Each token that is refused is so for its reason.
-pub refused_for : (form : DocForm) (start : InForce) (ts : List Token) (t : Token) (s : State) (x : Refusal) →
+pub refused_for : (form : DocForm) (start : InForce) (ts : List Token) (t : Token) (s : State) (x : Reason) →
     reach true form (in_default start) Start ts ≡ Some (place s) →
-    accept form s t.kind (leaf_of t) ≡ refuses x → RefusedFor form start ts t x
+    accept form s t.kind (leaf_of t) ≡ refuses x → Blamed form start x ts t
 refused_for form start ts t s x e a =
     by x (why s.setting.scope.limits s t.kind (waiting s.setting s.mode t.kind (leaf_of t)) (step form s.setting s.mode t.kind (leaf_of t)) x a)
   where
@@ -250,20 +252,21 @@ refused_for form start ts t s x e a =
     limits : s.setting.scope.limits ≡ start.limits
     limits = same_limits form start ts (place s) e
 
-    by : (x : Refusal) → Why s.setting.scope.limits s t.kind (step form s.setting s.mode t.kind (leaf_of t)) x → RefusedFor form start ts t x
-    by unexpected w = (reached.unexpected form start ts t (place s) e w).1
-    by unbound w = (excluded (stands None) refl w.1, (name_kind s.setting.scope t.kind (leaf_of t) w.0 (used (stands None) w.1), placed (stands None) w.1))
-    by no_base (inl w) = (excluded (stands None) refl w.1, (w.0, inl (placed (stands None) w.1)))
-    by no_base (inr w) = (
+    by : (x : Reason) → Why s.setting.scope.limits s t.kind (step form s.setting s.mode t.kind (leaf_of t)) x → Blamed form start x ts t
+    by Unexpected w = (reached.unexpected form start ts t (place s) e w).1
+    by Unbound w = (excluded (stands None) refl w.1, (name_kind s.setting.scope t.kind (leaf_of t) w.0 (used (stands None) w.1), placed (stands None) w.1))
+    by NoBase (inl w) = (excluded (stands None) refl w.1, (w.0, inl (placed (stands None) w.1)))
+    by NoBase (inr w) = (
       excluded (binds w.0 None) refl w.1,
       (binding_kind s.setting.scope t.kind (leaf_of t) w.0 None (used (binds w.0 None) w.1), inr (w.0, placed (binds w.0 None) w.1)),
     )
-    by too_deep w =
+    by TooDeep w =
         let p = and_parts _ _ w.0 in
         let o = deepens_kind t.kind p.0 in
         let d : s.setting.scope.limits.depth ≤ depth s.mode = leb-true _ _ p.1 in
         let m : s.setting.scope.limits.depth ≡ start.limits.depth = ap (λ y. y.depth) limits in
         let z : open_in (ts ++ t ∷ []) ≡ depth s.mode + 1 = depth_with form ts t start (place s) e o.0 o.1 in
         (w.1.0, stood w.1.0 (deep_use s.setting.scope t.kind (leaf_of t) w.1.0 p.0 (used w.1.0 w.1.1)) w.1.1, (o.0, omega (arith, d, m, z)))
-    by iri_too_long w = (w.0, stood w.0 w.1 w.2, subst (λ y. IsLong y w.0) limits w.3)
-    by too_many_bindings w = (w.0, stood w.0 w.1 w.2, w.3, λ l. w.4 (subst (λ y. IsLong y w.0) (sym limits) l))
+    by IriTooLong w = (w.0, stood w.0 w.1 w.2, subst (λ y. IsLong y w.0) limits w.3)
+    by TooManyBindings w = (w.0, stood w.0 w.1 w.2, w.3, λ l. w.4 (subst (λ y. IsLong y w.0) (sym limits) l))
+    by x w = w

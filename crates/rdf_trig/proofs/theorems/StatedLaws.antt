@@ -5,6 +5,7 @@ use Rattle.rdf_tokens.specs.Grammars.{Marked, unmarked, items_below, Due, Rises}
 use Rattle.rdf_trig.specs.Documents.{documents}
 use Rattle.std.proofs.Common.{sym, ℕ, ◌∷◌, ◌++◌, ◌<◌, ◌≤◌, [], ap, refl, ◌∙◌, ⊎_elim, arith, length, ◌≡◌, List, subst}
 use Rattle.rdf_terms.specs.Terms.{Quad}
+use Rattle.rdf_terms.specs.declared.reason.Reason.{Reason}
 use Rattle.rdf_tokens.specs.Tokens.{Token}
 use Rattle.rdf_iri.specs.Scope.{InForce}
 use Rattle.rdf_tokens.specs.Leaves.{leaf_of}
@@ -13,7 +14,6 @@ use Rattle.rdf_trig.specs.Trees.{Document}
 use Rattle.rdf_trig.specs.TreeTokens.{document_tokens}
 use Rattle.rdf_trig.specs.TreeQuads.{document_quads}
 use Rattle.rdf_trig.specs.Events.{tokens, event_quads, document_events}
-use Rattle.rdf_trig.specs.Refused.{Refusal}
 use Rattle.rdf_trig.specs.Machine.{State, refuses, accept, at_start, ran, accept_all}
 use Rattle.rdf_trig.specs.Laws.{Reads, IsRefusedAfter}
 use Rattle.rdf_trig.proofs.trees.TokensOfEvents.{document_told}
@@ -37,7 +37,7 @@ pub begins : (form : DocForm) (start : InForce) (ts : List Token) (s : State) (q
 begins form start ts s qs e = record { front = front_all form start ts s qs e; due = due_ran form start ts s qs e }
 
 -- the law of refused tokens
-pub stops : (form : DocForm) (start : InForce) (ts : List Token) (t : Token) (more : List Token) (s : State) (qs : List Quad) (x : Refusal) →
+pub stops : (form : DocForm) (start : InForce) (ts : List Token) (t : Token) (more : List Token) (s : State) (qs : List Quad) (x : Reason) →
     accept_all form (at_start start) ts ≡ ran s qs →
     accept form s t.kind (leaf_of t) ≡ refuses x → IsRefusedAfter form start ts t more x
 stops form start ts t more s qs x e a = record {

@@ -16,5 +16,7 @@ returns g c =
       state = state_of r.rules.form r.scope r.state;
       held = grammar_bytes r.state r.scope;
     } in
-    subst (λ y. KnowsNext tree_words (λ x. trees x.form x.start) y c.args.kind c.step.result) c.self.view_is
-    (knows_next here c.args.kind c.step.result c.step.ensures)
+    record {
+      exact = subst (λ y. KnowsNext tree_words (λ x. trees x.form x.start) y c.args.kind c.step.result) c.self.view_is
+          (knows_next here c.args.kind c.step.result c.step.ensures);
+    }

@@ -5,10 +5,10 @@ use Rattle.rdf_tokens.specs.Scans.{token_of}
 use Rattle.rdf_driver.specs.Words.{Takes, Misses, KeepsLimits}
 use Rattle.rdf_trig.specs.declared.form.DocForm.{DocForm}
 use Rattle.rdf_trig.specs.declared.state.State.{State}
-use Rattle.rdf_trig.specs.Steps.{state_of}
+use Rattle.rdf_trig.specs.Steps.{reason_of, state_of}
 use Rattle.rdf_trig.specs.Owed.{most_kept}
 use Rattle.rdf_trig.specs.Holding.{grammar_bytes}
-use Rattle.rdf_trig.specs.Accepting.{TreeAt, reason_of, tree_words}
+use Rattle.rdf_trig.specs.Accepting.{TreeAt, tree_words}
 use Rattle.rdf_trig.proofs.code.AnswersOfSteps.{same_scope}
 use Rattle.rdf_trig.proofs.code.OpenLists.{open_within}
 use Rattle.rdf_trig.proofs.code.LawfulGrammar.{takes_token, misses_token}
