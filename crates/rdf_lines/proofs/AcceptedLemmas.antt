@@ -1,18 +1,18 @@
 -- A document within the limits is read to its end, and so is what was written.
-use Rattle.std.proofs.Common.{◌≡◌, ℕ, ◌≤◌, true, false, not, nat_lt, List, [], ◌∷◌, sym, ap, subst, Option, Some, None}
+use Rattle.std.proofs.Common.{◌≡◌, ℕ, ◌≤◌, true, false, not, nat_lt, List, sym, ap, subst, Option, Some, None}
 use Rattle.std.specs.List.{AllByRecursion}
-use Rattle.std.specs.Prelude.{map, option_map, encode_utf8_all}
+use Rattle.std.specs.Prelude.{flat_map, option_map, encode_utf8_all}
 use Rattle.std.proofs.lemmas.Bool.{and_from, le-ltb}
 use Rattle.rdf_terms.specs.declared.kind.Dialect.TheVariants.{Lines}
-use Rattle.rdf_terms.specs.Terms.{Subject, Iri, Blank, Term, Resource, Literal, Quad, has_scheme}
+use Rattle.rdf_terms.specs.Terms.{Quad, has_scheme}
 use Rattle.rdf_iri.specs.Texts.{byte_len}
 use Rattle.rdf_tokens.specs.Good.{tokens_of}
-use Rattle.rdf_tokens.specs.Grammars.{reading_of}
+use Rattle.rdf_tokens.specs.Grammars.{reading_of, IsReadToItsEnd}
 use Rattle.rdf_tokens.proofs.LanguageLemmas.{document_read, document_whole, read_to_its_end, refused_no_document}
 use Rattle.rdf_driver.proofs.PromiseLemmas.{read_goes_on}
 use Rattle.rdf_lines.specs.declared.form.LineForm.{LineForm}
 use Rattle.rdf_lines.specs.declared.form.LineForm.TheVariants.{NQuads}
-use Rattle.rdf_lines.specs.declared.form.Style.{Style}
+use Rattle.rdf_lines.specs.declared.form.Escapes.{Escapes}
 use Rattle.rdf_tokens.specs.Leaves.{iri_of}
 use Rattle.rdf_lines.specs.Lines.{Name, Ref, Lab, Object, Named, Plain, WithType, WithTag, Statement, Line, Document as Tree, last, next, subject_of, term_of, quad_of}
 use Rattle.rdf_lines.specs.GoodTrees.{name_bound, object_bound, graph_bound, GoodStatement, GoodDocument}
@@ -21,13 +21,13 @@ use Rattle.rdf_lines.specs.Lines as L
 use Rattle.rdf_lines.specs.Machine.{Begin, Finished, is_taken}
 use Rattle.rdf_lines.specs.Documents.{in_lines}
 use Rattle.rdf_lines.specs.Accepting.{line_words}
-use Rattle.rdf_lines.specs.Writing.{rename, text}
-use Rattle.rdf_lines.specs.NodeNames.{rename_subject, rename_term}
-use Rattle.rdf_lines.specs.Laws.{ReadQuadsAreDue, DocumentsAreRead, RefusedIsNoDocument, WrittenTextIsRead, SubjectWithin, TermWithin, GraphWithin, IrisWithin}
+use Rattle.rdf_lines.specs.Writing.{quad_text}
+use Rattle.rdf_lines.specs.Laws.{ReadQuadsAreDue, DocumentsAreRead, RefusedIsNoDocument, TokensWithin, SubjectWithin, TermWithin, GraphWithin, IrisWithin}
 use Rattle.rdf_lines.proofs.Runs.{run_document}
 use Rattle.rdf_lines.proofs.Refusals.{ran_none}
 use Rattle.rdf_lines.proofs.AcceptingLemmas.{lawful}
-use Rattle.rdf_lines.proofs.ReadBack.{tokens_tree, tokens_read_back}
+use Rattle.rdf_lines.proofs.ReadBack.{tokens_tree, tree_back}
+use Rattle.rdf_lines.proofs.SpelledLine.{Written}
 
 -- What a reader has put is due, by what the grammar promises.
 pub quads_due : ReadQuadsAreDue
@@ -82,42 +82,14 @@ tree_taken n f (last (L.one s) e) g w = statement_taken n f s g w.0
 tree_taken n f (next L.empty e d) g w = (tt, tree_taken n f d g.1 w)
 tree_taken n f (next (L.one s) e d) g w = (statement_taken n f s g.0 w.0, tree_taken n f d g.1 w.1)
 
--- renaming keeps the IRIs
-subject_renamed : (n : ℕ) (s : Style) (x : Subject) → SubjectWithin n x → SubjectWithin n (rename_subject s x)
-subject_renamed n s (Iri i) w = w
-subject_renamed n s (Blank b) w = tt
-
--- renaming the nodes of an object changes no IRI
-term_renamed : (n : ℕ) (s : Style) (x : Term) → TermWithin n x → TermWithin n (rename_term s x)
-term_renamed n s (Resource x) w = subject_renamed n s x w
-term_renamed n s (Literal l t) w = w
-
--- renaming the nodes of a graph label changes no IRI
-graph_renamed : (n : ℕ) (s : Style) (x : Option Subject) → GraphWithin n x → GraphWithin n (option_map (rename_subject s) x)
-graph_renamed n s None w = tt
-graph_renamed n s (Some x) w = subject_renamed n s x w
-
--- so the lines of quads have no longer IRIs than the quads
-all_renamed : (n : ℕ) (s : Style) (qs : List Quad) → AllByRecursion (IrisWithin n) qs → AllByRecursion (IrisWithin n) (map (rename s) qs)
-all_renamed n s [] w = tt
-all_renamed n s (q ∷ qs) w = (
-  record {
-    subject = subject_renamed n s q.subject w.0.subject;
-    predicate = w.0.predicate;
-    object = term_renamed n s q.object w.0.object;
-    graph = graph_renamed n s q.graph w.0.graph;
-  },
-  all_renamed n s qs w.1,
-)
-
--- The law: what is written for quads is read to its end, where no token of the lines and no IRI of the quads passes a limit.
-pub text_read : WrittenTextIsRead
-text_read s e qs limit n h t l w =
-    let bytes = encode_utf8_all (text s e qs) in
-    let b = tokens_tree s e qs limit h t l in
+-- What is written for quads whose nodes all have labels is read to its end, where no token of the lines and no IRI passes a limit.
+pub quads_read : (e : Escapes) (qs : List Quad) (limit iri : ℕ) → Written qs → 2 ≤ limit → AllByRecursion (TokensWithin e limit) qs →
+    AllByRecursion (IrisWithin iri) qs → IsReadToItsEnd (in_lines NQuads limit iri) (encode_utf8_all (flat_map (quad_text e) qs))
+quads_read e qs limit n h t l w =
+    let bytes = encode_utf8_all (flat_map (quad_text e) qs) in
+    let b = tokens_tree e qs limit h t l in
     let (tree, tokens, good, same) = b.1 in
     let ts = (tokens_of Lines limit bytes true).tokens in
-    let narrow = tree_taken n NQuads tree good (subst (AllByRecursion (IrisWithin n)) (sym same) (all_renamed n s qs w)) in
-    let none = ran_none n NQuads ts Begin Finished (map (rename s) qs) (run_document (is_taken n) NQuads ts (map (rename s) qs) (tree, tokens, narrow, same)) in
-    read_to_its_end (in_lines NQuads limit n) bytes
-    (document_whole (in_lines NQuads limit n) bytes (map (rename s) qs) (tokens_read_back s e qs limit h t l n) none)
+    let narrow = tree_taken n NQuads tree good (subst (AllByRecursion (IrisWithin n)) (sym same) w) in
+    let none = ran_none n NQuads ts Begin Finished qs (run_document (is_taken n) NQuads ts qs (tree, tokens, narrow, same)) in
+    read_to_its_end (in_lines NQuads limit n) bytes (document_whole (in_lines NQuads limit n) bytes qs (tree_back e qs limit b n) none)

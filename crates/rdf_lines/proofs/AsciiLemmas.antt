@@ -1,5 +1,5 @@
 -- In ASCII each byte that is written is below 128, where the labels have such characters alone.
-use Rattle.std.proofs.Common.{◌≡◌, ℕ, ◌<◌, ◌/◌, ◌%◌, zero, suc, Bool, true, false, List, [], ◌∷◌, ◌++◌, ◌==◌, nat_le, refl, sym, ap, ◌∙◌, subst, Option, Some, None, option_map, arith}
+use Rattle.std.proofs.Common.{◌≡◌, ℕ, ◌<◌, ◌/◌, ◌%◌, zero, suc, Bool, true, false, List, [], ◌∷◌, ◌++◌, ◌==◌, nat_le, refl, sym, ap, ◌∙◌, subst, Option, Some, None, arith}
 use Rattle.std.specs.Prelude.{flat_map, encode_utf8_all, decimal, bytes_eq}
 use Rattle.std.specs.Fmt.{digits, digits_onto, digit_glyph}
 use Rattle.std.specs.List.{AllByRecursion}
@@ -12,11 +12,9 @@ use Rattle.rdf_terms.specs.Shapes.{tag_name}
 use Rattle.rdf_terms.specs.Terms.{Node, Label, Anon, Cell, Tail, Lang, Typed, Subject, Iri, Blank, Term, Resource, Literal, Quad, xsd_string, IsTag, IsTail, IsTerm, IsQuad}
 use Rattle.rdf_terms.proofs.UsedCharacters.{uses, all_used}
 use Rattle.rdf_lines.specs.declared.form.Escapes.TheVariants.{Ascii}
-use Rattle.rdf_lines.specs.declared.form.Style.{Style}
-use Rattle.rdf_lines.specs.declared.form.Style.TheVariants.{Kept, Tagged}
-use Rattle.rdf_lines.specs.Writing.{uchar, written, escaped, iri_text, node_text, subject_text, string_text, type_text, tail_text, term_text, space, graph_text, line, text, rename_node, Writable, HasAsciiLabel, HasAsciiLabels}
-use Rattle.rdf_lines.specs.NodeNames.{rename_subject, rename_term, SubjectHasAsciiLabel, TermHasAsciiLabel, GraphHasAsciiLabel}
-use Rattle.rdf_lines.specs.Laws.{AsciiIsWritten}
+use Rattle.rdf_lines.specs.declared.form.Style.TheVariants.{Kept}
+use Rattle.rdf_lines.specs.Writing.{uchar, written, escaped, iri_text, node_text, subject_text, string_text, type_text, tail_text, term_text, space, graph_text, quad_text, Writable, HasAsciiLabel, HasAsciiLabels}
+use Rattle.rdf_lines.specs.NodeNames.{SubjectHasAsciiLabel, TermHasAsciiLabel, GraphHasAsciiLabel}
 use Rattle.rdf_lines.proofs.UcharLemmas.{uchar_low}
 
 abbrev AllLow : List ℕ → Type 0
@@ -85,19 +83,16 @@ pub number_low : (n : ℕ) → AllLow (decimal n)
 unfolding digits
 number_low n = digits_low 64 n [] tt
 
--- a label is ASCII where the document's was; a node's own name always is
-node_low : (s : Style) (n : Node) → HasAsciiLabel n → AllLow (node_text (rename_node s n))
-node_low Kept (Label x) h = (omega arith, (omega arith, h))
-node_low Kept (Anon n) h = tt
-node_low Kept (Cell n) h = tt
-node_low Tagged (Label x) h = (omega arith, (omega arith, (omega arith, h)))
-node_low Tagged (Anon n) h = (omega arith, (omega arith, (omega arith, number_low n)))
-node_low Tagged (Cell n) h = (omega arith, (omega arith, (omega arith, number_low n)))
+-- a label is ASCII where it has such characters alone
+node_low : (n : Node) → HasAsciiLabel n → AllLow (node_text n)
+node_low (Label x) h = (omega arith, (omega arith, h))
+node_low (Anon n) h = tt
+node_low (Cell n) h = tt
 
 -- so a subject is ASCII, be it an IRI or a node
-subject_low : (s : Style) (t : Subject) → SubjectHasAsciiLabel t → AllLow (subject_text Ascii (rename_subject s t))
-subject_low s (Iri i) h = iri_low i
-subject_low s (Blank n) h = node_low s n h
+subject_low : (t : Subject) → SubjectHasAsciiLabel t → AllLow (subject_text Ascii t)
+subject_low (Iri i) h = iri_low i
+subject_low (Blank n) h = node_low n h
 
 -- a tag has letters, digits and '-'
 tag_char : (c : ℕ) → uses tag_name c ≡ true → c < 128
@@ -123,39 +118,37 @@ tail_low (Lang t) h = (omega arith, tag_low t h)
 tail_low (Typed i) h = type_low (bytes_eq i xsd_string) i
 
 -- so an object is ASCII, part by part
-term_low : (s : Style) (t : Term) → IsTerm t → TermHasAsciiLabel t → AllLow (term_text Ascii (rename_term s t))
-term_low s (Resource r) f h = subject_low s r h
-term_low s (Literal w t) f h = joined (string_text Ascii w) (tail_text Ascii t) (string_low w) (tail_low t f.1)
+term_low : (t : Term) → IsTerm t → TermHasAsciiLabel t → AllLow (term_text Ascii t)
+term_low (Resource r) f h = subject_low r h
+term_low (Literal w t) f h = joined (string_text Ascii w) (tail_text Ascii t) (string_low w) (tail_low t f.1)
 
 -- the space between two terms is ASCII
 space_low : AllLow space
 space_low = (omega arith, tt)
 
 -- so a graph label is ASCII with its space, or nothing is there
-graph_low : (s : Style) (g : Option Subject) → GraphHasAsciiLabel g → AllLow (graph_text Ascii (option_map (rename_subject s) g))
-graph_low s None h = tt
-graph_low s (Some g) h = joined (subject_text Ascii (rename_subject s g)) space (subject_low s g h) space_low
+graph_low : (g : Option Subject) → GraphHasAsciiLabel g → AllLow (graph_text Ascii g)
+graph_low None h = tt
+graph_low (Some g) h = joined (subject_text Ascii g) space (subject_low g h) space_low
 
 -- a line is ASCII, part by part
-line_low : (s : Style) (q : Quad) → IsQuad q → HasAsciiLabels q → AllLow (line s Ascii q)
-line_low s q f h =
-    let u = subject_text Ascii (rename_subject s q.subject) ++ space in
+line_low : (q : Quad) → IsQuad q → HasAsciiLabels q → AllLow (quad_text Ascii q)
+line_low q f h =
+    let u = subject_text Ascii q.subject ++ space in
     let v = iri_text Ascii q.predicate ++ space in
-    let w = term_text Ascii (rename_term s q.object) ++ space in
-    let g = graph_text Ascii (option_map (rename_subject s) q.graph) in
-    let a = joined (subject_text Ascii (rename_subject s q.subject)) space (subject_low s q.subject h.subject) space_low in
+    let w = term_text Ascii q.object ++ space in
+    let g = graph_text Ascii q.graph in
+    let a = joined (subject_text Ascii q.subject) space (subject_low q.subject h.subject) space_low in
     let b = joined (iri_text Ascii q.predicate) space (iri_low q.predicate) space_low in
-    let c = joined (term_text Ascii (rename_term s q.object)) space (term_low s q.object f.object h.object) space_low in
+    let c = joined (term_text Ascii q.object) space (term_low q.object f.object h.object) space_low in
     joined (u ++ v ++ w ++ g ++ 46 ∷ []) (10 ∷ []) (joined (u ++ v ++ w ++ g) (46 ∷ [])
-    (joined (u ++ v ++ w) g (joined (u ++ v) w (joined u v a b) c) (graph_low s q.graph h.graph)) (omega arith, tt)) (omega arith, tt)
+    (joined (u ++ v ++ w) g (joined (u ++ v) w (joined u v a b) c) (graph_low q.graph h.graph)) (omega arith, tt)) (omega arith, tt)
 
 -- and so are all lines
-text_low : (s : Style) (qs : List Quad) → Writable s qs → AllByRecursion HasAsciiLabels qs → AllLow (text s Ascii qs)
-text_low s [] w h = tt
-text_low s (q ∷ qs) w h = joined (line s Ascii q) (text s Ascii qs) (line_low s q w.0.0 h.0) (text_low s qs w.1 h.1)
+text_low : (qs : List Quad) → Writable Kept qs → AllByRecursion HasAsciiLabels qs → AllLow (flat_map (quad_text Ascii) qs)
+text_low [] w h = tt
+text_low (q ∷ qs) w h = joined (quad_text Ascii q) (flat_map (quad_text Ascii) qs) (line_low q w.0.0 h.0) (text_low qs w.1 h.1)
 
--- the law: in the form that escapes all else, each byte of what is written is below 128
-pub ascii_written : AsciiIsWritten
-ascii_written s qs w h =
-    let a = text_low s qs w h in
-    subst AllLow (sym (low_encodes (text s Ascii qs) a)) a
+-- so in the form that escapes all else each byte is below 128, where all nodes have labels of such characters
+pub ascii_written : (qs : List Quad) → Writable Kept qs → AllByRecursion HasAsciiLabels qs → AllLow (encode_utf8_all (flat_map (quad_text Ascii) qs))
+ascii_written qs w h = let a = text_low qs w h in subst AllLow (sym (low_encodes (flat_map (quad_text Ascii) qs) a)) a

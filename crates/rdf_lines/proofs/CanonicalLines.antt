@@ -1,6 +1,6 @@
 -- Lines as they are written are read, wherever a line may begin.
 use Rattle.std.proofs.Common.{◌≡◌, ℕ, ◌+◌, ◌≤◌, Bool, true, false, List, [], ◌∷◌, ◌++◌, refl, sym, ap, ◌∙◌, subst, length, Option, Some, None, arith, length-append}
-use Rattle.std.specs.Prelude.{flat_map, option_map, bytes_eq}
+use Rattle.std.specs.Prelude.{flat_map, bytes_eq}
 use Rattle.std.specs.List.{AllByRecursion}
 use Rattle.std.specs.Str.{chars, IsUtf8}
 use Rattle.std.proofs.lemmas.Str.{chars-encodes}
@@ -22,9 +22,9 @@ use Rattle.rdf_lines.specs.GoodTrees.{GoodStatement}
 use Rattle.rdf_lines.specs.Laws.{IrisWithin}
 use Rattle.rdf_lines.specs.Machine.{Begin, AfterDot, ran, with_quad, run, is_taken}
 use Rattle.rdf_lines.specs.Canonical.{end_text, end_count, statement_text, ended_line, ended_lines, type_count, term_count, graph_count, quad_count, count, LabelFits, IsTaken, CanonicalLinesAreRead}
-use Rattle.rdf_lines.specs.Writing.{rename, quad_text, text}
-use Rattle.rdf_lines.specs.NodeNames.{rename_subject, rename_term}
+use Rattle.rdf_lines.specs.Writing.{rename_node, rename, quad_text, text}
 use Rattle.rdf_lines.proofs.AcceptedLemmas.{statement_taken}
+use Rattle.rdf_lines.proofs.NodePrefixLemmas.{quad_same}
 use Rattle.rdf_lines.proofs.Complete.{run_statement}
 use Rattle.rdf_lines.proofs.Runs.{with_quads, then, run_append}
 use Rattle.rdf_lines.proofs.SpelledLine.{AllShort, Spells, Written, alone, upto_object, upto_predicate, name_tree, typed_tree, object_tree, graph_tree, statement_tree, statement_meant, statement_short, short_both, spells_nothing, spells_then, spells_statement, spells_line_end, spells_cr}
@@ -43,32 +43,9 @@ abbrev lines_tokens : LineEnding → List Quad → Place → List Token
 lines_tokens ending [] p = []
 lines_tokens ending (q ∷ qs) p = quad_tokens ending q p ++ lines_tokens ending qs (past p (ended_line ending q))
 
--- what is written with the labels kept
-subject_kept : (s : Subject) → rename_subject Kept s ≡ s
-subject_kept (Iri i) = refl
-subject_kept (Blank n) = refl
-
--- with the labels kept an object is as it was
-term_kept : (t : Term) → rename_term Kept t ≡ t
-term_kept (Resource s) = ap Resource (subject_kept s)
-term_kept (Literal w t) = refl
-
--- and so is a graph label
-graph_kept : (g : Option Subject) → option_map (rename_subject Kept) g ≡ g
-graph_kept None = refl
-graph_kept (Some g) = ap (λ x. Some x) (subject_kept g)
-
--- and so is a quad, which lets the laws speak of the quads themselves
-pub kept : (q : Quad) → rename Kept q ≡ q
-kept q = fields (rename_subject Kept q.subject) (rename_term Kept q.object) (option_map (rename_subject Kept) q.graph)
-    (subject_kept q.subject) (term_kept q.object) (graph_kept q.graph)
-  where
-    fields : (s : Subject) (t : Term) (g : Option Subject) → s ≡ q.subject → t ≡ q.object → g ≡ q.graph →
-        (let x : Quad = record { subject = s; predicate = q.predicate; object = t; graph = g } in x) ≡ q
-    fields s t g a b c =
-        ap (λ (y : Subject). let x : Quad = record { subject = y; predicate = q.predicate; object = t; graph = g } in x) a
-        ∙ (ap (λ (y : Term). let x : Quad = record { subject = q.subject; predicate = q.predicate; object = y; graph = g } in x) b
-        ∙ ap (λ (y : Option Subject). let x : Quad = record { subject = q.subject; predicate = q.predicate; object = q.object; graph = y } in x) c)
+-- with the labels kept a quad is as it was, which lets the laws speak of the quads themselves
+kept : (q : Quad) → rename Kept q ≡ q
+kept q = quad_same (rename_node Kept) (λ n. refl) q
 
 -- so the text of quads is what `write_line` writes, line by line
 pub text_kept : (qs : List Quad) → text Kept Plain qs ≡ flat_map (quad_text Plain) qs

@@ -31,20 +31,18 @@ use Rattle.rdf_lines.specs.SplitLines.{split_lines, IsDocumentWithin, IsGoodLine
 use Rattle.rdf_lines.proofs.DocumentLines.{run_accepted}
 use Rattle.rdf_lines.proofs.SplitLemmas.{documents_lines, good_read}
 use Rattle.rdf_lines.specs.Accepting.{LineAt, line_words}
-use Rattle.rdf_lines.specs.Writing.{Writable, rename, rename_node, text}
+use Rattle.rdf_lines.specs.Writing.{Writable, rename, text}
 use Rattle.rdf_lines.specs.NodePrefixes.{Form, unprefixed, named, text_in}
 use Rattle.rdf_lines.specs.NodeNames.{name_node}
-use Rattle.rdf_lines.specs.Laws.{ReadsBack, ReadsBackIn, IrisWithin, TokensWithin}
-use Rattle.rdf_lines.proofs.AcceptedLemmas.{quads_due, documents_read, refused_none, text_read}
+use Rattle.rdf_lines.specs.Laws.{ReadsBack, IrisWithin, TokensWithin}
+use Rattle.rdf_lines.proofs.AcceptedLemmas.{quads_due, documents_read, refused_none}
 use Rattle.rdf_lines.proofs.Due.{due_ran}
 use Rattle.rdf_lines.proofs.SettledLemmas.{quads_settled, due_settled, due_begins}
-use Rattle.rdf_lines.proofs.AsciiLemmas.{ascii_written}
-use Rattle.rdf_lines.proofs.ReadBack.{bytes_read_back, tokens_read_back}
+use Rattle.rdf_lines.proofs.ReadBack.{tokens_tree, tree_back}
 use Rattle.rdf_lines.proofs.WellFormed.{document_writable}
-use Rattle.rdf_lines.proofs.WrittenLimits.{document_read_back, form_document_read}
-use Rattle.rdf_lines.proofs.FormReadBack.{form_reads_back, form_text_read, joined_read_back, form_ascii}
-use Rattle.rdf_lines.proofs.NodePrefixLemmas.{text_unprefixed, names_apart, forms_apart}
-use Rattle.rdf_lines.proofs.Renamed.{rename_injective}
+use Rattle.rdf_lines.proofs.WrittenLimits.{document_read_back}
+use Rattle.rdf_lines.proofs.FormReadBack.{named_writable, all_short, form_reads_back, form_text_read, joined_read_back, form_ascii}
+use Rattle.rdf_lines.proofs.NodePrefixLemmas.{no_change, names_apart, forms_apart}
 
 abbrev iri : List ℕ
 iri = codes "http://a/p"
@@ -74,8 +72,24 @@ tag_is : IsTag tag
 unfolding has
 tag_is = form-matches tag_name tag refl
 
--- what is written for the quads, with their nodes named by their offsets
-pub written : text Tagged Plain example ≡ codes "_:na27 <http://a/p> _:a27 .\n_:c27 <http://a/p> \"\\\"\\né\"@en-GB <http://a/p> .\n"
+-- with a word in front of the names
+abbrev word : List ℕ
+word = codes "a7"
+
+abbrev other : List ℕ
+other = codes "b7"
+
+abbrev with_word : Form
+with_word = record { style = Tagged; escapes = Plain; prefix = word }
+
+abbrev with_other : Form
+with_other = record { style = Tagged; escapes = Plain; prefix = other }
+
+abbrev in_ascii : Form
+in_ascii = record { style = Tagged; escapes = Ascii; prefix = word }
+
+-- what is written for the quads, with their nodes named by their offsets and the word
+pub written : text_in with_word example ≡ codes "_:a7na27 <http://a/p> _:a7a27 .\n_:a7c27 <http://a/p> \"\\\"\\né\"@en-GB <http://a/p> .\n"
 unfolding digits
 written = refl
 
@@ -89,17 +103,17 @@ writable = (
   ),
 )
 
--- what was written reads back as the quads
-pub example_reads_back : ReadsBack Tagged Plain example 80
+-- what was written reads back as the named quads
+pub example_reads_back : ReadsBack with_word example 86
 unfolding digits
-example_reads_back = bytes_read_back Tagged Plain example 80 writable (lit≤ tt)
+example_reads_back = form_reads_back with_word example 86 refl writable (lit≤ tt)
 
 -- in ASCII U+00E9 and U+1F600 are written as escapes, in strings and in IRIs, and each byte is below 128
 abbrev faces : List Quad
 faces = record { subject = Blank (Label label); predicate = codes "http://a/é"; object = Literal (0x1F600 ∷ []) (Lang tag); graph = None } ∷ []
 
 -- by the definition it is this text
-pub ascii_written_so : text Tagged Ascii faces ≡ codes "_:na27 <http://a/\\u00E9> \"\\U0001F600\"@en-GB .\n"
+pub ascii_written_so : text_in in_ascii faces ≡ codes "_:a7na27 <http://a/\\u00E9> \"\\U0001F600\"@en-GB .\n"
 ascii_written_so = refl
 
 -- they are quads that may be written
@@ -118,35 +132,12 @@ low_label : AllByRecursion (λ c. c < 128) label
 low_label = (lit< tt, (lit< tt, (lit< tt, tt)))
 
 -- so each byte is below 128
-pub ascii_is_low : AllByRecursion (λ b. b < 128) (encode_utf8_all (text Tagged Ascii faces))
-ascii_is_low = ascii_written Tagged faces faces_writable (record { subject = low_label; object = tt; graph = tt }, tt)
+pub ascii_is_low : AllByRecursion (λ b. b < 128) (encode_utf8_all (text_in in_ascii faces))
+ascii_is_low = form_ascii Tagged word faces refl faces_writable (record { subject = low_label; object = tt; graph = tt }, tt)
 
 -- and it reads back with limits of 60
-pub ascii_reads_back : ReadsBack Tagged Ascii faces 60
-ascii_reads_back = bytes_read_back Tagged Ascii faces 60 faces_writable (lit≤ tt)
-
--- with a word in front of the names
-abbrev word : List ℕ
-word = codes "a7"
-
-abbrev other : List ℕ
-other = codes "b7"
-
-abbrev with_word : Form
-with_word = record { style = Tagged; escapes = Plain; prefix = word }
-
-abbrev with_other : Form
-with_other = record { style = Tagged; escapes = Plain; prefix = other }
-
--- by the definition it is this text, with the word in each name
-pub prefixed_written : text_in with_word example ≡ codes "_:a7na27 <http://a/p> _:a7a27 .\n_:a7c27 <http://a/p> \"\\\"\\né\"@en-GB <http://a/p> .\n"
-unfolding digits
-prefixed_written = refl
-
--- which reads back as the named quads
-pub prefixed_reads_back : ReadsBackIn with_word example 86
-unfolding digits
-prefixed_reads_back = form_reads_back with_word example 86 refl writable (lit≤ tt)
+pub ascii_reads_back : ReadsBack in_ascii faces 60
+ascii_reads_back = form_reads_back in_ascii faces 60 refl faces_writable (lit≤ tt)
 
 -- two such texts in a row, whose nodes stay apart
 pub joined_reads_back : IsDocumentOf (in_lines NQuads 180 10) (encode_utf8_all (text_in with_word example) ++ encode_utf8_all (text_in with_other example))
@@ -161,23 +152,16 @@ one_label_in_two_documents_apart = forms_apart with_word with_other (Label label
     heads : {c d : ℕ} {u v : List ℕ} → c ∷ u ≡ d ∷ v → c ≡ d
     heads e = cc
 
--- a label that looks like an offset stays apart from the node of that offset, with a word too
-pub label_and_node_apart_with_a_word : name_node with_word (Label label) ≢ name_node with_word (Anon 27)
-label_and_node_apart_with_a_word e = let same : Label label ≡ Anon 27 = names_apart with_word (Label label) (Anon 27) label_is (lit< tt) e in cc
-
--- in ASCII with a word
-pub prefixed_is_low : AllByRecursion (λ b. b < 128) (encode_utf8_all (text_in (record { style = Tagged; escapes = Ascii; prefix = word }) faces))
-prefixed_is_low = form_ascii Tagged word faces refl faces_writable (record { subject = low_label; object = tt; graph = tt }, tt)
+-- a label that looks like an offset is kept apart from the node of that offset
+pub label_and_node_apart : name_node with_word (Label label) ≢ name_node with_word (Anon 27)
+label_and_node_apart e = let same : Label label ≡ Anon 27 = names_apart with_word (Label label) (Anon 27) label_is (lit< tt) e in cc
 
 -- the empty word changes nothing
-pub example_without_a_word : text_in (unprefixed Tagged Plain) example ≡ text Tagged Plain example
-example_without_a_word = text_unprefixed Tagged Plain example
+pub example_without_a_word : (text_in (unprefixed Tagged Plain) example ≡ text Tagged Plain example)
+    × (map (named (unprefixed Tagged Plain)) example ≡ map (rename Tagged) example)
+example_without_a_word = no_change Tagged Plain example
 
--- a label that looks like an offset is kept apart from the node of that offset
-pub label_and_node_apart : rename_node Tagged (Label label) ≢ rename_node Tagged (Anon 27)
-label_and_node_apart e = let same : Label label ≡ Anon 27 = rename_injective Tagged (Label label) (Anon 27) label_is (lit< tt) e in cc
-
--- the bytes of the two lines are read to their end, where a token may have 12 characters and an IRI 10 bytes
+-- the bytes of the two lines are read to their end, where a token may have 12 characters and the word, and an IRI 10 bytes
 short : AllByRecursion (IrisWithin 10) example
 unfolding encode
 short = (
@@ -186,9 +170,12 @@ short = (
 )
 
 abbrev bytes : List ℕ
-bytes = encode_utf8_all (text Tagged Plain example)
+bytes = encode_utf8_all (text_in with_word example)
 
--- no part of the lines is longer than 12 characters
+abbrev quads : List Quad
+quads = map (named with_word) example
+
+-- no part of the lines is longer than 12 characters without the word
 short_tokens : AllByRecursion (TokensWithin Plain 12) (map (rename Tagged) example)
 unfolding digits
 short_tokens = (
@@ -196,20 +183,18 @@ short_tokens = (
   (record { subject = lit≤ tt; predicate = lit≤ tt; object = (lit≤ tt, lit≤ tt); graph = lit≤ tt }, tt),
 )
 
--- the lines are read to their end under that limit
-pub example_is_read : IsReadToItsEnd (in_lines NQuads 12 10) bytes
-example_is_read = text_read Tagged Plain example 12 10 writable (lit≤ tt) short_tokens short
+-- the lines are read to their end under a limit that is higher by two
+pub example_is_read : IsReadToItsEnd (in_lines NQuads 14 10) bytes
+example_is_read = form_text_read with_word example 12 10 refl writable (lit≤ tt) short_tokens short
 
--- with a word of two characters, under one that is higher by two
-pub prefixed_is_read : IsReadToItsEnd (in_lines NQuads 14 10) (encode_utf8_all (text_in with_word example))
-prefixed_is_read = form_text_read with_word example 12 10 refl writable (lit≤ tt) short_tokens short
-
--- under a limit of 12 characters what was written reads back as the quads
-short_reads_back : ReadsBack Tagged Plain example 12
-short_reads_back = tokens_read_back Tagged Plain example 12 writable (lit≤ tt) short_tokens
+-- under it what was written reads back as the named quads
+short_reads_back : IsDocumentOf (in_lines NQuads 14 10) bytes quads
+short_reads_back =
+    let tree = tokens_tree Plain quads 14 (named_writable with_word example refl writable) (lit≤ tt) (all_short with_word 12 example short_tokens) in
+    tree_back Plain quads 14 tree 10
 
 -- they are refused nowhere, and are a document that is read
-within : IsWithin (in_lines NQuads 12 10) bytes
+within : IsWithin (in_lines NQuads 14 10) bytes
 unfolding digits encode
 within = record {
   tokens = λ v e. let z : complete ≡ token_too_long = sym example_is_read.whole.ends ∙ e in cc;
@@ -218,28 +203,21 @@ within = record {
 }
 
 -- no reason refuses them
-pub example_is_not_refused : (reason : Reason) (at : Place) → Refused (in_lines NQuads 12 10) bytes true reason at → ⊥
-example_is_not_refused reason at x = refused_none NQuads 12 10 bytes (map (rename Tagged) example) reason at x (short_reads_back 10) within
+pub example_is_not_refused : (reason : Reason) (at : Place) → Refused (in_lines NQuads 14 10) bytes true reason at → ⊥
+example_is_not_refused reason at x = refused_none NQuads 14 10 bytes quads reason at x short_reads_back within
 
 -- before the first byte more may come
-pub example_goes_on : GoesOn (in_lines NQuads 12 10) []
-example_goes_on = (documents_read NQuads 12 10 bytes (map (rename Tagged) example) (short_reads_back 10) within).fronts [] bytes refl
+pub example_goes_on : GoesOn (in_lines NQuads 14 10) []
+example_goes_on = (documents_read NQuads 14 10 bytes quads short_reads_back within).fronts [] bytes refl
 
 -- their quads can be written as they are, and what is written for them is read with limits of 64
-pub example_is_writable : Writable Kept (map (rename Tagged) example)
-example_is_writable = document_writable NQuads 12 10 bytes (map (rename Tagged) example) (short_reads_back 10)
+pub example_is_writable : Writable Kept quads
+example_is_writable = document_writable NQuads 14 10 bytes quads short_reads_back
 
--- the lines of renamed quads are read to their end
-pub example_lines_are_read : IsReadToItsEnd (in_lines NQuads 64 64) (encode_utf8_all (text Kept Plain (map (rename Tagged) example)))
+-- the lines of the named quads are read to their end, where a token may have two characters more
+pub example_lines_are_read : IsReadToItsEnd (in_lines NQuads 66 64) (encode_utf8_all (text_in (record { style = Kept; escapes = Plain; prefix = word }) quads))
 example_lines_are_read =
-    document_read_back Plain NQuads 12 10 bytes (map (rename Tagged) example) (short_reads_back 10) example_is_read.whole 64 64 (lit≤ tt)
-    (lit≤ tt) (lit≤ tt) (lit≤ tt) (lit≤ tt)
-
--- and with a word, where a token may have two characters more
-pub prefixed_lines_are_read : IsReadToItsEnd (in_lines NQuads 66 64)
-    (encode_utf8_all (text_in (record { style = Kept; escapes = Plain; prefix = word }) (map (rename Tagged) example)))
-prefixed_lines_are_read =
-    form_document_read Plain word NQuads 12 10 bytes (map (rename Tagged) example) refl (short_reads_back 10) example_is_read.whole 64 64
+    document_read_back Plain word NQuads 14 10 bytes quads refl short_reads_back example_is_read.whole 64 64
     (lit≤ tt) (lit≤ tt) (lit≤ tt) (lit≤ tt) (lit≤ tt)
 
 -- a line of N-Triples
@@ -313,10 +291,10 @@ pub text_is_split : split_lines (codes "a\r\n\nb") ≡ codes "a\r" ∷ codes "\n
 text_is_split = refl
 
 -- each of the two written lines is a document, and they have the quads of both
-pub example_is_its_lines : AreGoodLines (in_lines NQuads 12 10) true (split_lines bytes) (map (rename Tagged) example)
+pub example_is_its_lines : AreGoodLines (in_lines NQuads 14 10) true (split_lines bytes) quads
 unfolding digits encode
-example_is_its_lines = (documents_lines NQuads 12 10 bytes (map (rename Tagged) example) (lit≤ tt)).0
-    (record { document = short_reads_back 10; within = within })
+example_is_its_lines = (documents_lines NQuads 14 10 bytes quads (lit≤ tt)).0
+    (record { document = short_reads_back; within = within })
 
 -- a line without a token, and an empty one
 abbrev two_lines : List ℕ

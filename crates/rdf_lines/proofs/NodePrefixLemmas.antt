@@ -1,6 +1,6 @@
 -- Names with a word in front: they stay well formed and apart, and without a word they are as they were.
-use Rattle.std.proofs.Common.{◌≡◌, ℕ, ◌<◌, ◌⊎◌, true, List, [], ◌∷◌, ◌++◌, length, take, refl, sym, ap, ◌∙◌, Option, Some, None, ⊎_elim, inl, inr, arith}
-use Rattle.std.specs.Prelude.{decimal}
+use Rattle.std.proofs.Common.{◌≡◌, ℕ, ◌<◌, ◌⊎◌, true, List, [], ◌∷◌, ◌++◌, length, take, refl, sym, ap, ◌∙◌, subst, Option, Some, None, ⊎_elim, inl, inr, arith}
+use Rattle.std.specs.Prelude.{decimal, map, option_map}
 use Rattle.std.specs.List.{AllByRecursion}
 use Rattle.std.specs.Str.{chars}
 use mathlib.Core.Bool.{Bool-set}
@@ -13,53 +13,67 @@ use Rattle.std.proofs.lemmas.Str.{chars-nil}
 use Rattle.rdf_terms.specs.declared.kind.Dialect.TheVariants.{Lines}
 use Rattle.rdf_terms.specs.Classes.{has, is_letter, is_digit}
 use Rattle.rdf_terms.specs.Classes.Class.{digit, pn_u}
-use Rattle.rdf_terms.specs.Terms.{Node, Label, Anon, Cell, Subject, Iri, Blank, Term, Resource, Literal, Quad, all_have, IsLabel, IsNode, IsSubject, IsTerm, IsGraph, IsQuad}
+use Rattle.rdf_terms.specs.Terms.{Node, Label, Anon, Cell, Subject, Iri, Blank, Term, Resource, Literal, Quad, all_have, IsLabel, IsNode}
 use Rattle.rdf_lines.specs.declared.form.Escapes.{Escapes}
 use Rattle.rdf_lines.specs.declared.form.Style.{Style}
 use Rattle.rdf_lines.specs.declared.form.Style.TheVariants.{Kept, Tagged}
-use Rattle.rdf_lines.specs.Writing.{rename_node, rename, quad_text, line, CanWriteNode, CanWrite, HasAsciiLabel}
-use Rattle.rdf_lines.specs.NodePrefixes.{is_word_char, IsNodePrefix, prefix_node, put_prefix, Form, unprefixed, line_in, text_in}
-use Rattle.rdf_lines.specs.NodeNames.{CanWriteSubject, CanWriteTerm, CanWriteGraph, prefix_subject, prefix_term, prefix_graph, name_node}
-use Rattle.rdf_lines.specs.Laws.{PrefixedNamesStayApart, PrefixesKeepApart, NoPrefixIsNoChange}
+use Rattle.rdf_lines.specs.Writing.{rename_node, map_subject, map_term, map_nodes, rename, quad_text, line, text, CanWriteNode, HasAsciiLabel}
+use Rattle.rdf_lines.specs.NodePrefixes.{is_word_char, IsNodePrefix, prefix_node, put_prefix, Form, unprefixed, named, line_in, text_in}
+use Rattle.rdf_lines.specs.NodeNames.{name_node}
+use Rattle.rdf_lines.specs.Laws.{NamesStayApart, PrefixesKeepApart, NoPrefixIsNoChange}
 use Rattle.rdf_lines.proofs.AsciiLemmas.{joined, number_low}
-use Rattle.rdf_lines.proofs.Renamed.{label_front, rename_injective}
+use Rattle.rdf_lines.proofs.Renamed.{label_front, renamed_node, rename_injective}
+
+-- Where each node stays as it is, so does a quad.
+module _ (f : Node → Node) (same : (n : Node) → f n ≡ n) where
+  -- an IRI or a node
+  subject_same : (s : Subject) → map_subject f s ≡ s
+  subject_same (Iri i) = refl
+  subject_same (Blank n) = ap Blank (same n)
+
+  -- so does an object
+  term_same : (t : Term) → map_term f t ≡ t
+  term_same (Resource s) = ap Resource (subject_same s)
+  term_same (Literal w t) = refl
+
+  -- so does a graph label
+  graph_same : (g : Option Subject) → option_map (map_subject f) g ≡ g
+  graph_same None = refl
+  graph_same (Some g) = ap Some (subject_same g)
+
+  -- so do all parts
+  pub quad_same : (q : Quad) → map_nodes f q ≡ q
+  quad_same q =
+      ap (λ s. record { subject = s; predicate = q.predicate; object = map_term f q.object; graph = option_map (map_subject f) q.graph })
+      (subject_same q.subject)
+      ∙ (ap (λ t. record { subject = q.subject; predicate = q.predicate; object = t; graph = option_map (map_subject f) q.graph }) (term_same q.object)
+      ∙ ap (λ (g : Option Subject). record { subject = q.subject; predicate = q.predicate; object = q.object; graph = g }) (graph_same q.graph))
 
 -- The empty word changes nothing.
-node_same : (n : Node) → prefix_node [] n ≡ n
-node_same (Label x) = refl
-node_same (Anon n) = refl
-node_same (Cell n) = refl
+put_nothing : (q : Quad) → put_prefix [] q ≡ q
+put_nothing q = quad_same (prefix_node []) node_same q
+  where
+    node_same : (n : Node) → prefix_node [] n ≡ n
+    node_same (Label x) = refl
+    node_same (Anon n) = refl
+    node_same (Cell n) = refl
 
--- so an IRI or a node stays as it is
-subject_same : (s : Subject) → prefix_subject [] s ≡ s
-subject_same (Iri i) = refl
-subject_same (Blank n) = ap Blank (node_same n)
-
--- so does an object
-term_same : (t : Term) → prefix_term [] t ≡ t
-term_same (Resource s) = ap Resource (subject_same s)
-term_same (Literal w t) = refl
-
--- so does a graph label
-graph_same : (g : Option Subject) → prefix_graph [] g ≡ g
-graph_same None = refl
-graph_same (Some g) = ap Some (subject_same g)
-
--- so the quad stays as it is
-pub put_nothing : (q : Quad) → put_prefix [] q ≡ q
-put_nothing q =
-    ap (λ s. record { subject = s; predicate = q.predicate; object = prefix_term [] q.object; graph = prefix_graph [] q.graph }) (subject_same q.subject)
-    ∙ (ap (λ t. record { subject = q.subject; predicate = q.predicate; object = t; graph = prefix_graph [] q.graph }) (term_same q.object)
-    ∙ ap (λ (g : Option Subject). record { subject = q.subject; predicate = q.predicate; object = q.object; graph = g }) (graph_same q.graph))
-
--- and the line is that of the style and the escapes
+-- so the line is that of the style and the escapes
 pub line_unprefixed : (s : Style) (e : Escapes) (q : Quad) → line_in (unprefixed s e) q ≡ line s e q
 line_unprefixed s e q = ap (quad_text e) (put_nothing (rename s q))
 
 -- line by line
-pub text_unprefixed : NoPrefixIsNoChange
+pub text_unprefixed : (s : Style) (e : Escapes) (qs : List Quad) → text_in (unprefixed s e) qs ≡ text s e qs
 text_unprefixed s e [] = refl
 text_unprefixed s e (q ∷ qs) = ap (λ x. x ++ text_in (unprefixed s e) qs) (line_unprefixed s e q) ∙ ap (λ x. line s e q ++ x) (text_unprefixed s e qs)
+
+-- and the nodes are named as the style names them
+pub no_change : NoPrefixIsNoChange
+no_change s e qs = (text_unprefixed s e qs, names s e qs)
+  where
+    names : (s : Style) (e : Escapes) (qs : List Quad) → map (named (unprefixed s e)) qs ≡ map (rename s) qs
+    names s e [] = refl
+    names s e (q ∷ qs) = ap (λ x. x ∷ map (named (unprefixed s e)) qs) (put_nothing (rename s q)) ∙ ap (λ x. rename s q ∷ x) (names s e qs)
 
 -- there is no character in the empty text, so it is a word
 pub no_chars : chars [] ≡ []
@@ -81,36 +95,14 @@ prefixed_label (c ∷ p) h x l =
     let a = and_parts (is_word_char c) (all_have is_word_char p) h in
     label_front c (p ++ x) (word_begins c a.0) (prefixed_label p a.1 x l)
 
--- so a node with a word in front can be written
-prefixed_node : (p : List ℕ) → IsNodePrefix p → (n : Node) → IsNode n → CanWriteNode Kept n → IsNode (prefix_node p n) × CanWriteNode Kept (prefix_node p n)
-prefixed_node p h (Label x) i c = (prefixed_label p h x i, tt)
-prefixed_node p h (Anon n) i c = absurd c
-prefixed_node p h (Cell n) i c = absurd c
-
--- and so can a subject
-prefixed_subject : (p : List ℕ) → IsNodePrefix p → (s : Subject) → IsSubject s → CanWriteSubject Kept s →
-    IsSubject (prefix_subject p s) × CanWriteSubject Kept (prefix_subject p s)
-prefixed_subject p h (Iri i) f c = (f, tt)
-prefixed_subject p h (Blank n) f c = prefixed_node p h n f c
-
--- and so can an object
-prefixed_term : (p : List ℕ) → IsNodePrefix p → (t : Term) → IsTerm t → CanWriteTerm Kept t → IsTerm (prefix_term p t) × CanWriteTerm Kept (prefix_term p t)
-prefixed_term p h (Resource s) f c = prefixed_subject p h s f c
-prefixed_term p h (Literal w t) f c = (f, tt)
-
--- and so can a graph label
-prefixed_graph : (p : List ℕ) → IsNodePrefix p → (g : Option Subject) → IsGraph g → CanWriteGraph Kept g →
-    IsGraph (prefix_graph p g) × CanWriteGraph Kept (prefix_graph p g)
-prefixed_graph p h None f c = (tt, tt)
-prefixed_graph p h (Some g) f c = prefixed_subject p h g f c
-
--- a quad whose nodes have labels stays well formed, and they have labels still
-pub prefixed : (p : List ℕ) → IsNodePrefix p → (q : Quad) → IsQuad q → CanWrite Kept q → IsQuad (put_prefix p q) × CanWrite Kept (put_prefix p q)
-prefixed p h q f c =
-    let a = prefixed_subject p h q.subject f.subject c.subject in
-    let b = prefixed_term p h q.object f.object c.object in
-    let d = prefixed_graph p h q.graph f.graph c.graph in
-    (record { subject = a.0; predicate = f.predicate; object = b.0; graph = d.0 }, record { subject = a.1; object = b.1; graph = d.1 })
+-- so a node that a form names is one still
+pub named_node : (f : Form) → IsNodePrefix f.prefix → (n : Node) → IsNode n → IsNode (name_node f n)
+named_node f h n i = prefixed_node (rename_node f.style n) (renamed_node f.style n i)
+  where
+    prefixed_node : (n : Node) → IsNode n → IsNode (prefix_node f.prefix n)
+    prefixed_node (Label x) i = prefixed_label f.prefix h x i
+    prefixed_node (Anon n) i = i
+    prefixed_node (Cell n) i = i
 
 -- A word in front keeps names apart.
 prefix_injective : (p : List ℕ) (m n : Node) → prefix_node p m ≡ prefix_node p n → m ≡ n
@@ -125,7 +117,7 @@ prefix_injective p (Cell m) (Anon n) e = e
 prefix_injective p (Cell m) (Cell n) e = e
 
 -- so in one form no two nodes have one name
-pub names_apart : PrefixedNamesStayApart
+pub names_apart : NamesStayApart
 names_apart f m n g h e = rename_injective f.style m n g h (prefix_injective f.prefix (rename_node f.style m) (rename_node f.style n) e)
 
 -- Labels with two words of one length in front are equal only where the words are.
@@ -140,6 +132,10 @@ labelled Kept (Cell n) c = absurd c
 labelled Tagged (Label x) c = (110 ∷ x, refl)
 labelled Tagged (Anon n) c = (97 ∷ decimal n, refl)
 labelled Tagged (Cell n) c = (99 ∷ decimal n, refl)
+
+-- so it can be written as the form names it
+pub named_label : (f : Form) (n : Node) → CanWriteNode f.style n → CanWriteNode Kept (name_node f n)
+named_label f n c = subst (λ m. CanWriteNode Kept (prefix_node f.prefix m)) (sym (labelled f.style n c).1) tt
 
 -- so the names of two forms are apart
 pub forms_apart : PrefixesKeepApart

@@ -1,6 +1,6 @@
 -- Renamed nodes have labels.
 use Rattle.std.proofs.Common.{◌≡◌, ◌⊎◌, ℕ, ◌+◌, ◌<◌, ◌^◌, ◌%◌, Bool, true, false, List, [], ◌∷◌, ◌++◌, inl, inr, refl, sym, ap, ◌∙◌, subst, ⊎_elim, append_assoc, arith}
-use Rattle.std.specs.Prelude.{decimal, Option, Some, None, option_map, ◌&&◌, ◌||◌, ◌==◌}
+use Rattle.std.specs.Prelude.{decimal, ◌&&◌, ◌||◌, ◌==◌}
 use Rattle.std.specs.List.{concat, AllByRecursion}
 use Rattle.std.proofs.lemmas.Bool.{false≢true}
 use Rattle.std.proofs.lemmas.Bool.Decides.{nat_tests}
@@ -12,11 +12,10 @@ use Rattle.rdf_terms.specs.Classes.Class.{digit, pn_u, pn_char}
 use Rattle.rdf_terms.specs.Regex.{Regex, Matches, ◌·◌, ◌∣◌}
 use Rattle.rdf_terms.specs.Regex.Regex.{one, many}
 use Rattle.rdf_terms.specs.Shapes.{dot, optional}
-use Rattle.rdf_terms.specs.Terms.{Node, Label, Anon, Cell, Subject, Iri, Blank, Term, Resource, Literal, Quad, IsLabel, IsNode, IsSubject, IsTerm, IsGraph, IsQuad}
+use Rattle.rdf_terms.specs.Terms.{Node, Label, Anon, Cell, IsLabel, IsNode}
 use Rattle.rdf_lines.specs.declared.form.Style.{Style}
 use Rattle.rdf_lines.specs.declared.form.Style.TheVariants.{Kept, Tagged}
-use Rattle.rdf_lines.specs.Writing.{rename_node, rename, CanWriteNode, CanWrite}
-use Rattle.rdf_lines.specs.NodeNames.{rename_subject, rename_term, CanWriteSubject, CanWriteTerm, CanWriteGraph}
+use Rattle.rdf_lines.specs.Writing.{rename_node}
 
 -- what may stand inside a label
 abbrev middle : Regex
@@ -108,37 +107,13 @@ label_number c h =
     (λ n l. label_more (c ∷ []) (48 + n) (digit_at n l) (letter_label c h))
     (λ n ds l m. label_more (c ∷ ds) (48 + n % 10) (digit_at (n % 10) (omega arith)) m)
 
--- a node that a style names has a label and can be written
-renamed_node : (s : Style) (n : Node) → IsNode n → CanWriteNode s n → IsNode (rename_node s n) × CanWriteNode Kept (rename_node s n)
+-- a node that a style names is one still
+pub renamed_node : (s : Style) (n : Node) → IsNode n → IsNode (rename_node s n)
 unfolding has
-renamed_node Kept n h c = (h, c)
-renamed_node Tagged (Label x) h c = (label_front 110 x (inl refl) h, tt)
-renamed_node Tagged (Anon n) h c = (label_number 97 refl n h, tt)
-renamed_node Tagged (Cell n) h c = (label_number 99 refl n h, tt)
-
--- a subject whose node a style names has a label and can be written
-renamed_subject : (s : Style) (t : Subject) → IsSubject t → CanWriteSubject s t → IsSubject (rename_subject s t) × CanWriteSubject Kept (rename_subject s t)
-renamed_subject s (Iri i) h c = (h, tt)
-renamed_subject s (Blank n) h c = renamed_node s n h c
-
--- an object whose node a style names has a label and can be written
-renamed_term : (s : Style) (t : Term) → IsTerm t → CanWriteTerm s t → IsTerm (rename_term s t) × CanWriteTerm Kept (rename_term s t)
-renamed_term s (Resource t) h c = renamed_subject s t h c
-renamed_term s (Literal w t) h c = (h, tt)
-
--- a graph label whose node a style names has a label and can be written
-renamed_graph : (s : Style) (g : Option Subject) → IsGraph g → CanWriteGraph s g →
-    IsGraph (option_map (rename_subject s) g) × CanWriteGraph Kept (option_map (rename_subject s) g)
-renamed_graph s None h c = (tt, tt)
-renamed_graph s (Some g) h c = renamed_subject s g h c
-
--- a renamed quad is well formed, and can be written as it is
-pub renamed : (s : Style) (q : Quad) → IsQuad q → CanWrite s q → IsQuad (rename s q) × CanWrite Kept (rename s q)
-renamed s q h c =
-    let a = renamed_subject s q.subject h.subject c.subject in
-    let b = renamed_term s q.object h.object c.object in
-    let d = renamed_graph s q.graph h.graph c.graph in
-    (record { subject = a.0; predicate = h.predicate; object = b.0; graph = d.0 }, record { subject = a.1; object = b.1; graph = d.1 })
+renamed_node Kept n h = h
+renamed_node Tagged (Label x) h = label_front 110 x (inl refl) h
+renamed_node Tagged (Anon n) h = label_number 97 refl n h
+renamed_node Tagged (Cell n) h = label_number 99 refl n h
 
 -- equal labels begin alike, which keeps the three sorts of names apart
 same_head : {c d : ℕ} {u v : List ℕ} → Label (c ∷ u) ≡ Label (d ∷ v) → c ≡ d

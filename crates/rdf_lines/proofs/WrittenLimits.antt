@@ -31,10 +31,9 @@ use Rattle.rdf_lines.specs.Documents.{Passes, in_lines}
 use Rattle.rdf_lines.specs.NodePrefixes.{Form}
 use Rattle.rdf_lines.specs.Writing.{uchar, written, escaped, iri_text, subject_text, string_text, rename, Writable}
 use Rattle.rdf_lines.specs.NodeNames.{rename_subject, rename_term}
-use Rattle.rdf_lines.specs.Laws.{string_width, iri_width, WrittenDocumentIsRead, PrefixedDocumentIsRead, SubjectWithin, TermWithin, GraphWithin, IrisWithin, TermShort, GraphShort, TokensWithin}
+use Rattle.rdf_lines.specs.Laws.{string_width, iri_width, WrittenDocumentIsRead, SubjectWithin, TermWithin, GraphWithin, IrisWithin, TermShort, GraphShort, TokensWithin}
 use Rattle.rdf_lines.proofs.LinesLemmas.{without_marks}
 use Rattle.rdf_lines.proofs.UcharLemmas.{written_cases, uchar_cases}
-use Rattle.rdf_lines.proofs.AcceptedLemmas.{text_read}
 use Rattle.rdf_lines.proofs.FormReadBack.{form_text_read}
 use Rattle.rdf_lines.proofs.GoodTreesLemmas.{split}
 use Rattle.rdf_lines.proofs.WellFormed.{document_writable}
@@ -265,13 +264,7 @@ fitting x form limit n bytes qs document whole token_then iri_then a b c d e =
 
 -- the law that what was written is read to its end
 pub document_read_back : WrittenDocumentIsRead
-document_read_back x form limit n bytes qs document whole token_then iri_then a b c d e =
-    let fits = fitting x form limit n bytes qs document whole token_then iri_then a b c d e in
-    text_read Kept x qs token_then iri_then fits.writable fits.least fits.shorts fits.iris
-
--- and with a word in front of the names
-pub form_document_read : PrefixedDocumentIsRead
-form_document_read x p form limit n bytes qs word document whole token_then iri_then a b c d e =
+document_read_back x p form limit n bytes qs word document whole token_then iri_then a b c d e =
     let fits = fitting x form limit n bytes qs document whole token_then iri_then a b c d e in
     let f : Form = record { style = Kept; escapes = x; prefix = p } in
     form_text_read f qs token_then iri_then word fits.writable fits.least fits.shorts fits.iris

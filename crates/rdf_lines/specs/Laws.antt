@@ -23,9 +23,14 @@ use Rattle.rdf_lines.specs.NodePrefixes.{IsNodePrefix, Form, unprefixed, named, 
 use Rattle.rdf_lines.specs.Writing.{CanWriteNode, rename, iri_text, subject_text, string_text, text, Writable, HasAsciiLabels}
 use Rattle.rdf_lines.specs.NodeNames.{name_node}
 
--- The written bytes are a document of N-Quads whose quads are the renamed ones, whatever the limit on IRIs.
-abbrev pub ReadsBack : Style → Escapes → List Quad → ℕ → Type 0
-ReadsBack s e qs limit = (iri : ℕ) → IsDocumentOf (in_lines NQuads limit iri) (encode_utf8_all (text s e qs)) (map (rename s) qs)
+-- The written bytes are a document of N-Quads whose quads are these, their nodes named by the form, whatever the limit on IRIs.
+abbrev pub ReadsBack : Form → List Quad → ℕ → Type 0
+ReadsBack f qs limit = (iri : ℕ) → IsDocumentOf (in_lines NQuads limit iri) (encode_utf8_all (text_in f qs)) (map (named f) qs)
+
+-- What is written in a form reads back.
+abbrev pub WrittenTextReadsBack : Type 0
+WrittenTextReadsBack = (f : Form) (qs : List Quad) (limit : ℕ) →
+    IsNodePrefix f.prefix → Writable f.style qs → length (text_in f qs) ≤ limit → ReadsBack f qs limit
 
 -- Every tree of the same tokens has the same quads, with the same marks.
 abbrev pub TokensSettleTheQuads : Type 0
@@ -124,11 +129,12 @@ pub record TokensWithin (e : Escapes) (n : ℕ) (q : Quad) : Type 0 where
   pub object : TermShort e n q.object
   pub graph : GraphShort e n q.graph
 
--- What is written for quads is read to its end as N-Quads, where no token of the lines and no IRI of the quads passes a limit; `^^` has two characters.
+-- What is written for quads is read to its end as N-Quads, where no token of the lines without the word and no IRI of the quads passes a limit:
+-- the word takes its length of a limit on tokens, and nothing else. `^^` has two characters.
 abbrev pub WrittenTextIsRead : Type 0
-WrittenTextIsRead = (s : Style) (e : Escapes) (qs : List Quad) (limit iri : ℕ) → Writable s qs → 2 ≤ limit →
-    AllByRecursion (TokensWithin e limit) (map (rename s) qs) → AllByRecursion (IrisWithin iri) qs →
-    IsReadToItsEnd (in_lines NQuads limit iri) (encode_utf8_all (text s e qs))
+WrittenTextIsRead = (f : Form) (qs : List Quad) (limit iri : ℕ) → IsNodePrefix f.prefix → Writable f.style qs → 2 ≤ limit →
+    AllByRecursion (TokensWithin f.escapes limit) (map (rename f.style) qs) → AllByRecursion (IrisWithin iri) qs →
+    IsReadToItsEnd (in_lines NQuads (length f.prefix + limit) iri) (encode_utf8_all (text_in f qs))
 
 -- The quads of a document are well formed, and each of their nodes has a label.
 abbrev pub DocumentIsWritable : Type 0
@@ -144,43 +150,17 @@ abbrev pub iri_width : Escapes → ℕ
 iri_width Plain = 1
 iri_width Ascii = 3
 
--- What is written, with the labels kept, for a document within some limits is read to its end with limits that are higher by what the escapes take.
+-- What is written, with the labels kept, for a document within some limits is read to its end with limits that are higher by what the escapes take,
+-- and that on tokens by the word's length.
 abbrev pub WrittenDocumentIsRead : Type 0
-WrittenDocumentIsRead = (e : Escapes) (form : LineForm) (token iri : ℕ) (bytes : List ℕ) (qs : List Quad) →
-    IsDocumentOf (in_lines form token iri) bytes qs → IsWhole (in_lines form token iri) bytes →
-    (token_then iri_then : ℕ) → string_width e * token ≤ token_then → iri_width e * iri + 2 ≤ token_then → 64 ≤ token_then → iri ≤ iri_then → 64 ≤ iri_then →
-    IsReadToItsEnd (in_lines NQuads token_then iri_then) (encode_utf8_all (text Kept e qs))
-
--- In ASCII each byte that is written is below 128, where each label has such characters alone.
-abbrev pub AsciiIsWritten : Type 0
-AsciiIsWritten = (s : Style) (qs : List Quad) →
-    Writable s qs → AllByRecursion HasAsciiLabels qs → AllByRecursion (λ b. b < 128) (encode_utf8_all (text s Ascii qs))
-
--- The written bytes are a document of N-Quads whose quads are these, their nodes named by the form, whatever the limit on IRIs.
-abbrev pub ReadsBackIn : Form → List Quad → ℕ → Type 0
-ReadsBackIn f qs limit = (iri : ℕ) → IsDocumentOf (in_lines NQuads limit iri) (encode_utf8_all (text_in f qs)) (map (named f) qs)
-
--- What is written in a form reads back.
-abbrev pub PrefixedTextReadsBack : Type 0
-PrefixedTextReadsBack = (f : Form) (qs : List Quad) (limit : ℕ) →
-    IsNodePrefix f.prefix → Writable f.style qs → length (text_in f qs) ≤ limit → ReadsBackIn f qs limit
-
--- A word takes its length of a limit on tokens, and nothing else.
-abbrev pub PrefixedTextIsRead : Type 0
-PrefixedTextIsRead = (f : Form) (qs : List Quad) (limit iri : ℕ) → IsNodePrefix f.prefix → Writable f.style qs → 2 ≤ limit →
-    AllByRecursion (TokensWithin f.escapes limit) (map (rename f.style) qs) → AllByRecursion (IrisWithin iri) qs →
-    IsReadToItsEnd (in_lines NQuads (length f.prefix + limit) iri) (encode_utf8_all (text_in f qs))
-
--- So what is written for a document of a line format is read with the limits that suffice without a word, and the word's length more for tokens.
-abbrev pub PrefixedDocumentIsRead : Type 0
-PrefixedDocumentIsRead = (e : Escapes) (p : List ℕ) (form : LineForm) (token iri : ℕ) (bytes : List ℕ) (qs : List Quad) → IsNodePrefix p →
+WrittenDocumentIsRead = (e : Escapes) (p : List ℕ) (form : LineForm) (token iri : ℕ) (bytes : List ℕ) (qs : List Quad) → IsNodePrefix p →
     IsDocumentOf (in_lines form token iri) bytes qs → IsWhole (in_lines form token iri) bytes →
     (token_then iri_then : ℕ) → string_width e * token ≤ token_then → iri_width e * iri + 2 ≤ token_then → 64 ≤ token_then → iri ≤ iri_then → 64 ≤ iri_then →
     IsReadToItsEnd (in_lines NQuads (length p + token_then) iri_then) (encode_utf8_all (text_in (record { style = Kept; escapes = e; prefix = p }) qs))
 
--- In ASCII each byte is below 128 with a word too.
-abbrev pub PrefixedAsciiIsWritten : Type 0
-PrefixedAsciiIsWritten = (s : Style) (p : List ℕ) (qs : List Quad) → IsNodePrefix p → Writable s qs → AllByRecursion HasAsciiLabels qs →
+-- In ASCII each byte that is written is below 128, where each label has such characters alone.
+abbrev pub AsciiIsWritten : Type 0
+AsciiIsWritten = (s : Style) (p : List ℕ) (qs : List Quad) → IsNodePrefix p → Writable s qs → AllByRecursion HasAsciiLabels qs →
     AllByRecursion (λ b. b < 128) (encode_utf8_all (text_in (record { style = s; escapes = Ascii; prefix = p }) qs))
 
 -- The two forms agree where what the plain one writes has bytes below 128 alone.
@@ -190,17 +170,18 @@ FormsAgreeOnAscii = (s : Style) (p : List ℕ) (qs : List Quad) →
     text_in (record { style = s; escapes = Ascii; prefix = p }) qs ≡ text_in (record { style = s; escapes = Plain; prefix = p }) qs
 
 -- In one form no two nodes have one name.
-abbrev pub PrefixedNamesStayApart : Type 0
-PrefixedNamesStayApart = (f : Form) (m n : Node) → IsNode m → IsNode n → name_node f m ≡ name_node f n → m ≡ n
+abbrev pub NamesStayApart : Type 0
+NamesStayApart = (f : Form) (m n : Node) → IsNode m → IsNode n → name_node f m ≡ name_node f n → m ≡ n
 
 -- With two different words of one length no two nodes have one name, whatever the styles.
 abbrev pub PrefixesKeepApart : Type 0
 PrefixesKeepApart = (f g : Form) (m n : Node) → length f.prefix ≡ length g.prefix → f.prefix ≢ g.prefix → CanWriteNode f.style m → CanWriteNode g.style n →
     name_node f m ≢ name_node g n
 
--- The empty word changes no line.
+-- The empty word changes no line, and no name.
 abbrev pub NoPrefixIsNoChange : Type 0
-NoPrefixIsNoChange = (s : Style) (e : Escapes) (qs : List Quad) → text_in (unprefixed s e) qs ≡ text s e qs
+NoPrefixIsNoChange = (s : Style) (e : Escapes) (qs : List Quad) →
+    (text_in (unprefixed s e) qs ≡ text s e qs) × (map (named (unprefixed s e)) qs ≡ map (rename s) qs)
 
 -- What is written in two forms, one after the other, is a document that has the quads of both; with two words no node of the one is a node of the other.
 abbrev pub JoinedTextsReadBack : Type 0

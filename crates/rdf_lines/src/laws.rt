@@ -1,30 +1,22 @@
 // Laws of line reading and of the written lines, over the definitions alone.
 
-ghost use Rattle.std.specs.Prelude.{◌≡◌, ℕ, List, ◌≤◌, length};
-ghost use Rattle.rdf_terms.specs.Terms.{IsNode, Node, Quad};
-ghost use Rattle.rdf_lines.specs.declared.form.Escapes.{Escapes};
-ghost use Rattle.rdf_lines.specs.declared.form.Style.{Style};
-ghost use Rattle.rdf_lines.specs.Writing.{Writable, rename_node, text};
 ghost use Rattle.rdf_lines.specs.SplitLines.{DocumentsAreTheirLines, GoodLinesAreRead};
 ghost use Rattle.rdf_lines.specs.Canonical.{CanonicalLinesAreRead, CanonicalLinesAreWritten};
-ghost use Rattle.rdf_lines.specs.Laws.{ReadsBack, MarksNeverFall, TokensSettleTheQuads, TokensSettleWhatIsDue};
+ghost use Rattle.rdf_lines.specs.Laws.{MarksNeverFall, TokensSettleTheQuads, TokensSettleWhatIsDue};
 ghost use Rattle.rdf_lines.specs.Laws.{DueBeginsTheQuads, BeginningsAreCompleted, ReadQuadsAreDue, DocumentsAreRead};
-ghost use Rattle.rdf_lines.specs.Laws.{RefusedIsNoDocument, WrittenTextIsRead, DocumentIsWritable};
-ghost use Rattle.rdf_lines.specs.Laws.{WrittenDocumentIsRead, AsciiIsWritten};
-ghost use Rattle.rdf_lines.specs.Laws.{PrefixedTextReadsBack, PrefixedTextIsRead, PrefixedDocumentIsRead};
-ghost use Rattle.rdf_lines.specs.Laws.{PrefixedAsciiIsWritten, FormsAgreeOnAscii, PrefixedNamesStayApart};
-ghost use Rattle.rdf_lines.specs.Laws.{PrefixesKeepApart, JoinedTextsReadBack, NoPrefixIsNoChange};
+ghost use Rattle.rdf_lines.specs.Laws.{RefusedIsNoDocument, DocumentIsWritable, WrittenTextReadsBack};
+ghost use Rattle.rdf_lines.specs.Laws.{WrittenTextIsRead, WrittenDocumentIsRead, AsciiIsWritten, FormsAgreeOnAscii};
+ghost use Rattle.rdf_lines.specs.Laws.{NamesStayApart, PrefixesKeepApart, JoinedTextsReadBack, NoPrefixIsNoChange};
 
-/// The bytes written for quads are a document of N-Quads, whose quads are these, renamed, one for one and in
-/// order. Any limit on a token's characters that is not below the text's length serves.
+/// The bytes written for quads in a form are a document of N-Quads, whose quads are these with their nodes named so,
+/// one for one and in order. Any limit on a token's characters that is not below the text's length serves.
 pub fn written_text_reads_back()
-    ensures { (s : Style) (e : Escapes) (qs : List Quad) (limit : ℕ) → Writable s qs → length (text s e qs) ≤ limit →
-        ReadsBack s e qs limit }
+    ensures { WrittenTextReadsBack }
 {}
 
-/// No two nodes are written under one name.
+/// No two nodes are written under one name in one form.
 pub fn names_stay_apart()
-    ensures { (s : Style) (m n : Node) → IsNode m → IsNode n → rename_node s m ≡ rename_node s n → m ≡ n }
+    ensures { NamesStayApart }
 {}
 
 /// The marks never fall along the quads of a tree: a quad is not due before one that stands in front of it.
@@ -67,8 +59,8 @@ pub fn refused_is_no_document()
     ensures { RefusedIsNoDocument }
 {}
 
-/// What is written for quads is read to its end by a reader of N-Quads, with any limit on tokens that no token of the
-/// lines passes, and any limit on IRIs that no IRI of the quads passes.
+/// What is written for quads is read to its end by a reader of N-Quads, with any limit on IRIs that no IRI of the quads
+/// passes, and any limit on tokens that no token of the lines passes without the word, and the word's length more.
 pub fn written_text_is_read()
     ensures { WrittenTextIsRead }
 {}
@@ -81,7 +73,7 @@ pub fn document_is_writable()
 
 /// What is written for a document of a line format is read to its end: with twice its limit on tokens, room for an IRI
 /// and its brackets, and its limit on IRIs, each at least 64. In ASCII with ten times its limit on tokens, and room for
-/// three times an IRI.
+/// three times an IRI. With a word in front of the names, with the word's length more for tokens.
 pub fn written_document_is_read()
     ensures { WrittenDocumentIsRead }
 {}
@@ -103,36 +95,9 @@ pub fn ascii_is_written()
     ensures { AsciiIsWritten }
 {}
 
-/// With a word in front of the names too, what is written for quads is a document of N-Quads, whose quads are these
-/// with their nodes named so. Any limit on a token's characters that is not below the text's length serves.
-pub fn prefixed_text_reads_back()
-    ensures { PrefixedTextReadsBack }
-{}
-
-/// It is read to its end with the limits that suffice without a word, and the word's length more for tokens.
-pub fn prefixed_text_is_read()
-    ensures { PrefixedTextIsRead }
-{}
-
-/// What is written with a word for a document of a line format is read to its end with the limits of
-/// `written_document_is_read`, and the word's length more for tokens.
-pub fn prefixed_document_is_read()
-    ensures { PrefixedDocumentIsRead }
-{}
-
-/// In ASCII each byte that is written is below 128 with a word too, where each label has such characters alone.
-pub fn prefixed_ascii_is_written()
-    ensures { PrefixedAsciiIsWritten }
-{}
-
 /// The plain form and the one in ASCII have the same text where the plain one is ASCII: then no character is escaped.
 pub fn forms_agree_on_ascii()
     ensures { FormsAgreeOnAscii }
-{}
-
-/// No two nodes are written under one name with one word.
-pub fn prefixed_names_stay_apart()
-    ensures { PrefixedNamesStayApart }
 {}
 
 /// With two different words of one length no node of the one is written under the name of a node of the other.
@@ -145,7 +110,7 @@ pub fn joined_texts_read_back()
     ensures { JoinedTextsReadBack }
 {}
 
-/// The empty word changes no line.
+/// The empty word changes no line and no name, so the laws hold of what is written without one.
 pub fn no_prefix_is_no_change()
     ensures { NoPrefixIsNoChange }
 {}

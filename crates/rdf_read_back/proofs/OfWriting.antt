@@ -19,8 +19,8 @@ use Rattle.rdf_tokens.specs.Leaves.{token}
 use Rattle.rdf_lines.specs.declared.form.LineForm.TheVariants.{NQuads}
 use Rattle.rdf_lines.specs.declared.form.Escapes.TheVariants.{Plain}
 use Rattle.rdf_lines.specs.declared.form.Style.TheVariants.{Tagged}
-use Rattle.rdf_lines.specs.NodePrefixes.{text_in}
-use Rattle.rdf_lines.specs.Writing.{text, Writable}
+use Rattle.rdf_lines.specs.NodePrefixes.{Form, text_in}
+use Rattle.rdf_lines.specs.Writing.{Writable}
 use Rattle.rdf_lines.specs.Documents.{in_lines}
 use Rattle.rdf_trig.specs.declared.form.DocForm.TheVariants.{Turtle}
 use Rattle.rdf_trig.specs.Names.{reference_in, name_in, is_full}
@@ -34,7 +34,7 @@ use Rattle.rdf_trig.proofs.examples.Documents.{leaf, quad}
 use Rattle.rdf_trig.proofs.theorems.StatedLaws.{begins}
 use Rattle.rdf_trig.proofs.machine.ExactDocuments.{accepted_document}
 use Rattle.rdf_trig.proofs.machine.EndOfInput.{document_complete}
-use Rattle.rdf_read_back.proofs.WrittenLimits.{document_writable, document_read_back, form_document_read}
+use Rattle.rdf_read_back.proofs.WrittenLimits.{document_writable, document_read_back}
 
 abbrev small : InForce
 small = record { base = None; bindings = []; limits = record { token = 8; depth = 1; bindings = 1; iri = 8 } }
@@ -81,23 +81,16 @@ small_iris = record { base = tt; bindings = λ prefix iri e. absurd (let z : Non
 pub nameless_is_writable : Writable Tagged nameless_quads
 nameless_is_writable = document_writable Turtle small nameless nameless_quads small_iris (lit≤ tt) nameless_is
 
-pub nameless_text : text Tagged Plain nameless_quads ≡ codes "<a:> <a:> _:a10 .\n"
+-- with a word in front of the name, this is written
+abbrev with_word : Form
+with_word = record { style = Tagged; escapes = Plain; prefix = codes "b7" }
+
+pub nameless_text : text_in with_word nameless_quads ≡ codes "<a:> <a:> _:b7a10 .\n"
 unfolding digits
 nameless_text = refl
 
--- and what is written is read to its end with limits of 64
-pub nameless_is_read : IsReadToItsEnd (in_lines NQuads 64 64) (encode_utf8_all (text Tagged Plain nameless_quads))
+-- and it is read to its end with limits of 64, where a token may have two characters more
+pub nameless_is_read : IsReadToItsEnd (in_lines NQuads 66 64) (encode_utf8_all (text_in with_word nameless_quads))
 nameless_is_read =
-    document_read_back Plain Turtle small nameless nameless_quads small_iris (lit≤ tt) nameless_is nameless_whole 64 64
-    (lit≤ tt) (lit≤ tt) (lit≤ tt) (lit≤ tt) (lit≤ tt)
-
--- with a word in front of the name, where a token may have two characters more
-pub nameless_with_a_word : text_in (record { style = Tagged; escapes = Plain; prefix = codes "b7" }) nameless_quads ≡ codes "<a:> <a:> _:b7a10 .\n"
-unfolding digits
-nameless_with_a_word = refl
-
-pub nameless_with_a_word_is_read : IsReadToItsEnd (in_lines NQuads 66 64)
-    (encode_utf8_all (text_in (record { style = Tagged; escapes = Plain; prefix = codes "b7" }) nameless_quads))
-nameless_with_a_word_is_read =
-    form_document_read Plain (codes "b7") Turtle small nameless nameless_quads refl small_iris (lit≤ tt) nameless_is nameless_whole 64 64
+    document_read_back Plain (codes "b7") Turtle small nameless nameless_quads refl small_iris (lit≤ tt) nameless_is nameless_whole 64 64
     (lit≤ tt) (lit≤ tt) (lit≤ tt) (lit≤ tt) (lit≤ tt)

@@ -20,7 +20,6 @@ use Rattle.rdf_lines.specs.declared.form.Style.TheVariants.{Tagged}
 use Rattle.rdf_lines.specs.Writing.{Writable, subject_text, rename}
 use Rattle.rdf_lines.specs.NodeNames.{CanWriteSubject, CanWriteTerm, CanWriteGraph, rename_subject, rename_term}
 use Rattle.rdf_lines.specs.Laws.{string_width, iri_width, SubjectWithin, TailWithin, TermWithin, GraphWithin, IrisWithin, TailShort, TermShort, GraphShort, TokensWithin}
-use Rattle.rdf_lines.proofs.AcceptedLemmas.{text_read}
 use Rattle.rdf_lines.proofs.FormReadBack.{form_text_read}
 use Rattle.rdf_lines.proofs.WellFormed.{each}
 use Rattle.rdf_trig.specs.declared.form.DocForm.{DocForm}
@@ -28,7 +27,7 @@ use Rattle.rdf_trig.specs.Trees.{Document}
 use Rattle.rdf_trig.specs.Events.{Use, itself, stands, binds, Event, Took, Gave, tokens, Bound, document_events}
 use Rattle.rdf_trig.specs.Documents.{IsLong, Passes, InTree}
 use Rattle.rdf_trig.specs.Language.{language}
-use Rattle.rdf_read_back.specs.Laws.{HasIris, DocumentIsWritable, WrittenDocumentIsRead, PrefixedDocumentIsRead}
+use Rattle.rdf_read_back.specs.Laws.{HasIris, DocumentIsWritable, WrittenDocumentIsRead}
 use Rattle.rdf_trig.proofs.trees.Senses.{tokens_after}
 use Rattle.rdf_read_back.proofs.WrittenParts.{Room, FitSubject, FitTail, FitTerm, GoodToken, Within}
 use Rattle.rdf_read_back.proofs.WrittenSteps.{AllWithin, AllFit, tree_fits}
@@ -215,12 +214,6 @@ fitting x form start bytes qs h l d w token_then iri_then a b c e f =
 
 -- the law that what was written is read to its end
 pub document_read_back : WrittenDocumentIsRead
-document_read_back x form start bytes qs h l d w token_then iri_then a b c e f =
-    let fits = fitting x form start bytes qs h l d w token_then iri_then a b c e f in
-    text_read Tagged x qs token_then iri_then fits.writable fits.least fits.shorts fits.iris
-
--- and with a word in front of the names
-pub form_document_read : PrefixedDocumentIsRead
-form_document_read x p form start bytes qs word h l d w token_then iri_then a b c e f =
+document_read_back x p form start bytes qs word h l d w token_then iri_then a b c e f =
     let fits = fitting x form start bytes qs h l d w token_then iri_then a b c e f in
     form_text_read (record { style = Tagged; escapes = x; prefix = p }) qs token_then iri_then word fits.writable fits.least fits.shorts fits.iris

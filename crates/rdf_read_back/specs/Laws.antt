@@ -12,7 +12,7 @@ use Rattle.rdf_lines.specs.declared.form.Escapes.{Escapes}
 use Rattle.rdf_lines.specs.declared.form.Style.TheVariants.{Tagged}
 use Rattle.rdf_lines.specs.Laws.{string_width, iri_width}
 use Rattle.rdf_lines.specs.NodePrefixes.{IsNodePrefix, text_in}
-use Rattle.rdf_lines.specs.Writing.{text, Writable}
+use Rattle.rdf_lines.specs.Writing.{Writable}
 use Rattle.rdf_lines.specs.Documents.{in_lines}
 use Rattle.rdf_trig.specs.declared.form.DocForm.{DocForm}
 use Rattle.rdf_trig.specs.Language.{language}
@@ -31,16 +31,10 @@ abbrev pub DocumentIsWritable : Type 0
 DocumentIsWritable = (form : DocForm) (start : InForce) (bytes : List ℕ) (qs : List Quad) → HasIris start → length bytes ≤ most_bytes →
     IsDocumentOf (language form start) bytes qs → Writable Tagged qs
 
--- What is written for a document within its limits is read to its end as N-Quads with limits that are higher by what the escapes take.
+-- What is written for a document within its limits is read to its end as N-Quads with limits that are higher by what the escapes take, and that on
+-- tokens by the word's length.
 abbrev pub WrittenDocumentIsRead : Type 0
-WrittenDocumentIsRead = (e : Escapes) (form : DocForm) (start : InForce) (bytes : List ℕ) (qs : List Quad) → HasIris start → length bytes ≤ most_bytes →
-    IsDocumentOf (language form start) bytes qs → IsWhole (language form start) bytes → (token_then iri_then : ℕ) →
-    string_width e * start.limits.token ≤ token_then → iri_width e * start.limits.iri + 2 ≤ token_then → 64 ≤ token_then →
-    start.limits.iri ≤ iri_then → 64 ≤ iri_then → IsReadToItsEnd (in_lines NQuads token_then iri_then) (encode_utf8_all (text Tagged e qs))
-
--- With a word in front of the names, the limits that suffice without it, and the word's length more for tokens.
-abbrev pub PrefixedDocumentIsRead : Type 0
-PrefixedDocumentIsRead = (e : Escapes) (p : List ℕ) (form : DocForm) (start : InForce) (bytes : List ℕ) (qs : List Quad) → IsNodePrefix p → HasIris start →
+WrittenDocumentIsRead = (e : Escapes) (p : List ℕ) (form : DocForm) (start : InForce) (bytes : List ℕ) (qs : List Quad) → IsNodePrefix p → HasIris start →
     length bytes ≤ most_bytes → IsDocumentOf (language form start) bytes qs → IsWhole (language form start) bytes → (token_then iri_then : ℕ) →
     string_width e * start.limits.token ≤ token_then → iri_width e * start.limits.iri + 2 ≤ token_then → 64 ≤ token_then →
     start.limits.iri ≤ iri_then → 64 ≤ iri_then →

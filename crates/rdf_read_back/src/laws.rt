@@ -1,7 +1,7 @@
 //! The laws of reading back. These functions do nothing: their contracts are the laws.
 
-ghost use Rattle.rdf_read_back.specs.Laws.{ConvertedIsRead, DocumentIsWritable, PrefixedDocumentIsRead, RefusedInMore};
-ghost use Rattle.rdf_read_back.specs.Laws.{RefusedOnce, WrittenDocumentIsRead};
+ghost use Rattle.rdf_read_back.specs.Laws.{ConvertedIsRead, DocumentIsWritable, RefusedInMore, RefusedOnce};
+ghost use Rattle.rdf_read_back.specs.Laws.{WrittenDocumentIsRead};
 
 /// The quads of a document can be written with a node that has no label named by its offset: they are well formed.
 pub fn document_is_writable()
@@ -9,14 +9,10 @@ pub fn document_is_writable()
 {}
 
 /// What is written for a document within its limits is read to its end as N-Quads: with twice its limit on tokens, room
-/// for an IRI and its brackets, and its limit on IRIs, each at least 64.
+/// for an IRI and its brackets, and its limit on IRIs, each at least 64. In ASCII with ten times its limit on tokens,
+/// and room for three times an IRI. With a word in front of the names, with the word's length more for tokens.
 pub fn written_document_is_read()
     ensures { WrittenDocumentIsRead }
-{}
-
-/// With a word in front of the names of nodes it is read so too, with the word's length more for tokens.
-pub fn prefixed_document_is_read()
-    ensures { PrefixedDocumentIsRead }
 {}
 
 /// What `convert` has written where it accepts a document, of any format, is read to its end so: its clause

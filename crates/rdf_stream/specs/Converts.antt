@@ -12,7 +12,7 @@ use Rattle.rdf_driver.specs.declared.summary.Summary.{Summary}
 use Rattle.rdf_lines.specs.declared.form.Escapes.TheVariants.{Ascii}
 use Rattle.rdf_lines.specs.Writing.{HasAsciiLabels}
 use Rattle.rdf_lines.specs.NodePrefixes.{Form, text_in}
-use Rattle.rdf_lines.specs.Laws.{ReadsBackIn}
+use Rattle.rdf_lines.specs.Laws.{ReadsBack}
 use Rattle.rdf_stream.specs.declared.fault.StreamFault.{StreamFault}
 use Rattle.rdf_stream.specs.declared.fault.StreamFault.TheVariants.{Refused, Read, Write, Memory}
 use Rattle.rdf_stream.specs.Devices.{AppendsFront, Grows, HasBroken, HasGiven, Reading}
@@ -40,7 +40,7 @@ pub record Accepts (job : Conversion) (bytes : List ℕ) (old new : Option (List
   pub within : IsWhole job.language bytes
   pub size : length bytes ≤ most_bytes
   pub written : Appends old new (lines_of job.form (put_quads job quads))
-  pub reads_back : (limit : ℕ) → length (text_in job.form (put_quads job quads)) ≤ limit → ReadsBackIn job.form (put_quads job quads) limit
+  pub reads_back : (limit : ℕ) → length (text_in job.form (put_quads job quads)) ≤ limit → ReadsBack job.form (put_quads job quads) limit
   pub ascii : IsAscii job.form (put_quads job quads)
   pub counts : Counts job.language bytes quads s
 

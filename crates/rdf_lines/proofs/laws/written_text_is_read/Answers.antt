@@ -1,5 +1,5 @@
-use Rattle.rdf_lines.proofs.AcceptedLemmas.{text_read}
+use Rattle.rdf_lines.proofs.FormReadBack.{form_text_read}
 use Rattle.rdf_lines.proofs.laws.written_text_is_read.Goals as goal
 
 pub returns : goal.returns
-returns c = text_read
+returns c = form_text_read

@@ -1,5 +1,0 @@
-use Rattle.rdf_lines.proofs.FormReadBack.{form_ascii}
-use Rattle.rdf_lines.proofs.laws.prefixed_ascii_is_written.Goals as goal
-
-pub returns : goal.returns
-returns c = form_ascii

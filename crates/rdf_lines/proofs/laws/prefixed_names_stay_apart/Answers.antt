@@ -1,5 +1,0 @@
-use Rattle.rdf_lines.proofs.NodePrefixLemmas.{names_apart}
-use Rattle.rdf_lines.proofs.laws.prefixed_names_stay_apart.Goals as goal
-
-pub returns : goal.returns
-returns c = names_apart

@@ -1,5 +1,0 @@
-use Rattle.rdf_lines.proofs.FormReadBack.{form_text_read}
-use Rattle.rdf_lines.proofs.laws.prefixed_text_is_read.Goals as goal
-
-pub returns : goal.returns
-returns c = form_text_read
