@@ -250,4 +250,7 @@ def main():
 
 
 if __name__ == '__main__':
+    if '--help' in sys.argv[1:]:
+        print(__doc__.strip())
+        sys.exit()
     main()

@@ -69,4 +69,7 @@ def main(words):
 
 
 if __name__ == '__main__':
+    if '--help' in sys.argv[1:]:
+        print(__doc__.strip())
+        sys.exit()
     sys.exit(main(sys.argv[1:]))

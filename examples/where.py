@@ -140,6 +140,9 @@ def answer_all(name, words):
 def main():
     signal.signal(signal.SIGINT, signal.SIG_DFL)
     try:
+        if sys.argv[1:] == ['--help']:
+            put(1, __doc__.rstrip())
+            return 0
         if len(sys.argv) not in (2, 3):
             put(2, __doc__.rstrip())
             return 2
