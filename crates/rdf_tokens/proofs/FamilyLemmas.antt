@@ -232,17 +232,25 @@ abbrev pub Moves : {S X : Type 0} → (X → ℕ) → (S → X → S) → (S →
 Moves rep move meaning s x =
     (map (λ r. next r (rep x)) (meaning s) ≡ meaning (move s x)) ⊎ AllSame (map (λ r. next r (rep x)) (meaning s)) (meaning (move s x))
 
--- A family of shapes: its states, its sorts of characters, and what is left to match in each state.
+-- A family of shapes: its states, its sorts of characters, what is left to match in each state, and what the code tells of a state.
 pub record Family (S X : Type 0) : Type 0 where
+  pub dialect : Dialect
+  pub kinds : List Kind
   pub ascii : ℕ → X
   pub high : Wide → X
   pub rep : X → ℕ
+  pub start : S
   pub move : S → X → S
+  pub kind_at : S → Option Kind
+  pub goes_on : S → Bool
   pub meaning : S → List Regex
   pub classes : List Class
   pub sorts : sorts_agree ascii high rep classes ≡ true
   pub covered : (s : S) → covers_all classes (meaning s) ≡ true
   pub moves : (s : S) (x : X) → Moves rep move meaning s x
+  pub starts : meaning start ≡ map (shape dialect) kinds
+  pub kind_of_state : (s : S) → kind_in kinds (meaning s) ≡ kind_at s
+  pub live_state : (s : S) → longer_in (meaning s) ≡ goes_on s
 
 -- the step of a family: the sort of a character, and where it leads
 abbrev pub step_of : {S X : Type 0} → Family S X → S → ℕ → S
@@ -375,16 +383,19 @@ unfolding has
 possible-hexes zero = refl
 possible-hexes (suc n) = possible-hexes n
 
--- the law of a family: its state after a text tells which of its shapes the text has, and whether a longer one begins so
-pub kind-run : {S X : Type 0} → (f : Family S X) (d : Dialect) (ks : List Kind) (start : S) → f.meaning start ≡ map (shape d) ks → (w : List ℕ) → IsChars w →
-    first_kind d ks w ≡ kind_in ks (f.meaning (run (step_of f) start w))
-kind-run f d ks start e w b =
-    first_is d ks w ∙ kind_same ks (map (λ r. after_all r w) (map (shape d) ks)) (f.meaning (run (step_of f) start w))
-    (after_run f (map (shape d) ks) start w b (subst (AllSame (map (shape d) ks)) (sym e) (same_refl (map (shape d) ks))))
+-- what is left of a family's shapes after a text is what its state then means
+after_start : {S X : Type 0} → (f : Family S X) (w : List ℕ) → IsChars w →
+    AllSame (map (λ r. after_all r w) (map (shape f.dialect) f.kinds)) (f.meaning (run (step_of f) f.start w))
+after_start f w b =
+    let shapes : List Regex = map (shape f.dialect) f.kinds in
+    after_run f shapes f.start w b (subst (AllSame shapes) (sym f.starts) (same_refl shapes))
 
--- the states of a family tell whether a longer token of it begins so
-pub live-run : {S X : Type 0} → (f : Family S X) (d : Dialect) (ks : List Kind) (start : S) → f.meaning start ≡ map (shape d) ks → (w : List ℕ) → IsChars w →
-    longer (after_all (any_shape d ks) w) ≡ longer_in (f.meaning (run (step_of f) start w))
-live-run f d ks start e w b =
-    live_is d ks w ∙ longer_same (map (λ r. after_all r w) (map (shape d) ks)) (f.meaning (run (step_of f) start w))
-    (after_run f (map (shape d) ks) start w b (subst (AllSame (map (shape d) ks)) (sym e) (same_refl (map (shape d) ks))))
+-- the law of a family: its state after a text tells which of its kinds the text is
+pub family-kind : {S X : Type 0} → (f : Family S X) (w : List ℕ) → IsChars w →
+    first_kind f.dialect f.kinds w ≡ f.kind_at (run (step_of f) f.start w)
+family-kind f w b = first_is f.dialect f.kinds w ∙ (kind_same f.kinds _ _ (after_start f w b) ∙ f.kind_of_state (run (step_of f) f.start w))
+
+-- its state after a text tells whether a longer token of it begins so
+pub family-live : {S X : Type 0} → (f : Family S X) (w : List ℕ) → IsChars w →
+    longer (after_all (any_shape f.dialect f.kinds) w) ≡ f.goes_on (run (step_of f) f.start w)
+family-live f w b = live_is f.dialect f.kinds w ∙ (longer_same _ _ (after_start f w b) ∙ f.live_state (run (step_of f) f.start w))

@@ -11,7 +11,7 @@ abbrev all : List Family
 all = family.Iri ∷ family.Label ∷ family.Text ∷ family.Tag ∷ family.Number ∷ family.Name ∷ family.Other ∷ []
 
 -- the number of a family
-abbrev place : Family → ℕ
+abbrev pub place : Family → ℕ
 place family.Iri = 0
 place family.Label = 1
 place family.Text = 2
@@ -26,7 +26,7 @@ at_place family.Iri = refl
 at_place x = refl
 
 -- no two families have the same number, so a table may be compared by numbers
-same_place : (x y : Family) → place x ≡ place y → x ≡ y
+pub same_place : (x y : Family) → place x ≡ place y → x ≡ y
 same_place x y e = sym (at_place x) ∙ (ap (λ n. get_or all n family.Iri) e ∙ at_place y)
 
 -- the code's table gives each ASCII character the family that the definition gives it

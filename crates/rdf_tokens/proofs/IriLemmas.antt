@@ -1,20 +1,19 @@
 -- The states of references against their shape.
-use Rattle.std.proofs.Common.{◌≡◌, ℕ, zero, suc, true, cond, List, [], ◌∷◌, refl, ◌∙◌, inl, Some, None, map}
+use Rattle.std.proofs.Common.{◌≡◌, ℕ, zero, suc, true, cond, List, [], ◌∷◌, refl, inl, Some, None, map}
 use Rattle.rdf_terms.specs.declared.kind.Kind.TheVariants.{IriRef}
 use Rattle.rdf_terms.specs.declared.kind.Dialect.{Dialect}
 use Rattle.rdf_terms.specs.Classes.{Class, has}
 use Rattle.rdf_terms.specs.Classes.Class.{the, hex_digit, iri_char}
-use Rattle.rdf_terms.specs.Regex.{Regex, longer, after_all, ◌·◌, ◌∣◌}
+use Rattle.rdf_terms.specs.Regex.{Regex}
 use Rattle.rdf_terms.specs.Regex.Regex.{nothing, empty, one, ◌·◌, ◌∣◌, many}
-use Rattle.rdf_terms.specs.Shapes.{shape, any_shape, first_kind, uchar}
-use Rattle.rdf_tokens.specs.Machines.{run, IsChars}
+use Rattle.rdf_terms.specs.Shapes.{shape, uchar}
 use Rattle.rdf_tokens.specs.declared.states.iri.Sort.{Sort}
 use Rattle.rdf_tokens.specs.declared.states.iri.Sort.TheVariants.{OpenAngle, CloseAngle, Backslash, SmallU, BigU, HexDigit, Plain, Excluded}
 use Rattle.rdf_tokens.specs.declared.states.iri.Iri.{Iri}
 use Rattle.rdf_tokens.specs.declared.states.iri.Iri.TheVariants.{Start, Inside, Escape, Hex, Whole, Dead}
-use Rattle.rdf_tokens.specs.Iri.{ascii, high, move, step, accepts, goes_on}
+use Rattle.rdf_tokens.specs.Iri.{ascii, high, move, accepts, goes_on}
 use Rattle.rdf_tokens.proofs.SortLemmas.{sorts_agree}
-use Rattle.rdf_tokens.proofs.FamilyLemmas.{Family, Moves, hexes, possible-hexes, covers_all, kind_in, longer_in, kind-run, live-run}
+use Rattle.rdf_tokens.proofs.FamilyLemmas.{Family, Moves, hexes, possible-hexes, covers_all, kind_in, longer_in}
 
 -- a character of each sort
 abbrev rep : Sort → ℕ
@@ -40,11 +39,11 @@ rest (Hex n) = (hexes n · many (one iri_char ∣ uchar)) · one (the 62)
 rest Whole = empty
 rest Dead = nothing
 
-unfoldable meaning : Iri → List Regex
+unfoldable pub meaning : Iri → List Regex
 meaning s = rest s ∷ []
 
 -- where a character of a sort leads is what is left to match after it, so the table of moves is right
-moves : (s : Iri) (x : Sort) → Moves rep move meaning s x
+pub moves : (s : Iri) (x : Sort) → Moves rep move meaning s x
 unfolding meaning has
 moves Start OpenAngle = inl refl
 moves Start x = inl refl
@@ -64,7 +63,7 @@ moves Dead OpenAngle = inl refl
 moves Dead x = inl refl
 
 -- the expressions have no other classes than these
-covered : (s : Iri) → covers_all classes (meaning s) ≡ true
+pub covered : (s : Iri) → covers_all classes (meaning s) ≡ true
 unfolding meaning
 covered (Hex zero) = refl
 covered (Hex (suc n)) = covered (Hex n)
@@ -72,16 +71,12 @@ covered Start = refl
 covered s = refl
 
 -- characters of one sort are in the same classes, by a test of each ASCII character and each width
-sorts : sorts_agree ascii high rep classes ≡ true
+pub sorts : sorts_agree ascii high rep classes ≡ true
 unfolding has
 sorts = refl
 
--- all of this together, as the general lemmas on families take it
-abbrev family : Family Iri Sort
-family = record { ascii = ascii; high = high; rep = rep; move = move; meaning = meaning; classes = classes; sorts = sorts; covered = covered; moves = moves }
-
 -- a state has a kind exactly where nothing is left to match of the expression of that kind
-kind_of_state : (s : Iri) → kind_in (IriRef ∷ []) (meaning s) ≡ cond (accepts s) (Some IriRef) None
+pub kind_of_state : (s : Iri) → kind_in (IriRef ∷ []) (meaning s) ≡ cond (accepts s) (Some IriRef) None
 unfolding meaning
 kind_of_state (Hex zero) = refl
 kind_of_state (Hex (suc n)) = refl
@@ -89,7 +84,7 @@ kind_of_state Start = refl
 kind_of_state s = refl
 
 -- a state goes on exactly where something longer can match
-live_state : (s : Iri) → longer_in (meaning s) ≡ goes_on s
+pub live_state : (s : Iri) → longer_in (meaning s) ≡ goes_on s
 unfolding meaning has
 live_state (Hex zero) = refl
 live_state (Hex (suc n)) = rw (possible-hexes n) refl
@@ -97,14 +92,28 @@ live_state Start = refl
 live_state s = refl
 
 -- at the start all of the shape is left
-starts : (d : Dialect) → meaning Start ≡ map (shape d) (IriRef ∷ [])
+pub starts : (d : Dialect) → meaning Start ≡ map (shape d) (IriRef ∷ [])
 unfolding meaning shape
 starts d = refl
 
--- the law of the family
-pub iri-kind : (d : Dialect) (w : List ℕ) → IsChars w → first_kind d (IriRef ∷ []) w ≡ cond (accepts (run step Start w)) (Some IriRef) None
-iri-kind d w b = kind-run family d (IriRef ∷ []) Start (starts d) w b ∙ kind_of_state (run step Start w)
-
--- the states go on after a text exactly where it begins a longer one of IRIREF
-pub iri-live : (d : Dialect) (w : List ℕ) → IsChars w → longer (after_all (any_shape d (IriRef ∷ [])) w) ≡ goes_on (run step Start w)
-iri-live d w b = live-run family d (IriRef ∷ []) Start (starts d) w b ∙ live_state (run step Start w)
+-- all of this together, as the general lemmas on families take it
+abbrev pub family : Dialect → Family Iri Sort
+family d = record {
+  dialect = d;
+  kinds = IriRef ∷ [];
+  ascii = ascii;
+  high = high;
+  rep = rep;
+  start = Start;
+  move = move;
+  kind_at = λ s. cond (accepts s) (Some IriRef) None;
+  goes_on = goes_on;
+  meaning = meaning;
+  classes = classes;
+  sorts = sorts;
+  covered = covered;
+  moves = moves;
+  starts = starts d;
+  kind_of_state = kind_of_state;
+  live_state = live_state;
+}

@@ -1,21 +1,20 @@
 -- The states of labels against their shape.
-use Rattle.std.proofs.Common.{◌≡◌, ℕ, true, cond, List, [], ◌∷◌, refl, ◌∙◌, inl, Some, None, map}
+use Rattle.std.proofs.Common.{◌≡◌, ℕ, true, cond, List, [], ◌∷◌, refl, inl, Some, None, map}
 use Rattle.rdf_terms.specs.declared.kind.Kind.TheVariants.{LabelNode}
 use Rattle.rdf_terms.specs.declared.kind.Dialect.{Dialect}
 use Rattle.rdf_terms.specs.declared.kind.Dialect.TheVariants.{Lines, Turtle}
 use Rattle.rdf_terms.specs.Classes.{Class, has}
 use Rattle.rdf_terms.specs.Classes.Class.{the, digit, pn_u, pn_char}
-use Rattle.rdf_terms.specs.Regex.{Regex, longer, after_all}
+use Rattle.rdf_terms.specs.Regex.{Regex}
 use Rattle.rdf_terms.specs.Regex.Regex.{nothing, empty, one, ◌·◌, ◌∣◌, many}
-use Rattle.rdf_terms.specs.Shapes.{shape, any_shape, first_kind, dot}
-use Rattle.rdf_tokens.specs.Machines.{run, IsChars}
+use Rattle.rdf_terms.specs.Shapes.{shape, dot}
 use Rattle.rdf_tokens.specs.declared.states.label.Sort.{Sort}
 use Rattle.rdf_tokens.specs.declared.states.label.Sort.TheVariants as sort
 use Rattle.rdf_tokens.specs.declared.states.label.Label.{Label}
 use Rattle.rdf_tokens.specs.declared.states.label.Label.TheVariants.{Start, Underscore, Colon, Name, Dots, Dead}
-use Rattle.rdf_tokens.specs.Label.{ascii, high, move, step, accepts, goes_on}
+use Rattle.rdf_tokens.specs.Label.{ascii, high, move, accepts, goes_on}
 use Rattle.rdf_tokens.proofs.SortLemmas.{sorts_agree}
-use Rattle.rdf_tokens.proofs.FamilyLemmas.{Family, Moves, covers_all, kind_in, longer_in, kind-run, live-run}
+use Rattle.rdf_tokens.proofs.FamilyLemmas.{Family, Moves, covers_all, kind_in, longer_in}
 
 -- a character of each sort, which stands for all of it
 abbrev rep : Sort → ℕ
@@ -36,7 +35,7 @@ abbrev more : Dialect → Regex
 more d = many (one (pn_char d) ∣ dot) · one (pn_char d)
 
 -- what is left to match in a state
-unfoldable meaning : Dialect → Label → List Regex
+unfoldable pub meaning : Dialect → Label → List Regex
 meaning d Start = shape d LabelNode ∷ []
 meaning d Underscore = ((one (the 58) · empty) · (one (pn_u d) ∣ one digit) · (empty ∣ more d)) ∷ []
 meaning d Colon = ((one (pn_u d) ∣ one digit) · (empty ∣ more d)) ∷ []
@@ -45,7 +44,7 @@ meaning d Dots = more d ∷ []
 meaning d Dead = nothing ∷ []
 
 -- where a character of a sort leads is what is left to match after it, so the table of moves is right
-moves : (d : Dialect) (s : Label) (x : Sort) → Moves rep (move d) (meaning d) s x
+pub moves : (d : Dialect) (s : Label) (x : Sort) → Moves rep (move d) (meaning d) s x
 unfolding meaning has shape
 moves Lines Start sort.Dot = inl refl
 moves Lines Start x = inl refl
@@ -70,7 +69,7 @@ moves Turtle Dots x = inl refl
 moves d Dead x = inl refl
 
 -- the expressions have no other classes than these
-covered : (d : Dialect) (s : Label) → covers_all (classes d) (meaning d s) ≡ true
+pub covered : (d : Dialect) (s : Label) → covers_all (classes d) (meaning d s) ≡ true
 unfolding meaning shape
 covered Lines Start = refl
 covered Lines s = refl
@@ -78,33 +77,19 @@ covered Turtle Start = refl
 covered Turtle s = refl
 
 -- characters of one sort are in the same classes, by a test of each ASCII character and each width
-sorts : (d : Dialect) → sorts_agree ascii high rep (classes d) ≡ true
+pub sorts : (d : Dialect) → sorts_agree ascii high rep (classes d) ≡ true
 unfolding has
 sorts Lines = refl
 sorts Turtle = refl
 
--- all of this together, as the general lemmas on families take it
-abbrev family : Dialect → Family Label Sort
-family d = record {
-  ascii = ascii;
-  high = high;
-  rep = rep;
-  move = move d;
-  meaning = meaning d;
-  classes = classes d;
-  sorts = sorts d;
-  covered = covered d;
-  moves = moves d;
-}
-
 -- a state has a kind exactly where nothing is left to match of the expression of that kind
-kind_of_state : (d : Dialect) (s : Label) → kind_in (LabelNode ∷ []) (meaning d s) ≡ cond (accepts s) (Some LabelNode) None
+pub kind_of_state : (d : Dialect) (s : Label) → kind_in (LabelNode ∷ []) (meaning d s) ≡ cond (accepts s) (Some LabelNode) None
 unfolding meaning shape
 kind_of_state d Start = refl
 kind_of_state d s = refl
 
 -- a state goes on exactly where something longer can match
-live_state : (d : Dialect) (s : Label) → longer_in (meaning d s) ≡ goes_on s
+pub live_state : (d : Dialect) (s : Label) → longer_in (meaning d s) ≡ goes_on s
 unfolding meaning shape has
 live_state Lines Start = refl
 live_state Lines s = refl
@@ -112,14 +97,28 @@ live_state Turtle Start = refl
 live_state Turtle s = refl
 
 -- at the start all of the shape is left
-starts : (d : Dialect) → meaning d Start ≡ map (shape d) (LabelNode ∷ [])
+pub starts : (d : Dialect) → meaning d Start ≡ map (shape d) (LabelNode ∷ [])
 unfolding meaning
 starts d = refl
 
--- the law of the family
-pub label-kind : (d : Dialect) (w : List ℕ) → IsChars w → first_kind d (LabelNode ∷ []) w ≡ cond (accepts (run (step d) Start w)) (Some LabelNode) None
-label-kind d w b = kind-run (family d) d (LabelNode ∷ []) Start (starts d) w b ∙ kind_of_state d (run (step d) Start w)
-
--- the states go on after a text exactly where it begins a longer one of BLANK_NODE_LABEL
-pub label-live : (d : Dialect) (w : List ℕ) → IsChars w → longer (after_all (any_shape d (LabelNode ∷ [])) w) ≡ goes_on (run (step d) Start w)
-label-live d w b = live-run (family d) d (LabelNode ∷ []) Start (starts d) w b ∙ live_state d (run (step d) Start w)
+-- all of this together, as the general lemmas on families take it
+abbrev pub family : Dialect → Family Label Sort
+family d = record {
+  dialect = d;
+  kinds = LabelNode ∷ [];
+  ascii = ascii;
+  high = high;
+  rep = rep;
+  start = Start;
+  move = move d;
+  kind_at = λ s. cond (accepts s) (Some LabelNode) None;
+  goes_on = goes_on;
+  meaning = meaning d;
+  classes = classes d;
+  sorts = sorts d;
+  covered = covered d;
+  moves = moves d;
+  starts = starts d;
+  kind_of_state = kind_of_state d;
+  live_state = live_state d;
+}

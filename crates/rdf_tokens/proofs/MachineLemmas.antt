@@ -1,48 +1,37 @@
 -- The states of all families, and the table of spellings, against all shapes.
-use Rattle.std.proofs.Common.{◌≡◌, ℕ, Bool, true, false, cond, List, [], ◌∷◌, ◌++◌, ◌||◌, nat_lt, refl, sym, ap, ◌∙◌, ⊎_elim, Option, Some, None}
-use Rattle.std.proofs.lemmas.Bool.{agree_below, agree_below_at, cases_lt, lt-ltb, le-ltb, false≢true}
+use Rattle.std.proofs.Common.{◌≡◌, ℕ, Bool, true, false, cond, List, [], ◌∷◌, ◌++◌, ◌&&◌, ◌||◌, ◌==◌, nat_lt, refl, sym, ap, ◌∙◌, ⊎_elim, Option, Some, None}
+use Rattle.std.proofs.lemmas.Bool.{agree_below, agree_below_at, and_parts, cases_lt, lt-ltb, le-ltb, eqb-true, false≢true}
 use Rattle.rdf_terms.specs.declared.kind.Kind.{Kind}
-use Rattle.rdf_terms.specs.declared.kind.Kind.TheVariants.{IriRef, LabelNode, LangTag}
 use Rattle.rdf_terms.specs.declared.kind.Dialect.{Dialect}
 use Rattle.rdf_terms.specs.declared.kind.Dialect.TheVariants.{Lines, Turtle}
 use Rattle.rdf_tokens.specs.declared.states.wide.Wide.{Wide}
 use Rattle.rdf_tokens.specs.declared.states.wide.Wide.TheVariants as wide
-use Rattle.rdf_tokens.specs.declared.states.family.Family.{Family}
+use Rattle.rdf_tokens.specs.declared.states.family.Family as first
 use Rattle.rdf_tokens.specs.declared.states.family.Family.TheVariants as family
 use Rattle.rdf_tokens.specs.declared.states.machine.State.{State}
 use Rattle.rdf_tokens.specs.declared.states.machine.State.TheVariants.{Start, Iri, Label, Text, Tag, Number, Name, Dead}
+use Rattle.rdf_tokens.specs.declared.states.iri.Iri.TheVariants as iri_state
+use Rattle.rdf_tokens.specs.declared.states.label.Label.TheVariants as label_state
+use Rattle.rdf_tokens.specs.declared.states.text.Text.TheVariants as text_state
+use Rattle.rdf_tokens.specs.declared.states.tag.Tag.TheVariants as tag_state
+use Rattle.rdf_tokens.specs.declared.states.number.Number.TheVariants as number_state
+use Rattle.rdf_tokens.specs.declared.states.name.Name.TheVariants as name_state
+use Rattle.rdf_terms.specs.Classes.{has}
 use Rattle.rdf_terms.specs.Regex.{longer, after_all, nullable}
 use Rattle.rdf_terms.specs.Shapes.{shape, any_shape, first_kind, kind_of, is_live, fixed, shaped, or_else}
 use Rattle.rdf_tokens.specs.Sorts.{sort_by, wide_of}
 use Rattle.rdf_tokens.specs.Machines.{run, IsChars}
 use Rattle.rdf_tokens.specs.Machine.{ascii, high, begin, step, kind_at, goes_on}
 use Rattle.rdf_tokens.specs.Fixed.{kind_by_table, live_by_table}
-use Rattle.rdf_tokens.proofs.FamilyLemmas.{after_or, after_nothing}
+use Rattle.rdf_tokens.proofs.FamilyLemmas.{Family, step_of, family-kind, family-live, after_or, after_nothing}
+use Rattle.rdf_tokens.proofs.FamilySorts.{place, same_place}
 use Rattle.rdf_tokens.proofs.FixedLemmas.{fixed-kind, fixed-live}
-use Rattle.rdf_tokens.specs.declared.states.iri.Iri.TheVariants as iri_state
-use Rattle.rdf_tokens.specs.declared.states.iri.Iri as iri_type
-use Rattle.rdf_tokens.specs.Iri as iri
-use Rattle.rdf_tokens.proofs.IriLemmas.{iri-kind, iri-live}
-use Rattle.rdf_tokens.specs.declared.states.label.Label.TheVariants as label_state
-use Rattle.rdf_tokens.specs.declared.states.label.Label as label_type
-use Rattle.rdf_tokens.specs.Label as label
-use Rattle.rdf_tokens.proofs.LabelLemmas.{label-kind, label-live}
-use Rattle.rdf_tokens.specs.declared.states.text.Text.TheVariants as text_state
-use Rattle.rdf_tokens.specs.declared.states.text.Text as text_type
-use Rattle.rdf_tokens.specs.Text as text
-use Rattle.rdf_tokens.proofs.TextLemmas.{text-kind, text-live, strings}
-use Rattle.rdf_tokens.specs.declared.states.tag.Tag.TheVariants as tag_state
-use Rattle.rdf_tokens.specs.declared.states.tag.Tag as tag_type
-use Rattle.rdf_tokens.specs.Tag as tag
-use Rattle.rdf_tokens.proofs.TagLemmas.{tag-kind, tag-live}
-use Rattle.rdf_tokens.specs.declared.states.number.Number.TheVariants as number_state
-use Rattle.rdf_tokens.specs.declared.states.number.Number as number_type
-use Rattle.rdf_tokens.specs.Number as number
-use Rattle.rdf_tokens.proofs.NumberLemmas.{number-kind, number-live, numbers}
-use Rattle.rdf_tokens.specs.declared.states.name.Name.TheVariants as name_state
-use Rattle.rdf_tokens.specs.declared.states.name.Name as name_type
-use Rattle.rdf_tokens.specs.Name as name
-use Rattle.rdf_tokens.proofs.NameLemmas.{name-kind, name-live, names}
+use Rattle.rdf_tokens.proofs.IriLemmas as iri
+use Rattle.rdf_tokens.proofs.LabelLemmas as label
+use Rattle.rdf_tokens.proofs.TextLemmas as text
+use Rattle.rdf_tokens.proofs.TagLemmas as tag
+use Rattle.rdf_tokens.proofs.NumberLemmas as number
+use Rattle.rdf_tokens.proofs.NameLemmas as name
 
 -- a test of two sorts of one character holds, if it does below 128 and at each width
 both_sorts : {X Y : Type 0} → (a : ℕ → X) (h : Wide → X) (b : ℕ → Y) (k : Wide → Y) (test : X → Y → Bool) →
@@ -65,267 +54,126 @@ project : {S T : Type 0} → (p : S → T) (f : S → ℕ → S) (g : T → ℕ 
 project p f g h s [] = refl
 project p f g h s (c ∷ w) = project p f g h (f s c) w ∙ ap (λ t. run g t w) (h s c)
 
--- the part of the state that is iri's
-abbrev iri_part : State → iri_type.Iri
-iri_part Start = iri_state.Start
-iri_part (Iri s) = s
-iri_part s = iri_state.Dead
+-- the family of the token that a character begins
+abbrev first_of : ℕ → first.Family
+first_of c = sort_by ascii high c
 
--- the family is that of an IRIREF
-abbrev is_iri : Family → Bool
-is_iri family.Iri = true
-is_iri f = false
+-- no token comes after this state
+abbrev is_dead : State → Bool
+is_dead (Iri iri_state.Dead) = true
+is_dead (Label label_state.Dead) = true
+is_dead (Text text_state.Dead) = true
+is_dead (Tag tag_state.Dead) = true
+is_dead (Number number_state.Dead) = true
+is_dead (Name name_state.Dead) = true
+is_dead Dead = true
+is_dead s = false
 
--- the state can no longer become an IRIREF
-abbrev no_iri : iri_type.Iri → Bool
-no_iri iri_state.Dead = true
-no_iri s = false
+-- a dead state: no character changes it, it has no kind, and it does not go on
+abbrev Ended : Dialect → State → Type 0
+Ended d s = ((c : ℕ) → step d s c ≡ s) × kind_at s ≡ None × goes_on d s ≡ false
 
--- such a state is the dead one
-no_iri-dead : (s : iri_type.Iri) → no_iri s ≡ true → s ≡ iri_state.Dead
-no_iri-dead iri_state.Dead e = refl
-no_iri-dead s e = absurd (false≢true e)
+-- a state that no character changes is the same after any text
+stays : (d : Dialect) (s : State) → ((c : ℕ) → step d s c ≡ s) → (w : List ℕ) → run (step d) s w ≡ s
+stays d s h [] = refl
+stays d s h (c ∷ w) = ap (λ t. run (step d) t w) (h c) ∙ stays d s h w
 
--- a first character that is not of the family can begin no token of it
-only_iri : (d : Dialect) (c : ℕ) → (is_iri (sort_by ascii high c) || no_iri (iri.step iri_state.Start c)) ≡ true
-only_iri Lines c =
-    both_sorts ascii high iri.ascii iri.high (λ f x. is_iri f || no_iri (iri.move iri_state.Start x)) refl
-    (λ v. elim v as (λ v. (is_iri (high v) || no_iri (iri.move iri_state.Start (iri.high v))) ≡ true)
-    [ wide.Letter ↦ refl | wide.Mark ↦ refl | wide.Other ↦ refl ]) c
-only_iri Turtle c = both_sorts ascii high iri.ascii iri.high (λ f x. is_iri f || no_iri (iri.move iri_state.Start x)) refl
-    (λ v. elim v as (λ v. (is_iri (high v) || no_iri (iri.move iri_state.Start (iri.high v))) ≡ true)
-    [ wide.Letter ↦ refl | wide.Mark ↦ refl | wide.Other ↦ refl ]) c
+-- what the test finds is a dead state
+dead-ended : (d : Dialect) (s : State) → is_dead s ≡ true → Ended d s
+dead-ended d (Iri iri_state.Dead) e = (λ c. refl, refl, refl)
+dead-ended d (Label label_state.Dead) e = (λ c. refl, refl, refl)
+dead-ended d (Text text_state.Dead) e = (λ c. refl, refl, refl)
+dead-ended d (Tag tag_state.Dead) e = (λ c. refl, refl, refl)
+dead-ended d (Number number_state.Dead) e = (λ c. refl, refl, refl)
+dead-ended d (Name name_state.Dead) e = (λ c. refl, refl, refl)
+dead-ended d Dead e = (λ c. refl, refl, refl)
+dead-ended d s e = absurd (false≢true e)
 
--- the part of an IRIREF moves as its family does, whichever token has begun
-iri_step : (d : Dialect) (s : State) (c : ℕ) → iri_part (step d s c) ≡ iri.step (iri_part s) c
-iri_step d Start c = go (sort_by ascii high c) (only_iri d c)
+-- a character of this sort begins a token of the family, or leads it to a dead state
+abbrev apart : {T X : Type 0} → Family T X → first.Family → (T → State) → first.Family → X → Bool
+apart f mine put g x = place mine == place g || is_dead (put (f.move f.start x))
+
+-- the same for all characters, by a test of each ASCII character and each width
+abbrev all_apart : {T X : Type 0} → Family T X → first.Family → (T → State) → Bool
+all_apart f mine put =
+    agree_below (λ c. apart f mine put (ascii c) (f.ascii c)) (λ c. true) 128 && apart f mine put (high wide.Letter) (f.high wide.Letter)
+    && apart f mine put (high wide.Mark) (f.high wide.Mark) && apart f mine put (high wide.Other) (f.high wide.Other)
+
+-- How a family stands among the states of all: each of its own is put there, and moves, begins, has a kind and goes on there as by itself.
+record Part (T X : Type 0) : Type 0 where
+  own : Family T X
+  mine : first.Family
+  put : T → State
+  follows : (t : T) (c : ℕ) → put (step_of own t c) ≡ step own.dialect (put t) c × put (step_of own own.start c) ≡ begin own.dialect mine c
+      × own.kind_at t ≡ kind_at (put t) × own.goes_on t ≡ goes_on own.dialect (put t)
+  alone : all_apart own mine put ≡ true
+
+-- each character begins a token of the family, or leads it to a dead state
+begins_or_dead : {T X : Type 0} → (p : Part T X) (c : ℕ) → apart p.own p.mine p.put (first_of c) (sort_by p.own.ascii p.own.high c) ≡ true
+begins_or_dead p c =
+    let a = and_parts _ _ p.alone in
+    let b = and_parts _ _ a.0 in
+    let l = and_parts _ _ b.0 in
+    both_sorts ascii high p.own.ascii p.own.high (apart p.own p.mine p.put) l.0
+    (λ v. elim v as (λ v. apart p.own p.mine p.put (high v) (p.own.high v) ≡ true)
+    [ wide.Letter ↦ l.1 | wide.Mark ↦ b.1 | wide.Other ↦ a.1 ]) c
+
+-- What a family tells of a text by the common state: its kinds, if the text begins as its tokens do, and none else.
+record Told (d : Dialect) : Type 0 where
+  kinds : List Kind
+  mine : first.Family
+  kind : (c : ℕ) (w : List ℕ) → IsChars (c ∷ w) → first_kind d kinds (c ∷ w)
+      ≡ cond (place mine == place (first_of c)) (kind_at (run (step d) Start (c ∷ w))) None
+  live : (c : ℕ) (w : List ℕ) → IsChars (c ∷ w) → longer (after_all (any_shape d kinds) (c ∷ w))
+      ≡ cond (place mine == place (first_of c)) (goes_on d (run (step d) Start (c ∷ w))) false
+
+-- if a text begins as the family's tokens do, its own state tells what the common one does; else its own is a dead one and tells nothing
+own_state : {T X : Type 0} → (p : Part T X) {Y : Type 0} (of : State → Y) (none : Y) → ((s : State) → Ended p.own.dialect s → of s ≡ none) →
+    (c : ℕ) (w : List ℕ) → of (p.put (run (step_of p.own) p.own.start (c ∷ w)))
+    ≡ cond (place p.mine == place (first_of c)) (of (run (step p.own.dialect) Start (c ∷ w))) none
+own_state p of none h c w =
+    ap of (project p.put (step_of p.own) (step p.own.dialect) (λ t c. (p.follows t c).0) (step_of p.own p.own.start c) w)
+    ∙ go (place p.mine == place (first_of c)) refl (begins_or_dead p c)
   where
-    go : (f : Family) → (is_iri f || no_iri (iri.step iri_state.Start c)) ≡ true → iri_part (begin d f c) ≡ iri.step iri_state.Start c
-    go family.Iri e = refl
-    go f e = sym (no_iri-dead _ e)
-iri_step d s c = refl
+    d : Dialect
+    d = p.own.dialect
 
--- after any text the part of IRIREF is the state of its family
-iri_run : (d : Dialect) (w : List ℕ) → iri_part (run (step d) Start w) ≡ run (iri.step) iri_state.Start w
-iri_run d w = project iri_part (step d) (iri.step) (iri_step d) Start w
+    s : State
+    s = p.put (step_of p.own p.own.start c)
 
--- the part of the state that is label's
-abbrev label_part : State → label_type.Label
-label_part Start = label_state.Start
-label_part (Label s) = s
-label_part s = label_state.Dead
+    go : (t : Bool) → (place p.mine == place (first_of c)) ≡ t → (t || is_dead s) ≡ true → of (run (step d) s w)
+        ≡ cond t (of (run (step d) Start (c ∷ w))) none
+    go true e x = ap (λ s. of (run (step d) s w)) ((p.follows p.own.start c).1 ∙ ap (λ f. begin d f c) (same_place _ _ (eqb-true _ _ e)))
+    go false e x = let z = dead-ended d s x in ap of (stays d s z.0 w) ∙ h s z
 
--- the family is that of a label
-abbrev is_label : Family → Bool
-is_label family.Label = true
-is_label f = false
+-- what a family tells by its own state, told by the common one
+abbrev told : {T X : Type 0} → (p : Part T X) → Told p.own.dialect
+told p = record {
+  kinds = p.own.kinds;
+  mine = p.mine;
+  kind = λ c w h. family-kind p.own (c ∷ w) h ∙ ((p.follows _ c).2 ∙ own_state p kind_at None (λ s e. e.1) c w);
+  live = λ c w h. family-live p.own (c ∷ w) h ∙ ((p.follows _ c).3 ∙ own_state p (goes_on p.own.dialect) false (λ s e. e.2) c w);
+}
 
--- the state can no longer become a label
-abbrev no_label : label_type.Label → Bool
-no_label label_state.Dead = true
-no_label s = false
+-- no first character of another family begins a number
+number_alone : (d : Dialect) → all_apart (number.family d) family.Number Number ≡ true
+number_alone Lines = refl
+number_alone Turtle = refl
 
--- such a state is the dead one
-no_label-dead : (s : label_type.Label) → no_label s ≡ true → s ≡ label_state.Dead
-no_label-dead label_state.Dead e = refl
-no_label-dead s e = absurd (false≢true e)
+-- no first character of another family begins a prefixed name
+name_alone : (d : Dialect) → all_apart (name.family d) family.Name Name ≡ true
+name_alone Lines = refl
+name_alone Turtle = refl
 
--- a first character that is not of the family can begin no token of it
-only_label : (d : Dialect) (c : ℕ) → (is_label (sort_by ascii high c) || no_label (label.step d label_state.Start c)) ≡ true
-only_label Lines c = both_sorts ascii high label.ascii label.high (λ f x. is_label f || no_label (label.move Lines label_state.Start x))
-    refl (λ v. elim v as (λ v. (is_label (high v) || no_label (label.move Lines label_state.Start (label.high v))) ≡ true)
-    [ wide.Letter ↦ refl | wide.Mark ↦ refl | wide.Other ↦ refl ]) c
-only_label Turtle c = both_sorts ascii high label.ascii label.high (λ f x. is_label f || no_label (label.move Turtle label_state.Start x))
-    refl (λ v. elim v as (λ v. (is_label (high v) || no_label (label.move Turtle label_state.Start (label.high v))) ≡ true)
-    [ wide.Letter ↦ refl | wide.Mark ↦ refl | wide.Other ↦ refl ]) c
-
--- the part of a label moves as its family does, whichever token has begun
-label_step : (d : Dialect) (s : State) (c : ℕ) → label_part (step d s c) ≡ label.step d (label_part s) c
-label_step d Start c = go (sort_by ascii high c) (only_label d c)
-  where
-    go : (f : Family) → (is_label f || no_label (label.step d label_state.Start c)) ≡ true → label_part (begin d f c) ≡ label.step d label_state.Start c
-    go family.Label e = refl
-    go f e = sym (no_label-dead _ e)
-label_step d s c = refl
-
--- after any text the part of labels is the state of its family
-label_run : (d : Dialect) (w : List ℕ) → label_part (run (step d) Start w) ≡ run (label.step d) label_state.Start w
-label_run d w = project label_part (step d) (label.step d) (label_step d) Start w
-
--- the part of the state that is text's
-abbrev text_part : State → text_type.Text
-text_part Start = text_state.Start
-text_part (Text s) = s
-text_part s = text_state.Dead
-
--- the family is that of a string
-abbrev is_text : Family → Bool
-is_text family.Text = true
-is_text f = false
-
--- the state can no longer become a string
-abbrev no_text : text_type.Text → Bool
-no_text text_state.Dead = true
-no_text s = false
-
--- such a state is the dead one
-no_text-dead : (s : text_type.Text) → no_text s ≡ true → s ≡ text_state.Dead
-no_text-dead text_state.Dead e = refl
-no_text-dead s e = absurd (false≢true e)
-
--- a first character that is not of the family can begin no token of it
-only_text : (d : Dialect) (c : ℕ) → (is_text (sort_by ascii high c) || no_text (text.step d text_state.Start c)) ≡ true
-only_text Lines c = both_sorts ascii high text.ascii text.high (λ f x. is_text f || no_text (text.move Lines text_state.Start x)) refl
-    (λ v. elim v as (λ v. (is_text (high v) || no_text (text.move Lines text_state.Start (text.high v))) ≡ true)
-    [ wide.Letter ↦ refl | wide.Mark ↦ refl | wide.Other ↦ refl ]) c
-only_text Turtle c = both_sorts ascii high text.ascii text.high (λ f x. is_text f || no_text (text.move Turtle text_state.Start x)) refl
-    (λ v. elim v as (λ v. (is_text (high v) || no_text (text.move Turtle text_state.Start (text.high v))) ≡ true)
-    [ wide.Letter ↦ refl | wide.Mark ↦ refl | wide.Other ↦ refl ]) c
-
--- the part of a string moves as its family does, whichever token has begun
-text_step : (d : Dialect) (s : State) (c : ℕ) → text_part (step d s c) ≡ text.step d (text_part s) c
-text_step d Start c = go (sort_by ascii high c) (only_text d c)
-  where
-    go : (f : Family) → (is_text f || no_text (text.step d text_state.Start c)) ≡ true → text_part (begin d f c) ≡ text.step d text_state.Start c
-    go family.Text e = refl
-    go f e = sym (no_text-dead _ e)
-text_step d s c = refl
-
--- after any text the part of strings is the state of its family
-text_run : (d : Dialect) (w : List ℕ) → text_part (run (step d) Start w) ≡ run (text.step d) text_state.Start w
-text_run d w = project text_part (step d) (text.step d) (text_step d) Start w
-
--- the part of the state that is tag's
-abbrev tag_part : State → tag_type.Tag
-tag_part Start = tag_state.Start
-tag_part (Tag s) = s
-tag_part s = tag_state.Dead
-
--- the family is that of a language tag
-abbrev is_tag : Family → Bool
-is_tag family.Tag = true
-is_tag f = false
-
--- the state can no longer become a language tag
-abbrev no_tag : tag_type.Tag → Bool
-no_tag tag_state.Dead = true
-no_tag s = false
-
--- such a state is the dead one
-no_tag-dead : (s : tag_type.Tag) → no_tag s ≡ true → s ≡ tag_state.Dead
-no_tag-dead tag_state.Dead e = refl
-no_tag-dead s e = absurd (false≢true e)
-
--- a first character that is not of the family can begin no token of it
-only_tag : (d : Dialect) (c : ℕ) → (is_tag (sort_by ascii high c) || no_tag (tag.step tag_state.Start c)) ≡ true
-only_tag Lines c =
-    both_sorts ascii high tag.ascii tag.high (λ f x. is_tag f || no_tag (tag.move tag_state.Start x)) refl
-    (λ v. elim v as (λ v. (is_tag (high v) || no_tag (tag.move tag_state.Start (tag.high v))) ≡ true)
-    [ wide.Letter ↦ refl | wide.Mark ↦ refl | wide.Other ↦ refl ]) c
-only_tag Turtle c = both_sorts ascii high tag.ascii tag.high (λ f x. is_tag f || no_tag (tag.move tag_state.Start x)) refl
-    (λ v. elim v as (λ v. (is_tag (high v) || no_tag (tag.move tag_state.Start (tag.high v))) ≡ true)
-    [ wide.Letter ↦ refl | wide.Mark ↦ refl | wide.Other ↦ refl ]) c
-
--- the part of a language tag moves as its family does, whichever token has begun
-tag_step : (d : Dialect) (s : State) (c : ℕ) → tag_part (step d s c) ≡ tag.step (tag_part s) c
-tag_step d Start c = go (sort_by ascii high c) (only_tag d c)
-  where
-    go : (f : Family) → (is_tag f || no_tag (tag.step tag_state.Start c)) ≡ true → tag_part (begin d f c) ≡ tag.step tag_state.Start c
-    go family.Tag e = refl
-    go f e = sym (no_tag-dead _ e)
-tag_step d s c = refl
-
--- after any text the part of tags is the state of its family
-tag_run : (d : Dialect) (w : List ℕ) → tag_part (run (step d) Start w) ≡ run (tag.step) tag_state.Start w
-tag_run d w = project tag_part (step d) (tag.step) (tag_step d) Start w
-
--- the part of the state that is number's
-abbrev number_part : State → number_type.Number
-number_part Start = number_state.Start
-number_part (Number s) = s
-number_part s = number_state.Dead
-
--- the family is that of a number
-abbrev is_number : Family → Bool
-is_number family.Number = true
-is_number f = false
-
--- the state can no longer become a number
-abbrev no_number : number_type.Number → Bool
-no_number number_state.Dead = true
-no_number s = false
-
--- such a state is the dead one
-no_number-dead : (s : number_type.Number) → no_number s ≡ true → s ≡ number_state.Dead
-no_number-dead number_state.Dead e = refl
-no_number-dead s e = absurd (false≢true e)
-
--- a first character that is not of the family can begin no token of it
-only_number : (d : Dialect) (c : ℕ) → (is_number (sort_by ascii high c) || no_number (number.step d number_state.Start c)) ≡ true
-only_number Lines c = both_sorts ascii high number.ascii number.high
-    (λ f x. is_number f || no_number (number.move Lines number_state.Start x)) refl
-    (λ v. elim v as (λ v. (is_number (high v) || no_number (number.move Lines number_state.Start (number.high v))) ≡ true)
-    [ wide.Letter ↦ refl | wide.Mark ↦ refl | wide.Other ↦ refl ]) c
-only_number Turtle c = both_sorts ascii high number.ascii number.high
-    (λ f x. is_number f || no_number (number.move Turtle number_state.Start x)) refl
-    (λ v. elim v as (λ v. (is_number (high v) || no_number (number.move Turtle number_state.Start (number.high v))) ≡ true)
-    [ wide.Letter ↦ refl | wide.Mark ↦ refl | wide.Other ↦ refl ]) c
-
--- the part of a number moves as its family does, whichever token has begun
-number_step : (d : Dialect) (s : State) (c : ℕ) → number_part (step d s c) ≡ number.step d (number_part s) c
-number_step d Start c = go (sort_by ascii high c) (only_number d c)
-  where
-    go : (f : Family) → (is_number f || no_number (number.step d number_state.Start c)) ≡ true → number_part (begin d f c) ≡ number.step d number_state.Start c
-    go family.Number e = refl
-    go f e = sym (no_number-dead _ e)
-number_step d s c = refl
-
--- after any text the part of numbers is the state of its family
-number_run : (d : Dialect) (w : List ℕ) → number_part (run (step d) Start w) ≡ run (number.step d) number_state.Start w
-number_run d w = project number_part (step d) (number.step d) (number_step d) Start w
-
--- the part of the state that is name's
-abbrev name_part : State → name_type.Name
-name_part Start = name_state.Start
-name_part (Name s) = s
-name_part s = name_state.Dead
-
--- the family is that of a prefixed name
-abbrev is_name : Family → Bool
-is_name family.Name = true
-is_name f = false
-
--- the state can no longer become a prefixed name
-abbrev no_name : name_type.Name → Bool
-no_name name_state.Dead = true
-no_name s = false
-
--- such a state is the dead one
-no_name-dead : (s : name_type.Name) → no_name s ≡ true → s ≡ name_state.Dead
-no_name-dead name_state.Dead e = refl
-no_name-dead s e = absurd (false≢true e)
-
--- a first character that is not of the family can begin no token of it
-only_name : (d : Dialect) (c : ℕ) → (is_name (sort_by ascii high c) || no_name (name.step d name_state.Start c)) ≡ true
-only_name Lines c = both_sorts ascii high name.ascii name.high (λ f x. is_name f || no_name (name.move Lines name_state.Start x)) refl
-    (λ v. elim v as (λ v. (is_name (high v) || no_name (name.move Lines name_state.Start (name.high v))) ≡ true)
-    [ wide.Letter ↦ refl | wide.Mark ↦ refl | wide.Other ↦ refl ]) c
-only_name Turtle c = both_sorts ascii high name.ascii name.high (λ f x. is_name f || no_name (name.move Turtle name_state.Start x)) refl
-    (λ v. elim v as (λ v. (is_name (high v) || no_name (name.move Turtle name_state.Start (name.high v))) ≡ true)
-    [ wide.Letter ↦ refl | wide.Mark ↦ refl | wide.Other ↦ refl ]) c
-
--- the part of a prefixed name moves as its family does, whichever token has begun
-name_step : (d : Dialect) (s : State) (c : ℕ) → name_part (step d s c) ≡ name.step d (name_part s) c
-name_step d Start c = go (sort_by ascii high c) (only_name d c)
-  where
-    go : (f : Family) → (is_name f || no_name (name.step d name_state.Start c)) ≡ true → name_part (begin d f c) ≡ name.step d name_state.Start c
-    go family.Name e = refl
-    go f e = sym (no_name-dead _ e)
-name_step d s c = refl
-
--- after any text the part of prefixed names is the state of its family
-name_run : (d : Dialect) (w : List ℕ) → name_part (run (step d) Start w) ≡ run (name.step d) name_state.Start w
-name_run d w = project name_part (step d) (name.step d) (name_step d) Start w
+-- what the six families tell
+abbrev parts : (d : Dialect) → List (Told d)
+parts d =
+    told (record { own = iri.family d; mine = family.Iri; put = Iri; follows = λ t c. (refl, refl, refl, refl); alone = refl }) ∷
+    told (record { own = label.family d; mine = family.Label; put = Label; follows = λ t c. (refl, refl, refl, refl); alone = refl }) ∷
+    told (record { own = text.family d; mine = family.Text; put = Text; follows = λ t c. (refl, refl, refl, refl); alone = refl }) ∷
+    told (record { own = tag.family d; mine = family.Tag; put = Tag; follows = λ t c. (refl, refl, refl, refl); alone = refl }) ∷
+    told (record { own = number.family d; mine = family.Number; put = Number; follows = λ t c. (refl, refl, refl, refl); alone = number_alone d }) ∷
+    told (record { own = name.family d; mine = family.Name; put = Name; follows = λ t c. (refl, refl, refl, refl); alone = name_alone d }) ∷ []
 
 -- the first kind of two lists is that of the first, or else that of the second
 first_kind-append : (d : Dialect) (a b : List Kind) (w : List ℕ) → first_kind d (a ++ b) w ≡ or_else (first_kind d a w) (first_kind d b w)
@@ -350,145 +198,66 @@ live-append d (k ∷ a) b w =
     go true = refl
     go false = refl
 
--- or none changes nothing
-or_none : (o : Option Kind) → or_else o None ≡ o
-or_none None = refl
-or_none (Some k) = refl
+-- the kinds of several families
+abbrev all_kinds : {d : Dialect} → List (Told d) → List Kind
+all_kinds [] = []
+all_kinds (p ∷ ps) = p.kinds ++ all_kinds ps
 
--- or false changes nothing
-or_false : (b : Bool) → (b || false) ≡ b
-or_false true = refl
-or_false false = refl
+-- one of them has tokens that begin so
+abbrev any_mine : {d : Dialect} → List (Told d) → first.Family → Bool
+any_mine [] f = false
+any_mine (p ∷ ps) f = place p.mine == place f || any_mine ps f
 
--- the parts together
-abbrev kind_by_parts : State → Option Kind
-kind_by_parts s =
-    (or_else (cond (iri.accepts (iri_part s)) (Some IriRef) None) (or_else (cond (label.accepts (label_part s)) (Some LabelNode) None)
-    (or_else (text.kind_at (text_part s)) (or_else (cond (tag.accepts (tag_part s)) (Some LangTag) None)
-    (or_else (number.kind_at (number_part s)) (name.kind_at (name_part s)))))))
+-- several families tell the kind of a text by the common state
+parts-kind : (d : Dialect) (ps : List (Told d)) (c : ℕ) (w : List ℕ) → IsChars (c ∷ w) → first_kind d (all_kinds ps) (c ∷ w)
+    ≡ cond (any_mine ps (first_of c)) (kind_at (run (step d) Start (c ∷ w))) None
+parts-kind d [] c w h = refl
+parts-kind d (p ∷ ps) c w h =
+    first_kind-append d p.kinds (all_kinds ps) (c ∷ w) ∙ (ap (λ o. or_else o (first_kind d (all_kinds ps) (c ∷ w))) (p.kind c w h)
+    ∙ (ap (or_else _) (parts-kind d ps c w h) ∙ go (place p.mine == place (first_of c)) (any_mine ps (first_of c)) _))
+  where
+    go : (a b : Bool) (k : Option Kind) → or_else (cond a k None) (cond b k None) ≡ cond (a || b) k None
+    go false b k = refl
+    go true b (Some k) = refl
+    go true true None = refl
+    go true false None = refl
 
--- whether one of the six parts goes on
-abbrev live_by_parts : Dialect → State → Bool
-live_by_parts d s =
-    (iri.goes_on (iri_part s) || (label.goes_on (label_part s) || (text.goes_on d (text_part s)
-    || (tag.goes_on (tag_part s) || (number.goes_on d (number_part s) || (name.goes_on d (name_part s)))))))
+-- several families tell whether a longer token begins so
+parts-live : (d : Dialect) (ps : List (Told d)) (c : ℕ) (w : List ℕ) → IsChars (c ∷ w) → longer (after_all (any_shape d (all_kinds ps)) (c ∷ w))
+    ≡ cond (any_mine ps (first_of c)) (goes_on d (run (step d) Start (c ∷ w))) false
+parts-live d [] c w h = ap longer (after_nothing (c ∷ w))
+parts-live d (p ∷ ps) c w h =
+    live-append d p.kinds (all_kinds ps) (c ∷ w) ∙ (ap (λ o. o || longer (after_all (any_shape d (all_kinds ps)) (c ∷ w))) (p.live c w h)
+    ∙ (ap (λ o. cond (place p.mine == place (first_of c)) (goes_on d (run (step d) Start (c ∷ w))) false || o) (parts-live d ps c w h)
+    ∙ go (place p.mine == place (first_of c)) (any_mine ps (first_of c)) _))
+  where
+    go : (a b t : Bool) → (cond a t false || cond b t false) ≡ cond (a || b) t false
+    go false b t = refl
+    go true b true = refl
+    go true true false = refl
+    go true false false = refl
 
--- the kind of a state is that of the part that has one
-parts-kind : (s : State) → kind_by_parts s ≡ kind_at s
-parts-kind Start = refl
-parts-kind Dead = refl
-parts-kind (Iri s) = or_none _
-parts-kind (Label s) = or_none _
-parts-kind (Text s) = or_none _
-parts-kind (Tag s) = or_none _
-parts-kind (Number s) = or_none _
-parts-kind (Name s) = refl
-
--- a state goes on where one of its parts does
-parts-live : (d : Dialect) (s : State) → live_by_parts d s ≡ goes_on d s
-parts-live d Start = refl
-parts-live d Dead = refl
-parts-live d (Iri s) = or_false _
-parts-live d (Label s) = or_false _
-parts-live d (Text s) = or_false _
-parts-live d (Tag s) = or_false _
-parts-live d (Number s) = or_false _
-parts-live d (Name s) = refl
-
--- the kind that the family finds, by the part of the common state
-iri_kind : (d : Dialect) (w : List ℕ) → IsChars w → first_kind d (IriRef ∷ []) w
-    ≡ (let s : State = run (step d) Start w in cond (iri.accepts (iri_part s)) (Some IriRef) None)
-iri_kind d w h = iri-kind d w h ∙ ap (λ x. cond (iri.accepts x) (Some IriRef) None) (sym (iri_run d w))
-
--- whether a longer one begins so, by the part of the common state
-iri_live : (d : Dialect) (w : List ℕ) → IsChars w → longer (after_all (any_shape d (IriRef ∷ [])) w)
-    ≡ (let s : State = run (step d) Start w in iri.goes_on (iri_part s))
-iri_live d w h = iri-live d w h ∙ ap (λ x. iri.goes_on x) (sym (iri_run d w))
-
--- the kind that the family finds, by the part of the common state
-label_kind : (d : Dialect) (w : List ℕ) → IsChars w → first_kind d (LabelNode ∷ []) w
-    ≡ (let s : State = run (step d) Start w in cond (label.accepts (label_part s)) (Some LabelNode) None)
-label_kind d w h = label-kind d w h ∙ ap (λ x. cond (label.accepts x) (Some LabelNode) None) (sym (label_run d w))
-
--- whether a longer one begins so, by the part of the common state
-label_live : (d : Dialect) (w : List ℕ) → IsChars w → longer (after_all (any_shape d (LabelNode ∷ [])) w)
-    ≡ (let s : State = run (step d) Start w in label.goes_on (label_part s))
-label_live d w h = label-live d w h ∙ ap (λ x. label.goes_on x) (sym (label_run d w))
-
--- the kind that the family finds, by the part of the common state
-text_kind : (d : Dialect) (w : List ℕ) → IsChars w → first_kind d (strings) w ≡ (let s : State = run (step d) Start w in text.kind_at (text_part s))
-text_kind d w h = text-kind d w h ∙ ap (λ x. text.kind_at x) (sym (text_run d w))
-
--- whether a longer one begins so, by the part of the common state
-text_live : (d : Dialect) (w : List ℕ) → IsChars w → longer (after_all (any_shape d (strings)) w)
-    ≡ (let s : State = run (step d) Start w in text.goes_on d (text_part s))
-text_live d w h = text-live d w h ∙ ap (λ x. text.goes_on d x) (sym (text_run d w))
-
--- the kind that the family finds, by the part of the common state
-tag_kind : (d : Dialect) (w : List ℕ) → IsChars w → first_kind d (LangTag ∷ []) w
-    ≡ (let s : State = run (step d) Start w in cond (tag.accepts (tag_part s)) (Some LangTag) None)
-tag_kind d w h = tag-kind d w h ∙ ap (λ x. cond (tag.accepts x) (Some LangTag) None) (sym (tag_run d w))
-
--- whether a longer one begins so, by the part of the common state
-tag_live : (d : Dialect) (w : List ℕ) → IsChars w → longer (after_all (any_shape d (LangTag ∷ [])) w)
-    ≡ (let s : State = run (step d) Start w in tag.goes_on (tag_part s))
-tag_live d w h = tag-live d w h ∙ ap (λ x. tag.goes_on x) (sym (tag_run d w))
-
--- the kind that the family finds, by the part of the common state
-number_kind : (d : Dialect) (w : List ℕ) → IsChars w → first_kind d (numbers) w ≡ (let s : State = run (step d) Start w in number.kind_at (number_part s))
-number_kind d w h = number-kind d w h ∙ ap (λ x. number.kind_at x) (sym (number_run d w))
-
--- whether a longer one begins so, by the part of the common state
-number_live : (d : Dialect) (w : List ℕ) → IsChars w → longer (after_all (any_shape d (numbers)) w)
-    ≡ (let s : State = run (step d) Start w in number.goes_on d (number_part s))
-number_live d w h = number-live d w h ∙ ap (λ x. number.goes_on d x) (sym (number_run d w))
-
--- the kind that the family finds, by the part of the common state
-name_kind : (d : Dialect) (w : List ℕ) → IsChars w → first_kind d (names) w ≡ (let s : State = run (step d) Start w in name.kind_at (name_part s))
-name_kind d w h = name-kind d w h ∙ ap (λ x. name.kind_at x) (sym (name_run d w))
-
--- whether a longer one begins so, by the part of the common state
-name_live : (d : Dialect) (w : List ℕ) → IsChars w → longer (after_all (any_shape d (names)) w)
-    ≡ (let s : State = run (step d) Start w in name.goes_on d (name_part s))
-name_live d w h = name-live d w h ∙ ap (λ x. name.goes_on d x) (sym (name_run d w))
-
--- the shapes that have states
+-- the states tell the kind of a text, for all kinds that have no fixed spelling
 pub shaped-kind : (d : Dialect) (w : List ℕ) → IsChars w → first_kind d shaped w ≡ kind_at (run (step d) Start w)
-shaped-kind d w h =
-    first_kind-append d (IriRef ∷ []) (LabelNode ∷ [] ++ (strings ++ (LangTag ∷ [] ++ (numbers ++ (names))))) w
-    ∙ (ap (λ o. or_else o (first_kind d (LabelNode ∷ [] ++ (strings ++ (LangTag ∷ [] ++ (numbers ++ (names))))) w)) (iri_kind d w h)
-    ∙ (ap (or_else (let s : State = run (step d) Start w in cond (iri.accepts (iri_part s)) (Some IriRef) None))
-    (first_kind-append d (LabelNode ∷ []) (strings ++ (LangTag ∷ [] ++ (numbers ++ (names)))) w
-    ∙ (ap (λ o. or_else o (first_kind d (strings ++ (LangTag ∷ [] ++ (numbers ++ (names)))) w)) (label_kind d w h)
-    ∙ (ap (or_else (let s : State = run (step d) Start w in cond (label.accepts (label_part s)) (Some LabelNode) None))
-    (first_kind-append d (strings) (LangTag ∷ [] ++ (numbers ++ (names))) w
-    ∙ (ap (λ o. or_else o (first_kind d (LangTag ∷ [] ++ (numbers ++ (names))) w)) (text_kind d w h)
-    ∙ (ap (or_else (let s : State = run (step d) Start w in text.kind_at (text_part s)))
-    (first_kind-append d (LangTag ∷ []) (numbers ++ (names)) w ∙ (ap (λ o. or_else o (first_kind d (numbers ++ (names)) w)) (tag_kind d w h)
-    ∙ (ap (or_else (let s : State = run (step d) Start w in cond (tag.accepts (tag_part s)) (Some LangTag) None))
-    (first_kind-append d (numbers) (names) w ∙ (ap (λ o. or_else o (first_kind d (names) w)) (number_kind d w h)
-    ∙ (ap (or_else (let s : State = run (step d) Start w in number.kind_at (number_part s)))
-    (name_kind d w h)))))))))))))))
-    ∙ parts-kind (run (step d) Start w)
+unfolding shape
+shaped-kind Lines [] h = refl
+shaped-kind Turtle [] h = refl
+shaped-kind d (c ∷ w) h = parts-kind d (parts d) c w h ∙ go (first_of c)
+  where
+    go : (f : first.Family) → cond (any_mine (parts d) f) (kind_at (run (step d) (begin d f c) w)) None ≡ kind_at (run (step d) (begin d f c) w)
+    go family.Other = sym (ap kind_at (stays d Dead (λ c. refl) w))
+    go f = refl
 
 -- the states tell whether a longer token begins so, for all kinds that have no fixed spelling
 pub shaped-live : (d : Dialect) (w : List ℕ) → IsChars w → longer (after_all (any_shape d shaped) w) ≡ goes_on d (run (step d) Start w)
-shaped-live d w h =
-    live-append d (IriRef ∷ []) (LabelNode ∷ [] ++ (strings ++ (LangTag ∷ [] ++ (numbers ++ (names))))) w
-    ∙ (ap (λ o. o || longer (after_all (any_shape d (LabelNode ∷ [] ++ (strings ++ (LangTag ∷ [] ++ (numbers ++ (names)))))) w)) (iri_live d w h)
-    ∙ (ap (λ o. (let s : State = run (step d) Start w in iri.goes_on (iri_part s)) || o)
-    (live-append d (LabelNode ∷ []) (strings ++ (LangTag ∷ [] ++ (numbers ++ (names)))) w
-    ∙ (ap (λ o. o || longer (after_all (any_shape d (strings ++ (LangTag ∷ [] ++ (numbers ++ (names))))) w)) (label_live d w h)
-    ∙ (ap (λ o. (let s : State = run (step d) Start w in label.goes_on (label_part s)) || o)
-    (live-append d (strings) (LangTag ∷ [] ++ (numbers ++ (names))) w
-    ∙ (ap (λ o. o || longer (after_all (any_shape d (LangTag ∷ [] ++ (numbers ++ (names)))) w)) (text_live d w h)
-    ∙ (ap (λ o. (let s : State = run (step d) Start w in text.goes_on d (text_part s)) || o)
-    (live-append d (LangTag ∷ []) (numbers ++ (names)) w ∙ (ap (λ o. o || longer (after_all (any_shape d (numbers ++ (names))) w)) (tag_live d w h)
-    ∙ (ap (λ o. (let s : State = run (step d) Start w in tag.goes_on (tag_part s)) || o)
-    (live-append d (numbers) (names) w ∙ (ap (λ o. o || longer (after_all (any_shape d (names)) w)) (number_live d w h)
-    ∙ (ap (λ o. (let s : State = run (step d) Start w in number.goes_on d (number_part s)) || o)
-    (name_live d w h)))))))))))))))
-    ∙ parts-live d (run (step d) Start w)
+unfolding shape has
+shaped-live Lines [] h = refl
+shaped-live Turtle [] h = refl
+shaped-live d (c ∷ w) h = parts-live d (parts d) c w h ∙ go (first_of c)
+  where
+    go : (f : first.Family) → cond (any_mine (parts d) f) (goes_on d (run (step d) (begin d f c) w)) false ≡ goes_on d (run (step d) (begin d f c) w)
+    go family.Other = sym (ap (goes_on d) (stays d Dead (λ c. refl) w))
+    go f = refl
 
 -- the laws of the whole table: the kind of a text, and whether a longer shape begins so
 pub whole-kind : (d : Dialect) (w : List ℕ) → IsChars w → kind_of d w ≡ or_else (kind_by_table d w) (kind_at (run (step d) Start w))

@@ -1,22 +1,21 @@
 -- The states of prefixed names against their shapes.
-use Rattle.std.proofs.Common.{◌≡◌, ℕ, zero, suc, true, List, [], ◌∷◌, refl, ◌∙◌, inl, inr, map}
+use Rattle.std.proofs.Common.{◌≡◌, ℕ, zero, suc, true, List, [], ◌∷◌, refl, inl, inr, map}
 use Rattle.rdf_terms.specs.declared.kind.Kind.{Kind}
 use Rattle.rdf_terms.specs.declared.kind.Kind.TheVariants.{PnameNs, PnameLn}
 use Rattle.rdf_terms.specs.declared.kind.Dialect.{Dialect}
 use Rattle.rdf_terms.specs.declared.kind.Dialect.TheVariants.{Lines, Turtle}
 use Rattle.rdf_terms.specs.Classes.{Class, has}
 use Rattle.rdf_terms.specs.Classes.Class.{the, digit, hex_digit, local_escape, pn_base, pn_u, pn_char}
-use Rattle.rdf_terms.specs.Regex.{Regex, longer, after_all}
+use Rattle.rdf_terms.specs.Regex.{Regex}
 use Rattle.rdf_terms.specs.Regex.Regex.{nothing, empty, one, ◌·◌, ◌∣◌, many}
-use Rattle.rdf_terms.specs.Shapes.{shape, any_shape, first_kind, dot, plx, pn_local}
-use Rattle.rdf_tokens.specs.Machines.{run, IsChars}
+use Rattle.rdf_terms.specs.Shapes.{shape, dot, plx, pn_local}
 use Rattle.rdf_tokens.specs.declared.states.name.Sort.{Sort}
 use Rattle.rdf_tokens.specs.declared.states.name.Sort.TheVariants as sort
 use Rattle.rdf_tokens.specs.declared.states.name.Name.{Name}
 use Rattle.rdf_tokens.specs.declared.states.name.Name.TheVariants.{Start, Prefix, PrefixDots, Colon, Local, LocalDots, Escape, Hex, Dead}
-use Rattle.rdf_tokens.specs.Name.{ascii, high, move, step, kind_at, goes_on}
+use Rattle.rdf_tokens.specs.Name.{ascii, high, move, kind_at, goes_on}
 use Rattle.rdf_tokens.proofs.SortLemmas.{sorts_agree}
-use Rattle.rdf_tokens.proofs.FamilyLemmas.{Family, Moves, factored, same, hexes, possible-hexes, covers_all, kind_in, longer_in, kind-run, live-run}
+use Rattle.rdf_tokens.proofs.FamilyLemmas.{Family, Moves, factored, same, hexes, possible-hexes, covers_all, kind_in, longer_in}
 
 -- a character of each sort, which stands for all of it
 abbrev rep : Sort → ℕ
@@ -54,7 +53,7 @@ abbrev last : Regex
 last = one (pn_char Turtle) ∣ one (the 58) ∣ plx
 
 -- what is left to match in a state, of a namespace and a name
-unfoldable meaning : Dialect → Name → List Regex
+unfoldable pub meaning : Dialect → Name → List Regex
 meaning d Start = map (shape d) names
 meaning d Prefix = ((empty ∣ prefix_more) · one (the 58)) ∷ ((empty ∣ prefix_more) · one (the 58) · pn_local) ∷ []
 meaning d PrefixDots = (prefix_more · one (the 58)) ∷ (prefix_more · one (the 58) · pn_local) ∷ []
@@ -66,7 +65,7 @@ meaning d (Hex n) = nothing ∷ (hexes n · (empty ∣ inner · last)) ∷ []
 meaning d Dead = nothing ∷ nothing ∷ []
 
 -- where a character of a sort leads is what is left to match after it, so the table of moves is right
-moves : (d : Dialect) (s : Name) (x : Sort) → Moves rep (move d) (meaning d) s x
+pub moves : (d : Dialect) (s : Name) (x : Sort) → Moves rep (move d) (meaning d) s x
 unfolding meaning shape has
 moves Lines Start sort.Dot = inl refl
 moves Lines Start x = inl refl
@@ -95,7 +94,7 @@ moves d (Hex (suc (suc n))) x = inl refl
 moves d Dead x = inl refl
 
 -- the expressions have no other classes than these
-covered : (d : Dialect) (s : Name) → covers_all classes (meaning d s) ≡ true
+pub covered : (d : Dialect) (s : Name) → covers_all classes (meaning d s) ≡ true
 unfolding meaning shape
 covered Lines Start = refl
 covered Turtle Start = refl
@@ -104,26 +103,12 @@ covered d (Hex (suc n)) = covered d (Hex n)
 covered d s = refl
 
 -- characters of one sort are in the same classes, by a test of each ASCII character and each width
-sorts : sorts_agree ascii high rep classes ≡ true
+pub sorts : sorts_agree ascii high rep classes ≡ true
 unfolding has
 sorts = refl
 
--- all of this together, as the general lemmas on families take it
-abbrev family : Dialect → Family Name Sort
-family d = record {
-  ascii = ascii;
-  high = high;
-  rep = rep;
-  move = move d;
-  meaning = meaning d;
-  classes = classes;
-  sorts = sorts;
-  covered = covered d;
-  moves = moves d;
-}
-
 -- a state has a kind exactly where nothing is left to match of the expression of that kind
-kind_of_state : (d : Dialect) (s : Name) → kind_in names (meaning d s) ≡ kind_at s
+pub kind_of_state : (d : Dialect) (s : Name) → kind_in names (meaning d s) ≡ kind_at s
 unfolding meaning shape
 kind_of_state Lines Start = refl
 kind_of_state Turtle Start = refl
@@ -132,7 +117,7 @@ kind_of_state d (Hex (suc n)) = refl
 kind_of_state d s = refl
 
 -- a state goes on exactly where something longer can match
-live_state : (d : Dialect) (s : Name) → longer_in (meaning d s) ≡ goes_on d s
+pub live_state : (d : Dialect) (s : Name) → longer_in (meaning d s) ≡ goes_on d s
 unfolding meaning shape has
 live_state Lines Start = refl
 live_state Turtle Start = refl
@@ -141,14 +126,28 @@ live_state d (Hex (suc n)) = rw (possible-hexes n) refl
 live_state d s = refl
 
 -- at the start all of the shape is left
-starts : (d : Dialect) → meaning d Start ≡ map (shape d) names
+pub starts : (d : Dialect) → meaning d Start ≡ map (shape d) names
 unfolding meaning
 starts d = refl
 
--- the law of the family
-pub name-kind : (d : Dialect) (w : List ℕ) → IsChars w → first_kind d names w ≡ kind_at (run (step d) Start w)
-name-kind d w b = kind-run (family d) d names Start (starts d) w b ∙ kind_of_state d (run (step d) Start w)
-
--- the states go on after a text exactly where it begins a longer one of PNAME_NS and PNAME_LN
-pub name-live : (d : Dialect) (w : List ℕ) → IsChars w → longer (after_all (any_shape d names) w) ≡ goes_on d (run (step d) Start w)
-name-live d w b = live-run (family d) d names Start (starts d) w b ∙ live_state d (run (step d) Start w)
+-- all of this together, as the general lemmas on families take it
+abbrev pub family : Dialect → Family Name Sort
+family d = record {
+  dialect = d;
+  kinds = names;
+  ascii = ascii;
+  high = high;
+  rep = rep;
+  start = Start;
+  move = move d;
+  kind_at = kind_at;
+  goes_on = goes_on d;
+  meaning = meaning d;
+  classes = classes;
+  sorts = sorts;
+  covered = covered d;
+  moves = moves d;
+  starts = starts d;
+  kind_of_state = kind_of_state d;
+  live_state = live_state d;
+}

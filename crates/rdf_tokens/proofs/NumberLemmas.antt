@@ -1,22 +1,21 @@
 -- The states of numbers against their shapes.
-use Rattle.std.proofs.Common.{◌≡◌, ℕ, true, List, [], ◌∷◌, refl, ◌∙◌, inl, map}
+use Rattle.std.proofs.Common.{◌≡◌, ℕ, true, List, [], ◌∷◌, refl, inl, map}
 use Rattle.rdf_terms.specs.declared.kind.Kind.{Kind}
 use Rattle.rdf_terms.specs.declared.kind.Kind.TheVariants.{Integer, Decimal, Double}
 use Rattle.rdf_terms.specs.declared.kind.Dialect.{Dialect}
 use Rattle.rdf_terms.specs.declared.kind.Dialect.TheVariants.{Lines, Turtle}
 use Rattle.rdf_terms.specs.Classes.{Class, has}
 use Rattle.rdf_terms.specs.Classes.Class.{the, digit}
-use Rattle.rdf_terms.specs.Regex.{Regex, longer, after_all}
+use Rattle.rdf_terms.specs.Regex.{Regex}
 use Rattle.rdf_terms.specs.Regex.Regex.{nothing, one, ◌·◌, ◌∣◌, many}
-use Rattle.rdf_terms.specs.Shapes.{shape, any_shape, first_kind, dot, sign, digits, exponent}
-use Rattle.rdf_tokens.specs.Machines.{run, IsChars}
+use Rattle.rdf_terms.specs.Shapes.{shape, dot, sign, digits, exponent}
 use Rattle.rdf_tokens.specs.declared.states.number.Sort.{Sort}
 use Rattle.rdf_tokens.specs.declared.states.number.Sort.TheVariants as sort
 use Rattle.rdf_tokens.specs.declared.states.number.Number.{Number}
 use Rattle.rdf_tokens.specs.declared.states.number.Number.TheVariants.{Start, Sign, Dot, Digits, DigitsDot, Fraction, Exponent, ExponentSign, ExponentDigits, Dead}
-use Rattle.rdf_tokens.specs.Number.{ascii, high, move, step, kind_at, goes_on}
+use Rattle.rdf_tokens.specs.Number.{ascii, high, move, kind_at, goes_on}
 use Rattle.rdf_tokens.proofs.SortLemmas.{sorts_agree}
-use Rattle.rdf_tokens.proofs.FamilyLemmas.{Family, Moves, covers_all, kind_in, longer_in, kind-run, live-run}
+use Rattle.rdf_tokens.proofs.FamilyLemmas.{Family, Moves, covers_all, kind_in, longer_in}
 
 -- a character of each sort, which stands for all of it
 abbrev rep : Sort → ℕ
@@ -41,7 +40,7 @@ abbrev d* : Regex
 d* = many (one digit)
 
 -- what is left to match in a state, of an integer, a decimal and a double
-unfoldable meaning : Dialect → Number → List Regex
+unfoldable pub meaning : Dialect → Number → List Regex
 meaning d Start = map (shape d) numbers
 meaning d Sign = digits ∷ (d* · dot · digits) ∷ (digits · dot · d* · exponent ∣ dot · digits · exponent ∣ digits · exponent) ∷ []
 meaning d Dot = nothing ∷ digits ∷ (digits · exponent) ∷ []
@@ -54,7 +53,7 @@ meaning d ExponentDigits = nothing ∷ nothing ∷ d* ∷ []
 meaning d Dead = nothing ∷ nothing ∷ nothing ∷ []
 
 -- where a character of a sort leads is what is left to match after it, so the table of moves is right
-moves : (d : Dialect) (s : Number) (x : Sort) → Moves rep (move d) (meaning d) s x
+pub moves : (d : Dialect) (s : Number) (x : Sort) → Moves rep (move d) (meaning d) s x
 unfolding meaning shape has
 moves Lines Start sort.Dot = inl refl
 moves Lines Start x = inl refl
@@ -79,54 +78,54 @@ moves d ExponentDigits x = inl refl
 moves d Dead x = inl refl
 
 -- the expressions have no other classes than these
-covered : (d : Dialect) (s : Number) → covers_all classes (meaning d s) ≡ true
+pub covered : (d : Dialect) (s : Number) → covers_all classes (meaning d s) ≡ true
 unfolding meaning shape
 covered Lines Start = refl
 covered Turtle Start = refl
 covered d s = refl
 
 -- characters of one sort are in the same classes, by a test of each ASCII character and each width
-sorts : sorts_agree ascii high rep classes ≡ true
+pub sorts : sorts_agree ascii high rep classes ≡ true
 unfolding has
 sorts = refl
 
--- all of this together, as the general lemmas on families take it
-abbrev family : Dialect → Family Number Sort
-family d = record {
-  ascii = ascii;
-  high = high;
-  rep = rep;
-  move = move d;
-  meaning = meaning d;
-  classes = classes;
-  sorts = sorts;
-  covered = covered d;
-  moves = moves d;
-}
-
 -- a state has a kind exactly where nothing is left to match of the expression of that kind
-kind_of_state : (d : Dialect) (s : Number) → kind_in numbers (meaning d s) ≡ kind_at s
+pub kind_of_state : (d : Dialect) (s : Number) → kind_in numbers (meaning d s) ≡ kind_at s
 unfolding meaning shape
 kind_of_state Lines Start = refl
 kind_of_state Turtle Start = refl
 kind_of_state d s = refl
 
 -- a state goes on exactly where something longer can match
-live_state : (d : Dialect) (s : Number) → longer_in (meaning d s) ≡ goes_on d s
+pub live_state : (d : Dialect) (s : Number) → longer_in (meaning d s) ≡ goes_on d s
 unfolding meaning shape has
 live_state Lines Start = refl
 live_state Turtle Start = refl
 live_state d s = refl
 
 -- at the start all of the shape is left
-starts : (d : Dialect) → meaning d Start ≡ map (shape d) numbers
+pub starts : (d : Dialect) → meaning d Start ≡ map (shape d) numbers
 unfolding meaning
 starts d = refl
 
--- the law of the family
-pub number-kind : (d : Dialect) (w : List ℕ) → IsChars w → first_kind d numbers w ≡ kind_at (run (step d) Start w)
-number-kind d w b = kind-run (family d) d numbers Start (starts d) w b ∙ kind_of_state d (run (step d) Start w)
-
--- the states go on after a text exactly where it begins a longer one of INTEGER, DECIMAL and DOUBLE
-pub number-live : (d : Dialect) (w : List ℕ) → IsChars w → longer (after_all (any_shape d numbers) w) ≡ goes_on d (run (step d) Start w)
-number-live d w b = live-run (family d) d numbers Start (starts d) w b ∙ live_state d (run (step d) Start w)
+-- all of this together, as the general lemmas on families take it
+abbrev pub family : Dialect → Family Number Sort
+family d = record {
+  dialect = d;
+  kinds = numbers;
+  ascii = ascii;
+  high = high;
+  rep = rep;
+  start = Start;
+  move = move d;
+  kind_at = kind_at;
+  goes_on = goes_on d;
+  meaning = meaning d;
+  classes = classes;
+  sorts = sorts;
+  covered = covered d;
+  moves = moves d;
+  starts = starts d;
+  kind_of_state = kind_of_state d;
+  live_state = live_state d;
+}

@@ -1,20 +1,19 @@
 -- The states of language tags against their shape.
-use Rattle.std.proofs.Common.{◌≡◌, ℕ, true, cond, List, [], ◌∷◌, refl, ◌∙◌, inl, Some, None, map}
+use Rattle.std.proofs.Common.{◌≡◌, ℕ, true, cond, List, [], ◌∷◌, refl, inl, Some, None, map}
 use Rattle.rdf_terms.specs.declared.kind.Kind.TheVariants.{LangTag}
 use Rattle.rdf_terms.specs.declared.kind.Dialect.{Dialect}
 use Rattle.rdf_terms.specs.Classes.{Class, has}
 use Rattle.rdf_terms.specs.Classes.Class.{the, letter, letter_or_digit}
-use Rattle.rdf_terms.specs.Regex.{Regex, longer, after_all}
+use Rattle.rdf_terms.specs.Regex.{Regex}
 use Rattle.rdf_terms.specs.Regex.Regex.{nothing, one, ◌·◌, many}
-use Rattle.rdf_terms.specs.Shapes.{shape, any_shape, first_kind, some}
-use Rattle.rdf_tokens.specs.Machines.{run, IsChars}
+use Rattle.rdf_terms.specs.Shapes.{shape, some}
 use Rattle.rdf_tokens.specs.declared.states.tag.Sort.{Sort}
 use Rattle.rdf_tokens.specs.declared.states.tag.Sort.TheVariants as sort
 use Rattle.rdf_tokens.specs.declared.states.tag.Tag.{Tag}
 use Rattle.rdf_tokens.specs.declared.states.tag.Tag.TheVariants.{Start, At, Letters, Hyphen, Part, Dead}
-use Rattle.rdf_tokens.specs.Tag.{ascii, high, move, step, accepts, goes_on}
+use Rattle.rdf_tokens.specs.Tag.{ascii, high, move, accepts, goes_on}
 use Rattle.rdf_tokens.proofs.SortLemmas.{sorts_agree}
-use Rattle.rdf_tokens.proofs.FamilyLemmas.{Family, Moves, covers_all, kind_in, longer_in, kind-run, live-run}
+use Rattle.rdf_tokens.proofs.FamilyLemmas.{Family, Moves, covers_all, kind_in, longer_in}
 
 -- a character of each sort, which stands for all of it
 abbrev rep : Sort → ℕ
@@ -33,7 +32,7 @@ abbrev parts : Regex
 parts = many (one (the 45) · some (one letter_or_digit))
 
 -- what is left to match in a state
-unfoldable meaning : Tag → List Regex
+unfoldable pub meaning : Tag → List Regex
 meaning Start = (one (the 64) · some (one letter) · parts) ∷ []
 meaning At = (some (one letter) · parts) ∷ []
 meaning Letters = (many (one letter) · parts) ∷ []
@@ -42,7 +41,7 @@ meaning Part = (many (one letter_or_digit) · parts) ∷ []
 meaning Dead = nothing ∷ []
 
 -- where a character of a sort leads is what is left to match after it, so the table of moves is right
-moves : (s : Tag) (x : Sort) → Moves rep move meaning s x
+pub moves : (s : Tag) (x : Sort) → Moves rep move meaning s x
 unfolding meaning has
 moves Start sort.At = inl refl
 moves Start x = inl refl
@@ -57,41 +56,51 @@ moves Part x = inl refl
 moves Dead x = inl refl
 
 -- the expressions have no other classes than these
-covered : (s : Tag) → covers_all classes (meaning s) ≡ true
+pub covered : (s : Tag) → covers_all classes (meaning s) ≡ true
 unfolding meaning
 covered Start = refl
 covered s = refl
 
 -- characters of one sort are in the same classes, by a test of each ASCII character and each width
-sorts : sorts_agree ascii high rep classes ≡ true
+pub sorts : sorts_agree ascii high rep classes ≡ true
 unfolding has
 sorts = refl
 
--- all of this together, as the general lemmas on families take it
-abbrev family : Family Tag Sort
-family = record { ascii = ascii; high = high; rep = rep; move = move; meaning = meaning; classes = classes; sorts = sorts; covered = covered; moves = moves }
-
 -- a state has a kind exactly where nothing is left to match of the expression of that kind
-kind_of_state : (s : Tag) → kind_in (LangTag ∷ []) (meaning s) ≡ cond (accepts s) (Some LangTag) None
+pub kind_of_state : (s : Tag) → kind_in (LangTag ∷ []) (meaning s) ≡ cond (accepts s) (Some LangTag) None
 unfolding meaning
 kind_of_state Start = refl
 kind_of_state s = refl
 
 -- a state goes on exactly where something longer can match
-live_state : (s : Tag) → longer_in (meaning s) ≡ goes_on s
+pub live_state : (s : Tag) → longer_in (meaning s) ≡ goes_on s
 unfolding meaning has
 live_state Start = refl
 live_state s = refl
 
 -- at the start all of the shape is left
-starts : (d : Dialect) → meaning Start ≡ map (shape d) (LangTag ∷ [])
+pub starts : (d : Dialect) → meaning Start ≡ map (shape d) (LangTag ∷ [])
 unfolding meaning shape
 starts d = refl
 
--- the law of the family
-pub tag-kind : (d : Dialect) (w : List ℕ) → IsChars w → first_kind d (LangTag ∷ []) w ≡ cond (accepts (run step Start w)) (Some LangTag) None
-tag-kind d w b = kind-run family d (LangTag ∷ []) Start (starts d) w b ∙ kind_of_state (run step Start w)
-
--- the states go on after a text exactly where it begins a longer one of LANGTAG
-pub tag-live : (d : Dialect) (w : List ℕ) → IsChars w → longer (after_all (any_shape d (LangTag ∷ [])) w) ≡ goes_on (run step Start w)
-tag-live d w b = live-run family d (LangTag ∷ []) Start (starts d) w b ∙ live_state (run step Start w)
+-- all of this together, as the general lemmas on families take it
+abbrev pub family : Dialect → Family Tag Sort
+family d = record {
+  dialect = d;
+  kinds = LangTag ∷ [];
+  ascii = ascii;
+  high = high;
+  rep = rep;
+  start = Start;
+  move = move;
+  kind_at = λ s. cond (accepts s) (Some LangTag) None;
+  goes_on = goes_on;
+  meaning = meaning;
+  classes = classes;
+  sorts = sorts;
+  covered = covered;
+  moves = moves;
+  starts = starts d;
+  kind_of_state = kind_of_state;
+  live_state = live_state;
+}

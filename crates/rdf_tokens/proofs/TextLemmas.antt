@@ -1,24 +1,23 @@
 -- The states of strings against their shapes.
-use Rattle.std.proofs.Common.{◌≡◌, ℕ, zero, suc, true, List, [], ◌∷◌, refl, ◌∙◌, inl, map}
+use Rattle.std.proofs.Common.{◌≡◌, ℕ, zero, suc, true, List, [], ◌∷◌, refl, inl, map}
 use Rattle.rdf_terms.specs.declared.kind.Kind.{Kind}
 use Rattle.rdf_terms.specs.declared.kind.Kind.TheVariants.{ShortString, LongString}
 use Rattle.rdf_terms.specs.declared.kind.Dialect.{Dialect}
 use Rattle.rdf_terms.specs.declared.kind.Dialect.TheVariants.{Lines, Turtle}
 use Rattle.rdf_terms.specs.Classes.{Class, has}
 use Rattle.rdf_terms.specs.Classes.Class.{the, hex_digit, escape_letter, plain_double, plain_single, long_double, long_single}
-use Rattle.rdf_terms.specs.Regex.{Regex, longer, after_all}
+use Rattle.rdf_terms.specs.Regex.{Regex}
 use Rattle.rdf_terms.specs.Regex.Regex.{nothing, empty, one, ◌·◌, ◌∣◌, many}
-use Rattle.rdf_terms.specs.Shapes.{shape, any_shape, first_kind, optional, uchar, echar, only_turtle, double_quote, single_quote}
-use Rattle.rdf_tokens.specs.Machines.{run, IsChars}
+use Rattle.rdf_terms.specs.Shapes.{shape, optional, uchar, echar, only_turtle, double_quote, single_quote}
 use Rattle.rdf_tokens.specs.declared.states.text.Sort.{Sort}
 use Rattle.rdf_tokens.specs.declared.states.text.Sort.TheVariants as sort
 use Rattle.rdf_tokens.specs.declared.states.text.Quote.{Quote}
 use Rattle.rdf_tokens.specs.declared.states.text.Quote.TheVariants.{Double, Single}
 use Rattle.rdf_tokens.specs.declared.states.text.Text.{Text}
 use Rattle.rdf_tokens.specs.declared.states.text.Text.TheVariants.{Start, Opened, Empty, Short, ShortEscape, ShortHex, ShortWhole, Long, LongOneQuote, LongTwoQuotes, LongEscape, LongHex, LongWhole, Dead}
-use Rattle.rdf_tokens.specs.Text.{ascii, high, move, step, kind_at, goes_on}
+use Rattle.rdf_tokens.specs.Text.{ascii, high, move, kind_at, goes_on}
 use Rattle.rdf_tokens.proofs.SortLemmas.{sorts_agree}
-use Rattle.rdf_tokens.proofs.FamilyLemmas.{Family, Moves, hexes, possible-hexes, covers_all, kind_in, longer_in, kind-run, live-run}
+use Rattle.rdf_tokens.proofs.FamilyLemmas.{Family, Moves, hexes, possible-hexes, covers_all, kind_in, longer_in}
 
 -- a character of each sort, which stands for all of it
 abbrev rep : Sort → ℕ
@@ -77,7 +76,7 @@ abbrev end : Quote → Regex
 end q = quote q · quote q · quote q
 
 -- what is left to match in a state, of a short and of a long string
-unfoldable meaning : Dialect → Text → List Regex
+unfoldable pub meaning : Dialect → Text → List Regex
 meaning d Start = map (shape d) strings
 meaning d (Opened q) = (short_rest q · quote q) ∷ only_turtle d (quote q · quote q · long_rest q · end q) ∷ []
 meaning d (Empty q) = empty ∷ only_turtle d (quote q · long_rest q · end q) ∷ []
@@ -94,7 +93,7 @@ meaning d LongWhole = nothing ∷ empty ∷ []
 meaning d Dead = nothing ∷ nothing ∷ []
 
 -- where a character of a sort leads is what is left to match after it, so the table of moves is right
-moves : (d : Dialect) (s : Text) (x : Sort) → Moves rep (move d) (meaning d) s x
+pub moves : (d : Dialect) (s : Text) (x : Sort) → Moves rep (move d) (meaning d) s x
 unfolding meaning shape has
 moves Lines Start sort.Plain = inl refl
 moves Lines Start x = inl refl
@@ -169,7 +168,7 @@ moves d LongWhole x = inl refl
 moves d Dead x = inl refl
 
 -- the expressions have no other classes than these
-covered : (d : Dialect) (s : Text) → covers_all classes (meaning d s) ≡ true
+pub covered : (d : Dialect) (s : Text) → covers_all classes (meaning d s) ≡ true
 unfolding meaning shape
 covered Lines Start = refl
 covered Lines (Opened Double) = refl
@@ -204,26 +203,12 @@ covered d (LongHex Single (suc n)) = covered d (LongHex Single n)
 covered d s = refl
 
 -- characters of one sort are in the same classes, by a test of each ASCII character and each width
-sorts : sorts_agree ascii high rep classes ≡ true
+pub sorts : sorts_agree ascii high rep classes ≡ true
 unfolding has
 sorts = refl
 
--- all of this together, as the general lemmas on families take it
-abbrev family : Dialect → Family Text Sort
-family d = record {
-  ascii = ascii;
-  high = high;
-  rep = rep;
-  move = move d;
-  meaning = meaning d;
-  classes = classes;
-  sorts = sorts;
-  covered = covered d;
-  moves = moves d;
-}
-
 -- a state has a kind exactly where nothing is left to match of the expression of that kind
-kind_of_state : (d : Dialect) (s : Text) → kind_in strings (meaning d s) ≡ kind_at s
+pub kind_of_state : (d : Dialect) (s : Text) → kind_in strings (meaning d s) ≡ kind_at s
 unfolding meaning shape
 kind_of_state Lines Start = refl
 kind_of_state Lines (Opened Double) = refl
@@ -258,7 +243,7 @@ kind_of_state d (LongHex Single (suc n)) = refl
 kind_of_state d s = refl
 
 -- a state goes on exactly where something longer can match
-live_state : (d : Dialect) (s : Text) → longer_in (meaning d s) ≡ goes_on d s
+pub live_state : (d : Dialect) (s : Text) → longer_in (meaning d s) ≡ goes_on d s
 unfolding meaning shape has
 live_state Lines Start = refl
 live_state Lines (Opened Double) = refl
@@ -293,14 +278,28 @@ live_state d (LongHex Single (suc n)) = rw (possible-hexes n) refl
 live_state d s = refl
 
 -- at the start all of the shape is left
-starts : (d : Dialect) → meaning d Start ≡ map (shape d) strings
+pub starts : (d : Dialect) → meaning d Start ≡ map (shape d) strings
 unfolding meaning
 starts d = refl
 
--- the law of the family
-pub text-kind : (d : Dialect) (w : List ℕ) → IsChars w → first_kind d strings w ≡ kind_at (run (step d) Start w)
-text-kind d w b = kind-run (family d) d strings Start (starts d) w b ∙ kind_of_state d (run (step d) Start w)
-
--- the states go on after a text exactly where it begins a longer one of the strings
-pub text-live : (d : Dialect) (w : List ℕ) → IsChars w → longer (after_all (any_shape d strings) w) ≡ goes_on d (run (step d) Start w)
-text-live d w b = live-run (family d) d strings Start (starts d) w b ∙ live_state d (run (step d) Start w)
+-- all of this together, as the general lemmas on families take it
+abbrev pub family : Dialect → Family Text Sort
+family d = record {
+  dialect = d;
+  kinds = strings;
+  ascii = ascii;
+  high = high;
+  rep = rep;
+  start = Start;
+  move = move d;
+  kind_at = kind_at;
+  goes_on = goes_on d;
+  meaning = meaning d;
+  classes = classes;
+  sorts = sorts;
+  covered = covered d;
+  moves = moves d;
+  starts = starts d;
+  kind_of_state = kind_of_state d;
+  live_state = live_state d;
+}
