@@ -233,10 +233,10 @@ fn first_front(dialect: Dialect, text: &str, no_names: &mut Option<NoNames>) -> 
     let (c, next) = char_at(text, 0);
     let none = Best { len: 0, kind: None };
     match family_of(c) {
-        Family::Iri => front_from(dialect, text, next, Iri::Start.step(c), none),
+        Family::Iri => front_from(dialect, text, next, Iri::Start.step(dialect, c), none),
         Family::Label => front_from(dialect, text, next, Label::Start.step(dialect, c), none),
         Family::Text => front_from(dialect, text, next, Text::Start.step(dialect, c), none),
-        Family::Tag => front_from(dialect, text, next, Tag::Start.step(c), none),
+        Family::Tag => front_from(dialect, text, next, Tag::Start.step(dialect, c), none),
         Family::Number => front_from(dialect, text, next, Number::Start.step(dialect, c), none),
         Family::Name => name_front(dialect, text, Name::Start.step(dialect, c), next, no_names),
         Family::Other => Shaped {
@@ -333,15 +333,15 @@ fn front_from<S: Shape>(dialect: Dialect, text: &str, first: usize, begun: S, be
     let mut at = state.rest_end(text, first);
     let mut len = best.len;
     let mut kind = best.kind;
-    if let Some(longer) = only_long_string(three, state.whole_kind()) {
+    if let Some(longer) = only_long_string(three, state.kind()) {
         len = at;
         kind = Some(longer);
     }
-    while at < text.len() && state.goes_on(dialect) {
+    while at < text.len() && state.is_live(dialect) {
         let (c, next) = char_at(text, at);
-        state = state.after_char(dialect, c);
+        state = state.step(dialect, c);
         at = state.rest_end(text, next);
-        if let Some(longer) = only_long_string(three, state.whole_kind()) {
+        if let Some(longer) = only_long_string(three, state.kind()) {
             len = at;
             kind = Some(longer);
         }
@@ -357,8 +357,8 @@ fn front_from<S: Shape>(dialect: Dialect, text: &str, first: usize, begun: S, be
 fn open_state<S: Shape>(dialect: Dialect, state: S) -> Option<State>
     ensures { result ≡ open_state dialect (S.whole state) }
 {
-    if state.goes_on(dialect) {
-        Some(state.whole_state())
+    if state.is_live(dialect) {
+        Some(state.to_state())
     } else {
         None
     }

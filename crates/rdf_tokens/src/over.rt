@@ -13,6 +13,7 @@ use crate::count::char_count;
 use crate::front::{NoNames, Walk, begins_in_letter};
 use crate::states::fixed::is_fixed_over;
 use crate::states::machine::State;
+use crate::states::shape::Shape;
 use rdf_terms::Dialect;
 
 /// Whether a text has more characters than the limit, and its first `limit + 1` are a token or the beginning of

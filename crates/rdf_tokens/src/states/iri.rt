@@ -2,9 +2,14 @@
 
 ghost use Rattle.std.specs.Prelude.{◌≡◌, ◌<◌};
 ghost use Rattle.rdf_tokens.specs.Sorts.{sort_by};
-ghost use Rattle.rdf_tokens.specs.Iri.{step, ascii, high, move, accepts, goes_on};
+ghost use Rattle.rdf_tokens.specs.Iri.{ascii, high, move};
+ghost use Rattle.rdf_tokens.specs.declared.states.machine.State.TheVariants as state;
 
+use crate::escapes::iri_end;
+use crate::states::machine::State;
+use crate::states::shape::Shape;
 use Sort::{Backslash, BigU, CloseAngle, Excluded, HexDigit, OpenAngle, Plain, SmallU};
+use rdf_terms::{Dialect, Kind};
 
 /// What the shape of a reference can tell of a character.
 #[derive(Clone, Copy)]
@@ -69,15 +74,7 @@ fn sort_of(c: char) -> Sort
 }
 
 impl Iri {
-    /// The state after one more character.
-    #[inline(always)]
-    pub(crate) fn step(self, c: char) -> Iri
-        ensures { result ≡ step self c }
-    {
-        self.after(sort_of(c))
-    }
-
-    /// The same by the character's sort.
+    /// The state after one more character, by the character's sort.
     #[inline(always)]
     fn after(self, sort: Sort) -> Iri
         ensures { result ≡ move self sort }
@@ -95,20 +92,39 @@ impl Iri {
             _ => Iri::Dead,
         }
     }
+}
 
-    /// Whether what has come is whole.
+impl Shape for Iri {
+    ghost whole = { state.Iri };
+
     #[inline(always)]
-    pub(crate) fn is_accepted(self) -> bool
-        ensures { result ≡ accepts self }
-    {
-        matches!(self, Iri::Whole)
+    fn to_state(self) -> State {
+        State::Iri(self)
     }
 
-    /// Whether something longer begins so.
     #[inline(always)]
-    pub(crate) fn is_live(self) -> bool
-        ensures { result ≡ goes_on self }
-    {
+    fn step(self, _dialect: Dialect, c: char) -> Iri {
+        self.after(sort_of(c))
+    }
+
+    #[inline(always)]
+    fn kind(self) -> Option<Kind> {
+        match self {
+            Iri::Whole => Some(Kind::IriRef),
+            _ => None,
+        }
+    }
+
+    #[inline(always)]
+    fn is_live(self, _dialect: Dialect) -> bool {
         !matches!(self, Iri::Whole | Iri::Dead)
+    }
+
+    #[inline(always)]
+    fn rest_end(self, text: &str, from: usize) -> usize {
+        match self {
+            Iri::Inside => iri_end(text.as_bytes(), from),
+            _ => from,
+        }
     }
 }

@@ -2,10 +2,14 @@
 
 ghost use Rattle.std.specs.Prelude.{◌≡◌};
 ghost use Rattle.rdf_tokens.specs.Sorts.{sort_by};
-ghost use Rattle.rdf_tokens.specs.Label.{step, ascii, high, move, accepts, goes_on};
+ghost use Rattle.rdf_tokens.specs.Label.{ascii, high, move};
+ghost use Rattle.rdf_tokens.specs.declared.states.machine.State.TheVariants as state;
 
+use crate::states::machine::State;
+use crate::states::shape::Shape;
 use crate::states::wide::{Wide, width};
-use rdf_terms::Dialect;
+use rdf_terms::runs::{Run, run_end};
+use rdf_terms::{Dialect, Kind};
 
 /// What the shape of a label can tell of a character.
 #[derive(Clone, Copy)]
@@ -73,15 +77,7 @@ fn sort_of(c: char) -> Sort
 }
 
 impl Label {
-    /// The state after one more character.
-    #[inline(always)]
-    pub(crate) fn step(self, dialect: Dialect, c: char) -> Label
-        ensures { result ≡ step dialect self c }
-    {
-        self.after(dialect, sort_of(c))
-    }
-
-    /// The same by the character's sort.
+    /// The state after one more character, by the character's sort.
     #[inline(always)]
     fn after(self, dialect: Dialect, sort: Sort) -> Label
         ensures { result ≡ move dialect self sort }
@@ -102,20 +98,39 @@ impl Label {
             _ => Label::Dead,
         }
     }
+}
 
-    /// Whether what has come is whole.
+impl Shape for Label {
+    ghost whole = { state.Label };
+
     #[inline(always)]
-    pub(crate) fn is_accepted(self) -> bool
-        ensures { result ≡ accepts self }
-    {
-        matches!(self, Label::Name)
+    fn to_state(self) -> State {
+        State::Label(self)
     }
 
-    /// Whether something longer begins so.
     #[inline(always)]
-    pub(crate) fn is_live(self) -> bool
-        ensures { result ≡ goes_on self }
-    {
+    fn step(self, dialect: Dialect, c: char) -> Label {
+        self.after(dialect, sort_of(c))
+    }
+
+    #[inline(always)]
+    fn kind(self) -> Option<Kind> {
+        match self {
+            Label::Name => Some(Kind::LabelNode),
+            _ => None,
+        }
+    }
+
+    #[inline(always)]
+    fn is_live(self, _dialect: Dialect) -> bool {
         !matches!(self, Label::Dead)
+    }
+
+    #[inline(always)]
+    fn rest_end(self, text: &str, from: usize) -> usize {
+        match self {
+            Label::Name => run_end(Run::Name, text.as_bytes(), from),
+            _ => from,
+        }
     }
 }

@@ -2,12 +2,16 @@
 
 ghost use Rattle.std.specs.Prelude.{◌≡◌, ◌<◌};
 ghost use Rattle.rdf_tokens.specs.Sorts.{sort_by};
-ghost use Rattle.rdf_tokens.specs.Name.{step, ascii, high, move, kind_at, goes_on};
+ghost use Rattle.rdf_tokens.specs.Name.{ascii, high, move};
+ghost use Rattle.rdf_tokens.specs.declared.states.machine.State.TheVariants as state;
 
+use crate::states::machine::State;
+use crate::states::shape::Shape;
 use crate::states::wide::{Wide, width};
 use Sort::{
     Backslash, Colon, Digit, Dot, Escapable, HexLetter, Hyphen, Letter, Other, Percent, Underscore,
 };
+use rdf_terms::runs::{Run, run_end};
 use rdf_terms::{Dialect, Kind};
 
 /// What the shapes of prefixed names can tell of a character.
@@ -96,15 +100,7 @@ fn sort_of(c: char) -> Sort
 }
 
 impl Name {
-    /// The state after one more character.
-    #[inline(always)]
-    pub(crate) fn step(self, dialect: Dialect, c: char) -> Name
-        ensures { result ≡ step dialect self c }
-    {
-        self.after(dialect, sort_of(c))
-    }
-
-    /// The same by the character's sort.
+    /// The state after one more character, by the character's sort.
     #[inline(always)]
     fn after(self, dialect: Dialect, sort: Sort) -> Name
         ensures { result ≡ move dialect self sort }
@@ -143,12 +139,23 @@ impl Name {
             _ => Name::Dead,
         }
     }
+}
 
-    /// The kind of what has come, where it is whole.
+impl Shape for Name {
+    ghost whole = { state.Name };
+
     #[inline(always)]
-    pub(crate) fn kind(self) -> Option<Kind>
-        ensures { result ≡ kind_at self }
-    {
+    fn to_state(self) -> State {
+        State::Name(self)
+    }
+
+    #[inline(always)]
+    fn step(self, dialect: Dialect, c: char) -> Name {
+        self.after(dialect, sort_of(c))
+    }
+
+    #[inline(always)]
+    fn kind(self) -> Option<Kind> {
         match self {
             Name::Colon => Some(Kind::PnameNs),
             Name::Local => Some(Kind::PnameLn),
@@ -156,15 +163,20 @@ impl Name {
         }
     }
 
-    /// Whether something longer begins so.
     #[inline(always)]
-    pub(crate) fn is_live(self, dialect: Dialect) -> bool
-        ensures { result ≡ goes_on dialect self }
-    {
+    fn is_live(self, dialect: Dialect) -> bool {
         match self {
             Name::Start => dialect == Dialect::Turtle,
             Name::Dead => false,
             _ => true,
+        }
+    }
+
+    #[inline(always)]
+    fn rest_end(self, text: &str, from: usize) -> usize {
+        match self {
+            Name::Prefix | Name::Local => run_end(Run::Name, text.as_bytes(), from),
+            _ => from,
         }
     }
 }

@@ -2,8 +2,11 @@
 
 ghost use Rattle.std.specs.Prelude.{◌≡◌};
 ghost use Rattle.rdf_tokens.specs.Sorts.{sort_by};
-ghost use Rattle.rdf_tokens.specs.Number.{step, ascii, high, move, kind_at, goes_on};
+ghost use Rattle.rdf_tokens.specs.Number.{ascii, high, move};
+ghost use Rattle.rdf_tokens.specs.declared.states.machine.State.TheVariants as state;
 
+use crate::states::machine::State;
+use crate::states::shape::Shape;
 use rdf_terms::{Dialect, Kind};
 
 /// What the shapes of numbers can tell of a character.
@@ -67,15 +70,7 @@ fn sort_of(c: char) -> Sort
 }
 
 impl Number {
-    /// The state after one more character.
-    #[inline(always)]
-    pub(crate) fn step(self, dialect: Dialect, c: char) -> Number
-        ensures { result ≡ step dialect self c }
-    {
-        self.after(dialect, sort_of(c))
-    }
-
-    /// The same by the character's sort.
+    /// The state after one more character, by the character's sort.
     #[inline(always)]
     fn after(self, dialect: Dialect, sort: Sort) -> Number
         ensures { result ≡ move dialect self sort }
@@ -99,12 +94,23 @@ impl Number {
             _ => Number::Dead,
         }
     }
+}
 
-    /// The kind of what has come, where it is whole.
+impl Shape for Number {
+    ghost whole = { state.Number };
+
     #[inline(always)]
-    pub(crate) fn kind(self) -> Option<Kind>
-        ensures { result ≡ kind_at self }
-    {
+    fn to_state(self) -> State {
+        State::Number(self)
+    }
+
+    #[inline(always)]
+    fn step(self, dialect: Dialect, c: char) -> Number {
+        self.after(dialect, sort_of(c))
+    }
+
+    #[inline(always)]
+    fn kind(self) -> Option<Kind> {
         match self {
             Number::Digits => Some(Kind::Integer),
             Number::Fraction => Some(Kind::Decimal),
@@ -113,15 +119,17 @@ impl Number {
         }
     }
 
-    /// Whether something longer begins so.
     #[inline(always)]
-    pub(crate) fn is_live(self, dialect: Dialect) -> bool
-        ensures { result ≡ goes_on dialect self }
-    {
+    fn is_live(self, dialect: Dialect) -> bool {
         match self {
             Number::Start => dialect == Dialect::Turtle,
             Number::Dead => false,
             _ => true,
         }
+    }
+
+    #[inline(always)]
+    fn rest_end(self, _text: &str, from: usize) -> usize {
+        from
     }
 }

@@ -2,7 +2,12 @@
 
 ghost use Rattle.std.specs.Prelude.{◌≡◌};
 ghost use Rattle.rdf_tokens.specs.Sorts.{sort_by};
-ghost use Rattle.rdf_tokens.specs.Tag.{step, ascii, high, move, accepts, goes_on};
+ghost use Rattle.rdf_tokens.specs.Tag.{ascii, high, move};
+ghost use Rattle.rdf_tokens.specs.declared.states.machine.State.TheVariants as state;
+
+use crate::states::machine::State;
+use crate::states::shape::Shape;
+use rdf_terms::{Dialect, Kind};
 
 /// What the shape of a tag can tell of a character.
 #[derive(Clone, Copy)]
@@ -53,15 +58,7 @@ fn sort_of(c: char) -> Sort
 }
 
 impl Tag {
-    /// The state after one more character.
-    #[inline(always)]
-    pub(crate) fn step(self, c: char) -> Tag
-        ensures { result ≡ step self c }
-    {
-        self.after(sort_of(c))
-    }
-
-    /// The same by the character's sort.
+    /// The state after one more character, by the character's sort.
     #[inline(always)]
     fn after(self, sort: Sort) -> Tag
         ensures { result ≡ move self sort }
@@ -74,20 +71,36 @@ impl Tag {
             _ => Tag::Dead,
         }
     }
+}
 
-    /// Whether what has come is whole.
+impl Shape for Tag {
+    ghost whole = { state.Tag };
+
     #[inline(always)]
-    pub(crate) fn is_accepted(self) -> bool
-        ensures { result ≡ accepts self }
-    {
-        matches!(self, Tag::Letters | Tag::Part)
+    fn to_state(self) -> State {
+        State::Tag(self)
     }
 
-    /// Whether something longer begins so.
     #[inline(always)]
-    pub(crate) fn is_live(self) -> bool
-        ensures { result ≡ goes_on self }
-    {
+    fn step(self, _dialect: Dialect, c: char) -> Tag {
+        self.after(sort_of(c))
+    }
+
+    #[inline(always)]
+    fn kind(self) -> Option<Kind> {
+        match self {
+            Tag::Letters | Tag::Part => Some(Kind::LangTag),
+            _ => None,
+        }
+    }
+
+    #[inline(always)]
+    fn is_live(self, _dialect: Dialect) -> bool {
         !matches!(self, Tag::Dead)
+    }
+
+    #[inline(always)]
+    fn rest_end(self, _text: &str, from: usize) -> usize {
+        from
     }
 }

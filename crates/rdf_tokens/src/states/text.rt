@@ -2,10 +2,14 @@
 
 ghost use Rattle.std.specs.Prelude.{◌≡◌, ◌<◌, ℕ};
 ghost use Rattle.rdf_tokens.specs.Sorts.{sort_by};
-ghost use Rattle.rdf_tokens.specs.Text.{begin, step, ascii, high, closes, escaped, if_hex, in_short, in_long, move};
-ghost use Rattle.rdf_tokens.specs.Text.{kind_at, goes_on};
+ghost use Rattle.rdf_tokens.specs.Text.{begin, ascii, high, closes, escaped, if_hex, in_short, in_long, move};
+ghost use Rattle.rdf_tokens.specs.declared.states.machine.State.TheVariants as state;
 ghost use Rattle.rdf_tokens.specs.declared.states.text.Text.{Text};
 
+use crate::escapes::string_end;
+use crate::quick::long_end;
+use crate::states::machine::State;
+use crate::states::shape::Shape;
 use Sort::{
     Apostrophe, Backslash, BigU, HexDigit, HexLetter, Letter, LineBreak, Plain, Quotation, SmallU,
 };
@@ -160,15 +164,7 @@ fn sort_of(c: char) -> Sort
 }
 
 impl Text {
-    /// The state after one more character.
-    #[inline(always)]
-    pub(crate) fn step(self, dialect: Dialect, c: char) -> Text
-        ensures { result ≡ step dialect self c }
-    {
-        self.after(dialect, sort_of(c))
-    }
-
-    /// The same by the character's sort.
+    /// The state after one more character, by the character's sort.
     #[inline(always)]
     fn after(self, dialect: Dialect, sort: Sort) -> Text
         ensures { result ≡ move dialect self sort }
@@ -208,12 +204,23 @@ impl Text {
             Text::Empty(_) | Text::ShortWhole | Text::LongWhole | Text::Dead => Text::Dead,
         }
     }
+}
 
-    /// The kind of what has come, where it is whole.
+impl Shape for Text {
+    ghost whole = { state.Text };
+
     #[inline(always)]
-    pub(crate) fn kind(self) -> Option<Kind>
-        ensures { result ≡ kind_at self }
-    {
+    fn to_state(self) -> State {
+        State::Text(self)
+    }
+
+    #[inline(always)]
+    fn step(self, dialect: Dialect, c: char) -> Text {
+        self.after(dialect, sort_of(c))
+    }
+
+    #[inline(always)]
+    fn kind(self) -> Option<Kind> {
         match self {
             Text::Empty(_) | Text::ShortWhole => Some(Kind::ShortString),
             Text::LongWhole => Some(Kind::LongString),
@@ -221,15 +228,21 @@ impl Text {
         }
     }
 
-    /// Whether something longer begins so.
     #[inline(always)]
-    pub(crate) fn is_live(self, dialect: Dialect) -> bool
-        ensures { result ≡ goes_on dialect self }
-    {
+    fn is_live(self, dialect: Dialect) -> bool {
         match self {
             Text::Empty(_) => dialect == Dialect::Turtle,
             Text::ShortWhole | Text::LongWhole | Text::Dead => false,
             _ => true,
+        }
+    }
+
+    #[inline(always)]
+    fn rest_end(self, text: &str, from: usize) -> usize {
+        match self {
+            Text::Short(quote) => string_end(quote, text.as_bytes(), from),
+            Text::Long(quote) => long_end(quote, text.as_bytes(), from),
+            _ => from,
         }
     }
 }

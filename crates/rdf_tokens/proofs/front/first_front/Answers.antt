@@ -23,42 +23,42 @@ front_from-requires c =
     let x = c.char_at-c in
     let d = c.args.dialect in
     reached-first d c.args.text.now x.result.1 x.result.0 (Iri c.step.result) c.utf8.text x.ensures.is x.ensures.past x.ensures.fits
-    (ap Iri c.step.ensures ∙ sym (ap (λ f. begin d f x.result.0) (sym c.family_of.ensures ∙ c.in-Iri.is)))
+    (c.step.ensures ∙ sym (ap (λ f. begin d f x.result.0) (sym c.family_of.ensures ∙ c.in-Iri.is)))
 
 pub front_from-requires-in-Label : goal.front_from-requires-in-Label
 front_from-requires-in-Label c =
     let x = c.char_at-c in
     let d = c.args.dialect in
     reached-first d c.args.text.now x.result.1 x.result.0 (Label c.step-in-Label.result) c.utf8.text x.ensures.is x.ensures.past x.ensures.fits
-    (ap Label c.step-in-Label.ensures ∙ sym (ap (λ f. begin d f x.result.0) (sym c.family_of.ensures ∙ c.in-Label.is)))
+    (c.step-in-Label.ensures ∙ sym (ap (λ f. begin d f x.result.0) (sym c.family_of.ensures ∙ c.in-Label.is)))
 
 pub front_from-requires-in-Text : goal.front_from-requires-in-Text
 front_from-requires-in-Text c =
     let x = c.char_at-c in
     let d = c.args.dialect in
     reached-first d c.args.text.now x.result.1 x.result.0 (Text c.step-in-Text.result) c.utf8.text x.ensures.is x.ensures.past x.ensures.fits
-    (ap Text c.step-in-Text.ensures ∙ sym (ap (λ f. begin d f x.result.0) (sym c.family_of.ensures ∙ c.in-Text.is)))
+    (c.step-in-Text.ensures ∙ sym (ap (λ f. begin d f x.result.0) (sym c.family_of.ensures ∙ c.in-Text.is)))
 
 pub front_from-requires-in-Tag : goal.front_from-requires-in-Tag
 front_from-requires-in-Tag c =
     let x = c.char_at-c in
     let d = c.args.dialect in
     reached-first d c.args.text.now x.result.1 x.result.0 (Tag c.step-in-Tag.result) c.utf8.text x.ensures.is x.ensures.past x.ensures.fits
-    (ap Tag c.step-in-Tag.ensures ∙ sym (ap (λ f. begin d f x.result.0) (sym c.family_of.ensures ∙ c.in-Tag.is)))
+    (c.step-in-Tag.ensures ∙ sym (ap (λ f. begin d f x.result.0) (sym c.family_of.ensures ∙ c.in-Tag.is)))
 
 pub front_from-requires-in-Number : goal.front_from-requires-in-Number
 front_from-requires-in-Number c =
     let x = c.char_at-c in
     let d = c.args.dialect in
     reached-first d c.args.text.now x.result.1 x.result.0 (Number c.step-in-Number.result) c.utf8.text x.ensures.is x.ensures.past x.ensures.fits
-    (ap Number c.step-in-Number.ensures ∙ sym (ap (λ f. begin d f x.result.0) (sym c.family_of.ensures ∙ c.in-Number.is)))
+    (c.step-in-Number.ensures ∙ sym (ap (λ f. begin d f x.result.0) (sym c.family_of.ensures ∙ c.in-Number.is)))
 
 pub name_front-requires-clause-name : goal.name_front-requires-clause-name
 name_front-requires-clause-name c =
     let x = c.char_at-c in
     let d = c.args.dialect in
     reached-first d c.args.text.now x.result.1 x.result.0 (Name c.step-in-Name.result) c.utf8.text x.ensures.is x.ensures.past x.ensures.fits
-    (ap Name c.step-in-Name.ensures ∙ sym (ap (λ f. begin d f x.result.0) (sym c.family_of.ensures ∙ c.in-Name.is)))
+    (c.step-in-Name.ensures ∙ sym (ap (λ f. begin d f x.result.0) (sym c.family_of.ensures ∙ c.in-Name.is)))
 
 pub returns-in-Other-clause-best : goal.returns-in-Other-clause-best
 returns-in-Other-clause-best c =

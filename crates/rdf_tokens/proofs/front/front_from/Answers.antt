@@ -8,7 +8,7 @@ use Rattle.rdf_tokens.proofs.SpellingLemmas.{quotes-bytes}
 use Rattle.rdf_tokens.proofs.StateLemmas.{reached-step, reached-out}
 use Rattle.rdf_tokens.proofs.RestLemmas.{reached-run}
 use Rattle.rdf_tokens.proofs.front.front_from.Goals as goal
-use Rattle.rdf_tokens.proofs.front.front_from.Goals.{in-Some, in_default, then-loop-at-test+else-goes_on, else-loop-at-test}
+use Rattle.rdf_tokens.proofs.front.front_from.Goals.{in-Some, in_default, then-loop-at-test+else-is_live, else-loop-at-test}
 
 pub loop-at-init : goal.loop-at-init
 loop-at-init g c =
@@ -18,7 +18,7 @@ loop-at-init g c =
     let three : c.has_three_quotes-three.result ≡ three_quotes d (chars bs) =
     c.has_three_quotes-three.ensures ∙ (ap (three_quotes d) c.as_bytes.ensures.value ∙ quotes-bytes d bs c.utf8.text) in
     let kind : c.only_long_string.result ≡ kind_here d bs s =
-    c.only_long_string.ensures ∙ (ap (λ t. only_long t c.whole_kind.result) three ∙ ap (only_long (three_quotes d (chars bs))) c.whole_kind.ensures) in
+    c.only_long_string.ensures ∙ (ap (λ t. only_long t c.kind.result) three ∙ ap (only_long (three_quotes d (chars bs))) c.kind.ensures) in
     let k = c.only_long_string.result in
     let before = with_length c.args.best.len c.args.best.kind None in
     let at = c.rest_end-at.result in
@@ -40,16 +40,16 @@ loop-at-preserved-in-Some-only_long_string g c =
     let bs = c.args.text.now in
     let three : c.has_three_quotes-three.result ≡ three_quotes d (chars bs) =
     c.has_three_quotes-three.ensures ∙ (ap (three_quotes d) c.as_bytes.ensures.value ∙ quotes-bytes d bs c.utf8.text) in
-    let s = g.S.Shape.whole c.after_char-state.result in
+    let s = g.S.Shape.whole c.step-state.result in
     let longer = c.in-Some-only_long_string.longer in
     let kind : c.only_long_string-in-loop-at.result ≡ only_long (three_quotes d (chars bs)) (kind_at s) =
-    c.only_long_string-in-loop-at.ensures ∙ (ap (λ t. only_long t c.whole_kind-in-loop-at.result) three
-    ∙ ap (only_long (three_quotes d (chars bs))) c.whole_kind-in-loop-at.ensures) in
+    c.only_long_string-in-loop-at.ensures ∙ (ap (λ t. only_long t c.kind-in-loop-at.result) three
+    ∙ ap (only_long (three_quotes d (chars bs))) c.kind-in-loop-at.ensures) in
     let told = sym c.in-Some-only_long_string.is ∙ kind in
     reached-run d bs x.result.1 c.rest_end-at-in-loop-at.result s (Some longer)
     (with_length c.loop-at.len c.loop-at.kind None) told c.rest_end-at-in-loop-at.ensures
     (reached-step d bs c.loop-at.at x.result.1 x.result.0 (g.S.Shape.whole c.loop-at.state) s (Some longer) (with_length c.loop-at.len c.loop-at.kind None)
-    (Some (x.result.1, longer)) c.loop-at.invariant x.ensures.is x.ensures.past x.ensures.fits c.after_char-state.ensures told refl)
+    (Some (x.result.1, longer)) c.loop-at.invariant x.ensures.is x.ensures.past x.ensures.fits c.step-state.ensures told refl)
 
 pub loop-at-preserved : goal.loop-at-preserved
 loop-at-preserved g c =
@@ -58,20 +58,20 @@ loop-at-preserved g c =
     let bs = c.args.text.now in
     let three : c.has_three_quotes-three.result ≡ three_quotes d (chars bs) =
     c.has_three_quotes-three.ensures ∙ (ap (three_quotes d) c.as_bytes.ensures.value ∙ quotes-bytes d bs c.utf8.text) in
-    let s = g.S.Shape.whole c.after_char-state.result in
+    let s = g.S.Shape.whole c.step-state.result in
     let kind : c.only_long_string-in-loop-at.result ≡ only_long (three_quotes d (chars bs)) (kind_at s) =
-    c.only_long_string-in-loop-at.ensures ∙ (ap (λ t. only_long t c.whole_kind-in-loop-at.result) three
-    ∙ ap (only_long (three_quotes d (chars bs))) c.whole_kind-in-loop-at.ensures) in
+    c.only_long_string-in-loop-at.ensures ∙ (ap (λ t. only_long t c.kind-in-loop-at.result) three
+    ∙ ap (only_long (three_quotes d (chars bs))) c.kind-in-loop-at.ensures) in
     let shorter = sym c.in_default-only_long_string.is ∙ kind in
     reached-run d bs x.result.1 c.rest_end-at-in-loop-at.result s None (with_length c.loop-at.len c.loop-at.kind None) shorter c.rest_end-at-in-loop-at.ensures
     (reached-step d bs c.loop-at.at x.result.1 x.result.0 (g.S.Shape.whole c.loop-at.state) s None (with_length c.loop-at.len c.loop-at.kind None)
-    (with_length c.loop-at.len c.loop-at.kind None) c.loop-at.invariant x.ensures.is x.ensures.past x.ensures.fits c.after_char-state.ensures shorter refl)
+    (with_length c.loop-at.len c.loop-at.kind None) c.loop-at.invariant x.ensures.is x.ensures.past x.ensures.fits c.step-state.ensures shorter refl)
 
 pub returns-clause-best : goal.returns-clause-best
 returns-clause-best g c =
     (reached-out c.args.dialect c.args.text.now c.loop-at.at (g.S.Shape.whole c.loop-at.state) (with_length c.loop-at.len c.loop-at.kind None)
     c.loop-at.invariant (elim c.loop-at-test.branch [
-      | then-loop-at-test+else-goes_on w ↦ inr (sym w.goes_on.ensures ∙ w.if-goes_on.false)
+      | then-loop-at-test+else-is_live w ↦ inr (sym w.is_live.ensures ∙ w.if-is_live.false)
       | else-loop-at-test w ↦ inl (let l = w.loop-at-test.false in omega arith)
     ])).0
 
@@ -80,6 +80,6 @@ returns-clause-state g c =
     c.open_state.ensures ∙ (reached-out c.args.dialect c.args.text.now c.loop-at.at (g.S.Shape.whole c.loop-at.state)
     (with_length c.loop-at.len c.loop-at.kind None)
     c.loop-at.invariant (elim c.loop-at-test.branch [
-      | then-loop-at-test+else-goes_on w ↦ inr (sym w.goes_on.ensures ∙ w.if-goes_on.false)
+      | then-loop-at-test+else-is_live w ↦ inr (sym w.is_live.ensures ∙ w.if-is_live.false)
       | else-loop-at-test w ↦ inl (let l = w.loop-at-test.false in omega arith)
     ])).1

@@ -2,7 +2,7 @@ use Rattle.std.proofs.Common.{sym, subst, ⊎_elim}
 use Rattle.rdf_tokens.specs.Front.{Rests}
 use Rattle.rdf_tokens.specs.declared.states.machine.State.TheVariants as state
 use Rattle.rdf_tokens.proofs.RestStates.{rests_prefix, rests_local}
-use Rattle.rdf_tokens.proofs.states.shape.NameShape.rest_end.Goals as goal
+use Rattle.rdf_tokens.proofs.states.name.NameShape.rest_end.Goals as goal
 
 pub returns-in-Prefix : goal.returns-in-Prefix
 returns-in-Prefix c =

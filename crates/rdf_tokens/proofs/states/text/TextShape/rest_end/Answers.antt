@@ -3,7 +3,7 @@ use Rattle.rdf_tokens.specs.Front.{Rests}
 use Rattle.rdf_tokens.specs.Quick.{RestsInLong}
 use Rattle.rdf_tokens.specs.Strings.{RestsInQuotes}
 use Rattle.rdf_tokens.specs.declared.states.machine.State.TheVariants as state
-use Rattle.rdf_tokens.proofs.states.shape.TextShape.rest_end.Goals as goal
+use Rattle.rdf_tokens.proofs.states.text.TextShape.rest_end.Goals as goal
 
 pub returns-in-Short : goal.returns-in-Short
 returns-in-Short c =

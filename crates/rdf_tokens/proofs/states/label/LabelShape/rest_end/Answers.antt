@@ -2,7 +2,7 @@ use Rattle.std.proofs.Common.{sym, subst}
 use Rattle.rdf_tokens.specs.Front.{Rests}
 use Rattle.rdf_tokens.specs.declared.states.machine.State.TheVariants as state
 use Rattle.rdf_tokens.proofs.RestStates.{rests_label}
-use Rattle.rdf_tokens.proofs.states.shape.LabelShape.rest_end.Goals as goal
+use Rattle.rdf_tokens.proofs.states.label.LabelShape.rest_end.Goals as goal
 
 pub returns-in-Name : goal.returns-in-Name
 returns-in-Name c =
