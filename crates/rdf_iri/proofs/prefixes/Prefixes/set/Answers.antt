@@ -1,7 +1,10 @@
 -- A prefix is set where it stands in the row, at the end of the row, or among the others.
-use Rattle.std.proofs.Common.{rules, ◌≡◌, ◌∙◌, List, [], ◌∷◌, ◌++◌, ℕ, None, refl, ap, sym, subst, arith}
+use Rattle.std.proofs.Common.{◌≡◌, ◌∙◌, List, [], ◌∷◌, ◌++◌, ℕ, None, Ok, Err, refl, ap, sym, subst, arith}
 use Rattle.std.proofs.Math.ListN.{set}
+use Rattle.std.specs.Prelude.{Result, OnOk, OnErr}
+use Rattle.std.specs.Result.{IsErr}
 use Rattle.std.specs.Str.{chars}
+use Rattle.std.proofs.lemmas.Bool.{false≢true}
 use Rattle.rdf_iri.specs.Scope.{bound_to}
 use Rattle.rdf_iri.specs.Prefixes.{entries_of, KeptApart, StandsAt, Sets}
 use Rattle.rdf_iri.specs.Table.{HaveSlots, Kept, IsNext}
@@ -9,6 +12,15 @@ use Rattle.rdf_iri.proofs.ScopeLemmas.{Sets-inserted}
 use Rattle.rdf_iri.proofs.PrefixLemmas.{place_within, key_there, entries_of-anew, entries_of-append, Sets-after, Sets-anew, Sets-pushed, KeptApart-anew, KeptApart-pushed, KeptApart-others}
 use Rattle.rdf_iri.proofs.TableLemmas.{sought, HaveSlots-anew, HaveSlots-kept, HaveSlots-pushed}
 use Rattle.rdf_iri.proofs.prefixes.Prefixes.set.Goals as goal
+
+-- an error is no success, and what holds then holds on it
+not_ok : {T E : Type 0} (r : Result T E) (P : Type 0) → IsErr r → OnOk r P
+not_ok (Ok v) P e = absurd (false≢true e)
+not_ok (Err x) P e = tt
+
+on_err : {T E : Type 0} (r : Result T E) (P : Type 0) → P → OnErr r P
+on_err (Ok v) P p = tt
+on_err (Err x) P p = p
 
 pub place_of-requires : goal.place_of-requires
 place_of-requires g c =
@@ -94,7 +106,7 @@ pub invariant_of-self-in_err-insert : goal.invariant_of-self-in_err-insert
 invariant_of-self-in_err-insert g c =
     let slots = c.is_next.new.slots.items in
     let row = c.self.inside.row.items in
-    let h : c.insert.new.self.entries ≡ c.self.inside.others.entries = search rules in
+    let h : c.insert.new.self.entries ≡ c.self.inside.others.entries = c.in_err-insert.ensures.err in
     subst (λ os. Kept slots row os) (sym h)
     (record { apart = c.self.invariant.apart; placed = HaveSlots-kept c.self.inside.slots.items slots row c.is_next.ensures.kept c.self.invariant.placed })
 
@@ -120,3 +132,38 @@ returns-clause-set g c =
     subst (λ (o : List (List ℕ × List ℕ)). Sets o (chars p) c.args.iri (entries_of row ++ entries_of c.insert.new.self.entries)) c.self.view_is
     (Sets-after (entries_of row) _ _ (chars p) c.args.iri new
     (Sets-inserted c.self.inside.others c.insert.new.self c.in_ok-key.key p c.args.iri _ c.in_ok-key.ensures.ok c.utf8.prefix i.updates i.old i.len))
+
+pub returns-in_err-key-clause-set : goal.returns-in_err-key-clause-set
+returns-in_err-key-clause-set g c = not_ok c.from_residual.result _ c.from_residual.ensures.0
+
+pub returns-in_err-key-clause-unchanged : goal.returns-in_err-key-clause-unchanged
+returns-in_err-key-clause-unchanged g c = on_err c.from_residual.result _ refl
+
+pub invariant_of-self-in_err-next : goal.invariant_of-self-in_err-next
+invariant_of-self-in_err-next g c =
+    record {
+      apart = c.self.invariant.apart;
+      placed = HaveSlots-kept c.self.inside.slots.items c.is_next.new.slots.items c.self.inside.row.items c.is_next.ensures.kept c.self.invariant.placed;
+    }
+
+pub returns-in_err-next-clause-set : goal.returns-in_err-next-clause-set
+returns-in_err-next-clause-set g c = not_ok c.from_residual-in_err-next.result _ c.from_residual-in_err-next.ensures.0
+
+pub returns-in_err-next-clause-unchanged : goal.returns-in_err-next-clause-unchanged
+returns-in_err-next-clause-unchanged g c = on_err c.from_residual-in_err-next.result _ c.self.view_is
+
+pub returns-in_err-push-clause-set : goal.returns-in_err-push-clause-set
+returns-in_err-push-clause-set g c = not_ok c.from_residual-in_err-push.result _ c.from_residual-in_err-push.ensures.0
+
+pub returns-in_err-push-clause-unchanged : goal.returns-in_err-push-clause-unchanged
+returns-in_err-push-clause-unchanged g c =
+    on_err c.from_residual-in_err-push.result _
+    (ap (λ r. entries_of r ++ entries_of c.self.inside.others.entries) c.in_err-push.ensures.items ∙ c.self.view_is)
+
+pub returns-in_err-insert-clause-set : goal.returns-in_err-insert-clause-set
+returns-in_err-insert-clause-set g c = not_ok c.from_residual-in_err-insert.result _ c.from_residual-in_err-insert.ensures.0
+
+pub returns-in_err-insert-clause-unchanged : goal.returns-in_err-insert-clause-unchanged
+returns-in_err-insert-clause-unchanged g c =
+    on_err c.from_residual-in_err-insert.result _
+    (ap (λ es. entries_of c.self.inside.row.items ++ entries_of es) c.in_err-insert.ensures.err ∙ c.self.view_is)
