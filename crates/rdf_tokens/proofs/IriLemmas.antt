@@ -39,6 +39,7 @@ rest (Hex n) = (hexes n · many (one iri_char ∣ uchar)) · one (the 62)
 rest Whole = empty
 rest Dead = nothing
 
+-- the same as a list, as families with several kinds have it
 unfoldable pub meaning : Iri → List Regex
 meaning s = rest s ∷ []
 
