@@ -4,7 +4,7 @@ use Rattle.std.proofs.lemmas.Bool.{cases_lt}
 use Rattle.std.specs.Prelude.{map, IfSome}
 use Rattle.std.specs.List.{AllByRecursion}
 use Rattle.rdf_terms.specs.declared.kind.Dialect.TheVariants.{Turtle as turtle}
-use Rattle.rdf_terms.specs.Terms.{Node, Label, Anon, Cell, Tail, Lang, Typed, Blank, Term, Resource, Literal, Quad, IsSubject, IsTail, IsTerm, IsGraph, IsQuad}
+use Rattle.rdf_terms.specs.Terms.{Tail, Lang, Typed, Blank, Term, Resource, Literal, Quad, IsSubject, IsTail, IsTerm, IsGraph}
 use Rattle.rdf_terms.specs.Terms as term
 use Rattle.rdf_tokens.specs.Tokens.{Token}
 use Rattle.rdf_tokens.specs.Scans.{IsToken, most_bytes}
