@@ -28,6 +28,7 @@ pub mod EscapedPassing
 pub mod PlainRuns
 pub mod WrittenBytesLemmas
 pub mod PlacedLines
+mod BufferLemmas
 mod PlacedCharacters
 mod DigitPairs
 pub mod LawExamples
