@@ -1,6 +1,6 @@
 -- The quad that is due at a token: of the object that is held, or that the token decides.
 use Rattle.std.proofs.Common.{◌≡◌, ℕ, List, [], ◌++◌, Option, Some, None, length, ◌-◌, ◌⊎◌, inl, inr, refl, sym, ap, subst, ◌∙◌}
-use Rattle.std.specs.Prelude.{⊤, is_some, slice_get}
+use Rattle.std.specs.Prelude.{⊤, is_some, option_map, slice_get}
 use Rattle.std.proofs.lemmas.Bool.{false≢true}
 use Rattle.std.proofs.lemmas.List.{append-nil}
 use Rattle.rdf_terms.specs.declared.kind.Kind.{Kind}
@@ -18,13 +18,15 @@ use Rattle.rdf_trig.specs.declared.state.Outer.{Outer}
 use Rattle.rdf_trig.specs.declared.state.Outer.TheVariants as outer
 use Rattle.rdf_trig.specs.declared.state.Held.{Held}
 use Rattle.rdf_trig.specs.declared.state.Held.TheVariants as held
+use Rattle.rdf_trig.specs.declared.state.Container.{Container}
+use Rattle.rdf_trig.specs.declared.state.Container.TheVariants as container
 use Rattle.rdf_trig.specs.declared.state.Frame.{Frame}
 use Rattle.rdf_trig.specs.declared.state.State.{State}
 use Rattle.rdf_trig.specs.Quads.{stated}
 use Rattle.rdf_trig.specs.Machine as M
 use Rattle.rdf_trig.specs.Machine.{kept}
-use Rattle.rdf_trig.specs.States.{leaf, mode_at, level_of, place_in, up_in, outer_of, after_semicolon_at, setting, graph_of, graph_at, graph_in, mode_in, text_in, object_of, object_quad, rest_of, held_of}
-use Rattle.rdf_trig.specs.Steps.{given, last_of, plain_term, collection_term, due_term, due_quad, IsQuadAt, HasCome, IsAfterObject}
+use Rattle.rdf_trig.specs.States.{leaf, mode_at, level_of, place_at, place_in, verb_of, up_in, outer_of, after_semicolon_at, setting, graph_of, graph_at, graph_in, mode_in, text_in, object_of, object_quad, rest_of, held_of}
+use Rattle.rdf_trig.specs.Steps.{given, last_of, plain_term, collection_term, due_term, due_quad, IsQuadAt, IsListed, HasCome, IsAfterObject}
 use Rattle.rdf_trig.proofs.code.FrameStack.{up_last}
 
 -- without an object there is no quad
@@ -212,3 +214,42 @@ given_listed form s n t o q after d at =
     given_alone form s n t q after
     (due_here form n n.mode t (graph_in n) o q (come_here n.mode n.held after.2) d
     (subst (λ g. IsQuadAt n.frame g o q) (come_graph n n.mode n.held after.2) at))
+
+-- without an object there is no quad, whatever the mode is
+due_none : (g : Option term.Subject) (m : M.Mode) → due_quad g m None ≡ None
+due_none g (M.AfterText w p) = stated_none (Some g) (M.subject_at p) (M.verb_at p)
+due_none g (M.CollectionStart (M.At p)) = stated_none (Some g) (M.subject_at p) (M.verb_at p)
+due_none g m = object_none g m
+
+-- so where no object has come nothing is given out
+pub given_none : {A : Type 0} (form : DocForm) (s : InForce) (n : State A) (t : Given) → IsAfterObject n → None ≡ due_term n n.mode t → given form s n t ≡ []
+given_none form s n t after d =
+    let g = graph_in n in
+    given_alone form s n t None after (sym (due_none g (mode_in form n)) ∙ ap (due_quad g (mode_in form n)) d)
+
+-- an object that is held is the one that is due
+come_due : {A : Type 0} (n : State A) (m : Mode) (t : Given) → HasCome m n.held → n.held ≡ held.Resource → object_of n n.held ≡ due_term n m t
+come_due n mode.After t h e = refl
+come_due n mode.AfterText t h e = absurd (subst (HasCome mode.AfterText) e h)
+come_due n m t h e = absurd h
+
+-- where it is an IRI its quad is given out, whatever the token is
+pub given_iri : {A : Type 0} (form : DocForm) (s : InForce) (n : State A) (t : Given) (i : List ℕ) (q : Option Quad) → IsAfterObject n →
+    n.held ≡ held.Resource → Some (term.Iri i) ≡ n.object.term → IsQuadAt n.frame (graph_of n.level n.graph) (term.Resource (term.Iri i)) q →
+    given form s n t ≡ kept q []
+given_iri form s n t i q after e o at =
+    let due = ap (option_map term.Resource) o ∙ (sym (ap (object_of n) e) ∙ come_due n n.mode t after.2 e) in
+    given_listed form s n t (term.Resource (term.Iri i)) q after due at
+
+-- a quad of three IRIs is that of its object at the place of a predicate list in the default graph
+pub iris_at : {A : Type 0} (f : Frame A) (g : Option term.Subject) (s p : List ℕ) (o : term.Term) → IsListed f.container → g ≡ None →
+    Some (term.Iri s) ≡ f.subject.term → p ≡ verb_of f.verb → IsQuadAt f g o (Some (record { subject = term.Iri s; predicate = p; object = o; graph = None }))
+iris_at {A} f g s p o listed none subject verb v u = by f.container listed
+  where
+    by : (c : Container) → IsListed c → let x = place_at v c f.subject f.verb u in
+        Some (record { subject = term.Iri s; predicate = p; object = o; graph = None }) ≡ stated (Some g) (M.subject_at x) (M.verb_at x) (Some o)
+    by (container.List a) l =
+        ap (λ w. Some (record { subject = term.Iri s; predicate = w; object = o; graph = None })) verb
+        ∙ (ap (λ x. stated (Some x) (Some (term.Iri s)) (Some (verb_of f.verb)) (Some o)) (sym none)
+        ∙ ap (λ x. stated (Some g) x (Some (verb_of f.verb)) (Some o)) subject)
+    by (container.Cells first cell) l = absurd l

@@ -1,6 +1,6 @@
 -- What parts of the table mean, and what is known of each turn and of the states after it.
 use Rattle.std.proofs.Common.{◌≡◌, ℕ, Option, None, List, Result, Ok, Err, true, Some, refl, sym, ap, subst, ◌∙◌}
-use Rattle.std.specs.Prelude.{OnOk, IfErr, IfSome, MatchOption, is_some}
+use Rattle.std.specs.Prelude.{OnOk, IfOk, IfErr, IfSome, MatchOption, is_some}
 use Rattle.rdf_iri.specs.Scope.{InForce}
 use Rattle.rdf_terms.specs.declared.kind.Kind.{Kind}
 use Rattle.rdf_terms.specs.Terms as term
@@ -33,6 +33,11 @@ use Rattle.rdf_trig.specs.Turns.{Means, Decides, IsTurn, IsSuited, Suits, begun,
 pub on_ok : {T E : Type 0} (r : Result T E) (P Q : Type 0) → (P → Q) → OnOk r P → OnOk r Q
 on_ok (Ok x) P Q f h = f h
 on_ok (Err e) P Q f h = tt
+
+-- so too for what it answers
+pub if_ok : {T E : Type 0} (r : Result T E) (P Q : T → Type 0) → ((x : T) → P x → Q x) → IfOk r P → IfOk r Q
+if_ok (Ok x) P Q f h = f x h
+if_ok (Err e) P Q f h = tt
 
 -- so too for an error
 pub if_err : {T : Type 0} (r : Result T StepFault) (P Q : StepFault → Type 0) → ((e : StepFault) → P e → Q e) → IfErr r P → IfErr r Q
