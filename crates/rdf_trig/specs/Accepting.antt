@@ -1,18 +1,22 @@
 -- Turtle and TriG as a grammar that a reader drives.
 use Rattle.std.specs.Prelude.{◌≡◌, ℕ, ◌+◌, ◌≤◌, List, [], Option, Some, None, false, length}
+use Rattle.rdf_terms.specs.declared.kind.Kind.{Kind}
 use Rattle.rdf_terms.specs.declared.kind.Dialect.TheVariants.{Turtle as turtle}
 use Rattle.rdf_terms.specs.Terms.{Quad}
 use Rattle.rdf_tokens.specs.Good.{tokens_of}
 use Rattle.rdf_tokens.specs.Scans.{unread_bytes}
 use Rattle.rdf_tokens.specs.Laws.{open_bytes}
 use Rattle.rdf_iri.specs.Bindings.{BindingMap}
-use Rattle.rdf_iri.specs.Scope.{bytes_held}
+use Rattle.rdf_iri.specs.Scope.{InForce, bytes_held}
 use Rattle.rdf_driver.specs.Words.{Words}
 use Rattle.rdf_driver.specs.Readers.{Driven, HasRead}
 use Rattle.rdf_trig.specs.declared.form.DocForm.{DocForm}
+use Rattle.rdf_trig.specs.declared.state.State.{State as Code}
 use Rattle.rdf_trig.specs.Documents.{documents, Passes}
 use Rattle.rdf_trig.specs.Machine.{State, mode_size}
 use Rattle.rdf_trig.specs.Alike.{RunsTo}
+use Rattle.rdf_trig.specs.Steps.{state_of}
+use Rattle.rdf_trig.specs.Turns.{Decides, StepAt}
 use Rattle.rdf_trig.specs.Owed.{Owed, OwedInAll, most_kept}
 use Rattle.rdf_trig.specs.Language.{Chosen}
 use Rattle.rdf_trig.specs.Refusals.{Blamed}
@@ -34,6 +38,12 @@ pub record TreeAt : Type 0 where
 -- what is held is at least what the open predicate lists hold, the base, and the prefixes with their IRIs
 abbrev pub HoldsOpen : TreeAt → Type 0
 HoldsOpen g = mode_size g.state.mode + bytes_held g.state.setting.scope ≤ g.held
+
+-- what is printed of a kind of token is so of a state of the reader that means what has been read
+abbrev pub StepsFrom : Type 0 → TreeAt → Kind → StepAt → Type 0
+StepsFrom A g k x =
+    (s : InForce) × (r : Code A) × (state_of g.form s r ≡ g.state)
+    × (x.level ≡ r.level) × (x.mode ≡ r.mode) × (x.held ≡ r.held) × Decides g.form r r.mode k x.turn
 
 -- the documents from a scope on, and what the machine has accepted of one
 abbrev pub tree_words : Words TreeAt Chosen Quad

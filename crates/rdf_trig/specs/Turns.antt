@@ -11,6 +11,7 @@ use Rattle.rdf_tokens.specs.Leaves.{Leaf}
 use Rattle.rdf_trig.specs.declared.form.DocForm.{DocForm}
 use Rattle.rdf_trig.specs.declared.state.Around.{Around}
 use Rattle.rdf_trig.specs.declared.state.Container.TheVariants as container
+use Rattle.rdf_trig.specs.declared.state.Held.{Held}
 use Rattle.rdf_trig.specs.declared.state.Held.TheVariants as held
 use Rattle.rdf_trig.specs.declared.state.Level.{Level}
 use Rattle.rdf_trig.specs.declared.state.Level.TheVariants as level
@@ -253,3 +254,10 @@ abbrev pub Leads : {A : Type 0} → State A → Outer → State A → Type 0
 Leads old o new =
     let empty = record old.frame { container = container.Cells 0 0 } in
     new ≡ record old { level = level.Top; frame = empty; rest = None; held = held.Nothing; mode = mode.Outer o }
+
+-- what is printed of a kind of token: where a state stands, what it holds, and the turn
+pub record StepAt : Type 0 where
+  pub level : Level
+  pub mode : Mode
+  pub held : Held
+  pub turn : Option Turn

@@ -1,6 +1,6 @@
 // Turtle and TriG as a grammar that a reader drives.
 
-ghost use Rattle.std.specs.Prelude.{◌≡◌, ◌≢◌};
+ghost use Rattle.std.specs.Prelude.{◌≡◌, ◌≢◌, is_some};
 ghost use Rattle.rdf_iri.specs.Limits.{Sizes};
 ghost use Rattle.rdf_iri.specs.Scope.{bytes_held};
 ghost use Rattle.rdf_driver.specs.Words.{KnowsNext};
@@ -8,7 +8,7 @@ ghost use Rattle.rdf_trig.specs.declared.form.DocForm.{DocForm};
 ghost use Rattle.rdf_trig.specs.Documents.{trees};
 ghost use Rattle.rdf_trig.specs.Machine as M;
 ghost use Rattle.rdf_trig.specs.Steps.{reason_of, Keeps};
-ghost use Rattle.rdf_trig.specs.Accepting.{tree_words};
+ghost use Rattle.rdf_trig.specs.Accepting.{StepsFrom, tree_words};
 
 use crate::fault::StepFault;
 use crate::form::DocForm;
@@ -75,7 +75,8 @@ impl<A: Allocator + Copy> TreeGrammar<A> {
     /// Where the grammar stands, and what a token of this kind does there, to be printed with `{:?}`. It takes no
     /// memory.
     pub fn step(&self, kind: Kind) -> Step
-        ensures exact { KnowsNext tree_words (λ x. trees x.form x.start) self.now kind result }
+        ensures exact { KnowsNext tree_words (λ x. trees x.form x.start) self.now kind (is_some result.turn) }
+        ensures stands { StepsFrom A self.now kind result }
     {
         self.state.step(self.rules.form, kind)
     }
@@ -138,7 +139,7 @@ impl<A: Allocator + Copy> Foresees for TreeGrammar<A> {
     ghost trees = { λ x. trees x.form x.start };
 
     fn may_come(&self, kind: Kind) -> bool {
-        self.state.may_come(self.rules.form, kind)
+        self.step(kind).may_come()
     }
 }
 

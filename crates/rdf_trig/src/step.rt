@@ -1,11 +1,7 @@
 // Where the reader stands and what a token does there, to be printed by whoever looks for a mistake.
 
-ghost use Rattle.std.specs.Prelude.{◌≡◌};
-ghost use Rattle.rdf_iri.specs.Scope.{InForce};
-ghost use Rattle.rdf_tokens.specs.Leaves.{Leaf};
-ghost use Rattle.rdf_trig.specs.Machine as M;
-ghost use Rattle.rdf_trig.specs.States.{graph_in, is_go, mode_in, setting};
-ghost use Rattle.rdf_trig.specs.declared.form.DocForm.{DocForm};
+ghost use Rattle.std.specs.Prelude.{◌≡◌, is_some};
+ghost use Rattle.rdf_trig.specs.Turns.{Decides};
 
 use crate::form::DocForm;
 use crate::state::{Held, Level, Mode, State};
@@ -15,7 +11,7 @@ use std::alloc::Allocator;
 use std::marker::Model;
 
 /// Where the reader stands, and what a token of one kind does there: None, where no document has one. It is made to
-/// be printed with `{:?}`; a contract knows of it whether such a token can come.
+/// be printed with `{:?}`.
 #[derive(Debug, Drop)]
 pub struct Step {
     level: Level,
@@ -25,18 +21,29 @@ pub struct Step {
 }
 
 impl Model for Step {
-    ghost use Rattle.std.specs.Prelude.{Bool, is_some};
+    ghost use Rattle.rdf_trig.specs.Turns.{StepAt};
 
-    ghost Value = { Bool };
+    ghost Value = { StepAt };
 
-    ghost view = { λ s. is_some s.turn };
+    ghost view = { λ s. record { level = s.level; mode = s.mode; held = s.held; turn = s.turn } };
+}
+
+impl Step {
+    /// Whether some document has a token of the kind there.
+    pub fn may_come(&self) -> bool
+        ensures { result ≡ is_some self.now.turn }
+    {
+        self.turn.is_some()
+    }
 }
 
 impl<A: Allocator> State<A> {
     /// What a token of this kind does here by the grammar, whatever it spells.
     pub fn step(&self, form: DocForm, kind: Kind) -> Step
-        ensures { (s : InForce) (l : Leaf) →
-            result ≡ is_go (M.step form (setting s (graph_in self.now)) (mode_in form self.now) kind l) }
+        ensures level { result.level ≡ self.now.level }
+        ensures mode { result.mode ≡ self.now.mode }
+        ensures held { result.held ≡ self.now.held }
+        ensures turn { Decides form self.now self.now.mode kind result.turn }
     {
         Step {
             level: self.level,

@@ -1,10 +1,6 @@
 // What may stand where, and what it does there: the only table of modes and kinds. Its parts stand below it.
 
-ghost use Rattle.std.specs.Prelude.{◌≡◌, ℕ, None, Option, IfSome};
-ghost use Rattle.rdf_iri.specs.Scope.{InForce};
-ghost use Rattle.rdf_tokens.specs.Leaves.{Leaf};
-ghost use Rattle.rdf_trig.specs.Machine as M;
-ghost use Rattle.rdf_trig.specs.States.{graph_in, is_go, mode_in, setting};
+ghost use Rattle.std.specs.Prelude.{IfSome};
 ghost use Rattle.rdf_trig.specs.Turns.{Decides, SuitsIn, KeepsFrames};
 ghost use Rattle.rdf_trig.specs.declared.form.DocForm.{DocForm};
 
@@ -39,13 +35,5 @@ impl<A: Allocator> State<A> {
             Mode::AfterSemicolon => self.after_semicolon(kind),
             Mode::AfterPropertyList => self.after_property_list(kind),
         }
-    }
-
-    /// Whether a token of this kind may stand here by the grammar, whatever it spells.
-    pub fn may_come(&self, form: DocForm, kind: Kind) -> bool
-        ensures { (s : InForce) (l : Leaf) →
-            result ≡ is_go (M.step form (setting s (graph_in self.now)) (mode_in form self.now) kind l) }
-    {
-        self.turn(form, kind).is_some()
     }
 }

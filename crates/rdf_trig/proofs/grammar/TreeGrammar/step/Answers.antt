@@ -1,14 +1,16 @@
-use Rattle.std.proofs.Common.{subst}
+-- What the step knows of its state holds of the grammar that is seen of it.
+use Rattle.std.proofs.Common.{refl, subst}
+use Rattle.std.specs.Prelude.{is_some}
 use Rattle.rdf_driver.specs.Words.{KnowsNext}
 use Rattle.rdf_trig.specs.Documents.{trees}
 use Rattle.rdf_trig.specs.Steps.{state_of}
 use Rattle.rdf_trig.specs.Holding.{grammar_bytes}
-use Rattle.rdf_trig.specs.Accepting.{TreeAt, tree_words}
-use Rattle.rdf_trig.proofs.code.NextKinds.{knows_next}
+use Rattle.rdf_trig.specs.Accepting.{TreeAt, StepsFrom, tree_words}
+use Rattle.rdf_trig.proofs.code.NextKinds.{decides_goes, knows_next}
 use Rattle.rdf_trig.proofs.grammar.TreeGrammar.step.Goals as goal
 
-pub returns : goal.returns
-returns g c =
+pub returns-clause-exact : goal.returns-clause-exact
+returns-clause-exact g c =
     let r = c.self.inside in
     let here : TreeAt = record {
       form = r.rules.form;
@@ -16,7 +18,13 @@ returns g c =
       state = state_of r.rules.form r.scope r.state;
       held = grammar_bytes r.state r.scope;
     } in
-    record {
-      exact = subst (λ y. KnowsNext tree_words (λ x. trees x.form x.start) y c.args.kind c.step.result) c.self.view_is
-          (knows_next here c.args.kind c.step.result c.step.ensures);
-    }
+    let can = is_some c.step.result.turn in
+    subst (λ y. KnowsNext tree_words (λ x. trees x.form x.start) y c.args.kind can) c.self.view_is
+    (knows_next here c.args.kind can (decides_goes r.rules.form r.state r.state.mode c.args.kind c.step.result.turn c.step.ensures.turn))
+
+pub returns-clause-stands : goal.returns-clause-stands
+returns-clause-stands g c =
+    let r = c.self.inside in
+    let z = c.step.ensures in
+    subst (λ (y : TreeAt). StepsFrom _ y c.args.kind c.step.result) c.self.view_is
+    (r.scope, r.state, refl, z.level, z.mode, z.held, z.turn)
