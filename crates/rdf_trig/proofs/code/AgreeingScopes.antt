@@ -24,7 +24,6 @@ use Rattle.rdf_trig.specs.declared.turn.Turn.{Turn}
 use Rattle.rdf_trig.specs.Names.{reference_in, name_in, prefix_of, local_of, with_base, with_binding, is_full}
 use Rattle.rdf_trig.specs.Events.{Use, stands, binds}
 use Rattle.rdf_trig.specs.Machine as M
-use Rattle.rdf_trig.specs.Machine.{by_use}
 use Rattle.rdf_trig.specs.States.{IsNamedIn, name_at, use_at, mode_at, outer_of, level_of, place_in, text_in, after_semicolon_at}
 use Rattle.rdf_trig.specs.Scopes.{IsAdmitted, IsDenied, Names, Unnamed, Based, Binding, NotBinding, SameScope, LooksUp, LooksUpNone}
 use Rattle.rdf_trig.specs.Turns.{Suits, SuitsIn}

@@ -8,7 +8,7 @@ use Rattle.rdf_iri.specs.Resolve.{resolved}
 use Rattle.rdf_iri.specs.Parts.{parts_of}
 use Rattle.rdf_iri.specs.Dots.{remove_dots, finish, step}
 use Rattle.rdf_terms.specs.declared.kind.Kind.TheVariants.{IriRef, LabelNode, ShortString, LangTag, Carets, Dot, Integer, True, False, A, AtBase, Prefix, Base, Graph, PnameNs, PnameLn, Comma, OpenBracket, CloseBracket, OpenParen, CloseParen, OpenBrace, CloseBrace, End}
-use Rattle.rdf_terms.specs.Terms.{Node, Label, Anon, Cell, Blank, Term, Quad}
+use Rattle.rdf_terms.specs.Terms.{Label, Anon, Cell, Blank, Term, Quad}
 use Rattle.rdf_terms.specs.Terms as term
 use Rattle.rdf_terms.specs.Known.{known_chars}
 use Rattle.rdf_terms.specs.declared.constants.Known.TheVariants.{RdfType, RdfFirst, RdfRest, RdfNil, XsdString, XsdInteger, XsdBoolean}
@@ -17,7 +17,7 @@ use Rattle.rdf_tokens.specs.Grammars.{Marked}
 use Rattle.rdf_iri.specs.Scope.{InForce, bytes_held}
 use Rattle.rdf_tokens.specs.Leaves.{Leaf, token}
 use Rattle.rdf_trig.specs.declared.form.DocForm.TheVariants.{Turtle, TriG}
-use Rattle.rdf_trig.specs.Trees.{PrefixedName, pname_ln, pname_ns, Iri, iri_ref, prefixed, BlankNode, label, anon, Verb, predicate, type_word, String, short, long, Tag, lang_tag, base_tag, prefix_tag, RDFLiteral, plain, tagged, typed, NumericLiteral, integer, decimal, double, BooleanLiteral, true_word, false_word, Literal, rdf, numeric, boolean, Object, iri_object, blank_object, collection_object, list_object, literal_object, Collection, collection, Items, no_items, item, BlankNodePropertyList, property_list, PredicateObjectList, predicate_objects, More, no_more, semicolon, semicolon_objects, ObjectList, objects, Commas, no_commas, comma, iri_subject, blank_subject, collection_subject, Triples, subject_triples, list_triples, Directive, prefix_id, base, sparql_prefix, sparql_base, LabelOrSubject, iri_label, blank_label, TriplesBlock, last, last_dot, dot, WrappedGraph, wrapped, TriplesOrGraph, named_graph, label_triples, Triples2, list_triples2, collection_triples2, Block, triples_or_graph, default_graph, triples2, Body, Document, end, with_directive, with_body}
+use Rattle.rdf_trig.specs.Trees.{pname_ln, Iri, iri_ref, prefixed, label, anon, predicate, type_word, short, lang_tag, base_tag, plain, tagged, typed, integer, true_word, false_word, Literal, rdf, numeric, boolean, iri_object, blank_object, collection_object, list_object, literal_object, collection, no_items, item, property_list, predicate_objects, no_more, objects, no_commas, comma, iri_subject, blank_subject, collection_subject, subject_triples, list_triples, base, sparql_prefix, sparql_base, iri_label, blank_label, last, last_dot, dot, wrapped, named_graph, label_triples, triples_or_graph, default_graph, Document, end, with_directive, with_body}
 use Rattle.rdf_trig.specs.Trees as tree
 use Rattle.rdf_trig.specs.Names.{reference_in, name_in, is_full}
 use Rattle.rdf_trig.specs.Events.{Event, Took, Gave, document_events, event_quads, Bound}

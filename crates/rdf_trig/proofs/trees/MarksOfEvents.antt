@@ -2,7 +2,7 @@
 use Rattle.std.proofs.Common.{◌≡◌, ℕ, ◌+◌, List, [], ◌∷◌, ◌++◌, Option, Some, None, refl, sym, ap, ◌∙◌, append_assoc, length, length-append, arith}
 use Rattle.rdf_terms.specs.declared.kind.Kind.{Kind}
 use Rattle.rdf_terms.specs.declared.kind.Kind.TheVariants.{Carets, Dot, CloseBracket, CloseParen, CloseBrace}
-use Rattle.rdf_terms.specs.Terms.{Node, Label, Anon, Cell, Blank, Term, Quad}
+use Rattle.rdf_terms.specs.Terms.{Node, Quad}
 use Rattle.rdf_terms.specs.Terms as term
 use Rattle.rdf_terms.specs.Known.{known_chars}
 use Rattle.rdf_terms.specs.declared.constants.Known.TheVariants.{RdfFirst}

@@ -1,7 +1,7 @@
 -- The tokens of a tree's events are those that the tree derives.
 use Rattle.std.proofs.Common.{◌≡◌, ℕ, List, [], ◌∷◌, ◌++◌, Option, Some, None, refl, sym, ap, ◌∙◌, append_assoc}
 use Rattle.rdf_terms.specs.declared.kind.Kind.TheVariants.{LabelNode, Carets, Dot, Integer, Decimal, Double, True, False, Graph, Semicolon, Comma, OpenBracket, CloseBracket, OpenParen, CloseParen, OpenBrace, CloseBrace}
-use Rattle.rdf_terms.specs.Terms.{Node, Label, Anon, Cell, Blank, Term, Quad}
+use Rattle.rdf_terms.specs.Terms.{Node, Quad}
 use Rattle.rdf_terms.specs.Terms as term
 use Rattle.rdf_terms.specs.Known.{known_chars}
 use Rattle.rdf_terms.specs.declared.constants.Known.TheVariants.{RdfFirst}
