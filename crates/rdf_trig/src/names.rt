@@ -198,7 +198,6 @@ fn put_spelled<A: Allocator + Copy>(
 }
 
 // Puts the IRI of a reference in place of a text. A reference without escapes is resolved as it stands in the token.
-#[tactic(auto, using(crate::proofs::code::LookUps::reference_not))]
 fn put_reference<A: Allocator + Copy>(
     alloc: A,
     text: &mut TextBuffer<A>,

@@ -6,6 +6,7 @@ use Rattle.rdf_terms.specs.declared.kind.Kind.{Kind}
 use Rattle.rdf_terms.specs.declared.kind.Kind.TheVariants.{IriRef, PnameNs, PnameLn}
 use Rattle.rdf_terms.specs.Local.{without_backslashes}
 use Rattle.rdf_terms.specs.Terms.{has_scheme}
+use Rattle.rdf_terms.specs.Values.{iri_value, inside}
 use Rattle.rdf_terms.proofs.LocalLemmas.{value_is}
 use Rattle.rdf_terms.specs.declared.reason.Reason.TheVariants as reason
 use Rattle.rdf_iri.specs.declared.fault.IriFault.{IriFault}
@@ -97,6 +98,10 @@ pub name_stops : (s : InForce) (k : Kind) (l : Leaf) (p v : List ℕ) (f : IriFa
 name_stops s PnameNs l p v f k e g h = name_stops_at s PnameNs l p v f refl e g h
 name_stops s PnameLn l p v f k e g h = name_stops_at s PnameLn l p v f refl e g h
 name_stops s k l p v f n e g h = absurd n
+
+-- the inside of a reference without escapes is what the reference spells
+pub unescaped : (l : Leaf) (w : List ℕ) → w ≡ inside 1 l.text → iri_value w ≡ Some w → w ≡ iri_of l
+unescaped l w e v = ap (λ o. unwrap_or o []) (sym v ∙ ap iri_value e)
 
 -- the base
 pub base_is : (s t : InForce) (l : Leaf) (w : List ℕ) → w ≡ iri_of l → IsBased s w t → Based s l t

@@ -1,8 +1,9 @@
 -- Outside of statements a look-up is that of the machine: in the two modes that wait for an IRIREF it changes the scope.
-use Rattle.std.proofs.Common.{sym, subst}
+use Rattle.std.proofs.Common.{refl, sym, subst}
 use Rattle.rdf_trig.specs.Machine as M
 use Rattle.rdf_trig.specs.States.{leaf, text_in, spelling_of}
 use Rattle.rdf_trig.specs.Scopes.{LooksUp}
+use Rattle.rdf_trig.specs.Holding.{NameFits}
 use Rattle.rdf_trig.proofs.code.AgreeingScopes.{outer_looks, outer_none}
 use Rattle.rdf_trig.proofs.code.TurnsLemmas.{on_ok, if_err}
 use Rattle.rdf_trig.proofs.state.State.look_up_outer.Goals as goal
@@ -47,3 +48,32 @@ returns-in-WantBaseIri-clause-ok g c =
 pub returns-in-WantBaseIri-clause-err : goal.returns-in-WantBaseIri-clause-err
 returns-in-WantBaseIri-clause-err g c =
     rw c.in-WantBaseIri.is (if_err c.look_up_base.result _ _ (λ r h form s e. h (spelling_of c.in-WantBaseIri.field-0) s e) c.look_up_base.ensures.err)
+
+pub look_up_prefix-requires-clause-token : goal.look_up_prefix-requires-clause-token
+look_up_prefix-requires-clause-token g c = c.requires.token
+
+pub look_up_prefix-requires-clause-short : goal.look_up_prefix-requires-clause-short
+look_up_prefix-requires-clause-short g c = rw c.in-WantPrefixIri.is at c.requires.short
+
+pub returns-in-WantPrefix-clause-ok : goal.returns-in-WantPrefix-clause-ok
+returns-in-WantPrefix-clause-ok g c = rw c.in-WantPrefix.is (λ form s e. record { admitted = λ a. refl; name = tt; named = tt; scope = e })
+
+pub returns-in-WantPrefix-clause-fits : goal.returns-in-WantPrefix-clause-fits
+returns-in-WantPrefix-clause-fits g c = subst (NameFits c.args.scope.now.limits.iri) (sym c.requires.none) tt
+
+pub returns-in-WantPrefix-clause-same : goal.returns-in-WantPrefix-clause-same
+returns-in-WantPrefix-clause-same g c = refl
+
+pub returns-in-WantPrefixIri-clause-fits : goal.returns-in-WantPrefixIri-clause-fits
+returns-in-WantPrefixIri-clause-fits g c =
+    on_ok c.look_up_prefix.result _ _ (λ h. subst (NameFits c.args.scope.now.limits.iri) (sym c.requires.none) tt) c.look_up_prefix.ensures.ok
+
+pub returns-in-WantPrefixIri-clause-same : goal.returns-in-WantPrefixIri-clause-same
+returns-in-WantPrefixIri-clause-same g c = refl
+
+pub returns-in-WantBaseIri-clause-fits : goal.returns-in-WantBaseIri-clause-fits
+returns-in-WantBaseIri-clause-fits g c =
+    on_ok c.look_up_base.result _ _ (λ h. subst (NameFits c.args.scope.now.limits.iri) (sym c.requires.none) tt) c.look_up_base.ensures.ok
+
+pub returns-in-WantBaseIri-clause-same : goal.returns-in-WantBaseIri-clause-same
+returns-in-WantBaseIri-clause-same g c = refl
