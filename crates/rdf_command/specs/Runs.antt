@@ -23,7 +23,7 @@ use Rattle.rdf_stream.specs.Jobs.{JobRead, word_of}
 use Rattle.rdf_stream.specs.Loads.{LoadStops, Loads}
 use Rattle.rdf_stream.specs.declared.fault.LoadFault.{LoadFault}
 use Rattle.rdf_stream.specs.Languages.{conversion_of, language_of}
-use Rattle.rdf_stream.specs.Shows.{ShowStops, Shows, dialect_of}
+use Rattle.rdf_stream.specs.Shows.{Shows, dialect_of, showing_of}
 use Rattle.rdf_stream.specs.declared.fault.StreamFault.{StreamFault}
 use Rattle.rdf_stream.specs.declared.fault.StreamFault.TheVariants.{Write, Memory}
 use Rattle.rdf_command.specs.declared.task.Action.{Action}
@@ -103,13 +103,14 @@ Does Convert job bytes old new = IsConverted (conversion_of job) bytes old new
 -- why a run stopped, and what it had written
 abbrev pub StopsAction : Action → StreamFault → JobRead → Option (List ℕ) → Reading → Option (List ℕ) → Option (List ℕ) → Bool → Type 0
 StopsAction Check fault job known left old new write_failed = StopsCheckAs None fault job known left old new write_failed
-StopsAction Show fault job known left old new write_failed = ShowStops fault job known left old new write_failed
+StopsAction Show fault job known left old new write_failed = StopsFor fault (showing_of job) known left old new write_failed
 StopsAction Convert fault job known left old new write_failed = StopsFor fault (conversion_of job) known left old new write_failed
 
--- a conversion hands over each line before it asks for more
+-- a conversion hands over each line before it asks for more, and so does what shows tokens
 abbrev pub HandsOver : Action → JobRead → Option (List ℕ) → Reading → Option (List ℕ) → Option (List ℕ) → Type 0
 HandsOver Convert job known left old new = IsPrompt (conversion_of job) known left old new
-HandsOver action job known left old new = Unit
+HandsOver Show job known left old new = IsPrompt (showing_of job) known left old new
+HandsOver Check job known left old new = Unit
 
 -- after a refusal what was written has been flushed; a check has written nothing
 abbrev pub SendsOn : Action → StreamFault → Bool → Type 0

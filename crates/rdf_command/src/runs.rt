@@ -9,6 +9,7 @@ ghost use Rattle.rdf_stream.specs.Devices.{AppendsFront};
 ghost use Rattle.rdf_stream.specs.Faults.{IsSentOn};
 ghost use Rattle.rdf_stream.specs.Jobs.{word_of};
 ghost use Rattle.rdf_stream.specs.Languages.{conversion_of};
+ghost use Rattle.rdf_stream.specs.Shows.{showing_of};
 ghost use Rattle.rdf_stream.specs.Told.{AsTold, told};
 ghost use Rattle.rdf_command.specs.Reasons.{devices_of, standard_output};
 ghost use Rattle.rdf_command.specs.Runs.{AreFresh, AsWritten, Does, HandsOver, IsCheckedAs, RunEnds, SendsOn};
@@ -211,6 +212,8 @@ fn show_to<S: Source, O: Drain>(
     ensures stops { IfErr result (λ stop.
         AsTold (StopsAction Action.Show stop.fault job) S.Source O.Drain source.old source.new out.old out.new) }
     ensures sent { IfErr result (λ stop. IsSentOn stop.fault (O.is_flushed out.new)) }
+    ensures prompt { IsPrompt (showing_of job) (S.remaining source.old) (told S.Source source.new)
+        (O.contents out.old) (O.contents out.new) }
     ensures expected { IfErr result (λ stop. TellsEvidence explain Action.Show stop.fault job (S.remaining source.old)
         (told S.Source source.new) stop.evidence) }
 {

@@ -22,10 +22,10 @@ use Rattle.rdf_stream.specs.declared.form.Form.TheVariants as form
 use Rattle.rdf_trig.specs.declared.form.DocForm.{DocForm}
 use Rattle.rdf_trig.specs.declared.form.DocForm.TheVariants.{Turtle, TriG}
 use Rattle.rdf_trig.specs.Language.{language}
-use Rattle.rdf_stream.specs.Converts.{Accepts, lines_of}
+use Rattle.rdf_stream.specs.Converts.{Accepts}
 use Rattle.rdf_stream.specs.Jobs.{JobRead}
 use Rattle.rdf_stream.specs.Kinds.{kind_of}
-use Rattle.rdf_stream.specs.Languages.{conversion_by, put_quads, tree_job, written_form}
+use Rattle.rdf_stream.specs.Languages.{conversion_by, lines_of, tree_job, written_form}
 use Rattle.rdf_stream.specs.Graphs.{all_in_graph}
 use Rattle.rdf_stream.proofs.ConvertingLemmas.{placed_writable}
 use Rattle.rdf_read_back.specs.Laws.{ConvertedIsRead, IsJob, Suffice}
@@ -67,12 +67,12 @@ module _ (job : JobRead) (bytes : List ℕ) (old new : Option (List ℕ)) (s : S
       l.iris l.token l.kept l.iri in
       read Tagged qs fits.writable fits.least fits.shorts fits.iris
 
-  by_form : (f : Form) (a : Accepts (conversion_by (kind_of f) job) bytes old new s) → let c = conversion_by (kind_of f) job in
-      IsReadToItsEnd (in_lines NQuads (length job.node_prefix + token_then) iri_then) (lines_of c.form (put_quads c a.quads))
-  by_form form.NTriples a = of_lines line.NTriples a.quads a.document a.within
-  by_form form.NQuads a = of_lines NQuads a.quads a.document a.within
-  by_form form.Turtle a = of_trees Turtle a.quads a.size a.document a.within
-  by_form form.TriG a = of_trees TriG a.quads a.size a.document a.within
+  by_form : (f : Form) (a : Accepts (conversion_by (kind_of f) job) bytes old new s) →
+      IsReadToItsEnd (in_lines NQuads (length job.node_prefix + token_then) iri_then) ((conversion_by (kind_of f) job).lines a.items)
+  by_form form.NTriples a = of_lines line.NTriples a.items a.document a.within
+  by_form form.NQuads a = of_lines NQuads a.items a.document a.within
+  by_form form.Turtle a = of_trees Turtle a.items a.size a.document a.within
+  by_form form.TriG a = of_trees TriG a.items a.size a.document a.within
 
 -- so it is for the job's format
 pub converted_read : ConvertedIsRead

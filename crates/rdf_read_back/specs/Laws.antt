@@ -17,9 +17,9 @@ use Rattle.rdf_lines.specs.Documents.{in_lines}
 use Rattle.rdf_trig.specs.declared.form.DocForm.{DocForm}
 use Rattle.rdf_trig.specs.Language.{language}
 use Rattle.rdf_driver.specs.declared.summary.Summary.{Summary}
-use Rattle.rdf_stream.specs.Converts.{Accepts, lines_of}
+use Rattle.rdf_stream.specs.Converts.{Accepts}
 use Rattle.rdf_stream.specs.Jobs.{JobRead}
-use Rattle.rdf_stream.specs.Languages.{conversion_of, language_of, put_quads}
+use Rattle.rdf_stream.specs.Languages.{conversion_of, language_of}
 
 -- the base, where there is one, and what each prefix is bound to are IRIs
 pub record HasIris (s : InForce) : Type 0 where
@@ -56,11 +56,11 @@ pub record Suffice (job : JobRead) (token_then iri_then : ℕ) : Type 0 where
   pub graph : IfSome job.graph (λ g. (iri_width job.escapes * byte_len g + 2 ≤ token_then) × (byte_len g ≤ iri_then))
 
 -- What `convert` has written where it accepts a document, of any format, is read to its end as N-Quads. That its quads are those of the document, in the
--- graph that was asked for, is `reads_back` of what it promises.
+-- graph that was asked for, is `known` of what it promises.
 abbrev pub ConvertedIsRead : Type 0
 ConvertedIsRead = (job : JobRead) (bytes : List ℕ) (old new : Option (List ℕ)) (s : Summary) → IsJob job →
     (accepted : Accepts (conversion_of job) bytes old new s) → (token_then iri_then : ℕ) → Suffice job token_then iri_then →
-    IsReadToItsEnd (in_lines NQuads (length job.node_prefix + token_then) iri_then) (lines_of (conversion_of job).form (put_quads (conversion_of job) accepted.quads))
+    IsReadToItsEnd (in_lines NQuads (length job.node_prefix + token_then) iri_then) ((conversion_of job).lines accepted.items)
 
 -- A reading of a job's document is refused for one reason, at one place.
 abbrev pub RefusedOnce : Type 0

@@ -20,6 +20,7 @@ use Rattle.rdf_trig.specs.Language.{Chosen}
 use Rattle.rdf_trig.specs.Accepting.{tree_words}
 use Rattle.rdf_trig.proofs.code.LawfulGrammar.{lawful as trees_lawful}
 use Rattle.rdf_stream.specs.Converting.{IsConvertible}
+use Rattle.rdf_stream.specs.Outputs.{of_quads}
 
 -- each node of a line document has a label, so it can be written as it is
 name_kept : (n : Name) → CanWriteSubject Kept (subject_of n)
@@ -82,10 +83,10 @@ all_tagged [] = tt
 all_tagged (q ∷ qs) = (record { subject = subject_tagged q.subject; object = term_tagged q.object; graph = graph_tagged q.graph }, all_tagged qs)
 
 -- The line formats suit lines with labels kept.
-pub lines_convertible : (x : Rules) (style : Style) → style ≡ Kept → IsConvertible line_words x style
+pub lines_convertible : (x : Rules) (style : Style) → style ≡ Kept → IsConvertible of_quads line_words x style
 lines_convertible x style e =
-    subst (IsConvertible line_words x) (sym e) (record { lawful = lines_lawful; can_write = λ ts quads d. due_kept x.form ts quads d })
+    subst (IsConvertible of_quads line_words x) (sym e) (record { lawful = lines_lawful; can_write = λ ts quads d. due_kept x.form ts quads d })
 
 -- Turtle and TriG suit lines with labels renamed.
-pub trees_convertible : (x : Chosen) (style : Style) → style ≡ Tagged → IsConvertible tree_words x style
-trees_convertible x style e = subst (IsConvertible tree_words x) (sym e) (record { lawful = trees_lawful; can_write = λ ts quads d. all_tagged quads })
+pub trees_convertible : (x : Chosen) (style : Style) → style ≡ Tagged → IsConvertible of_quads tree_words x style
+trees_convertible x style e = subst (IsConvertible of_quads tree_words x) (sym e) (record { lawful = trees_lawful; can_write = λ ts quads d. all_tagged quads })

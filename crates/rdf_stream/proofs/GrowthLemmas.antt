@@ -4,7 +4,6 @@ use Rattle.std.proofs.KnownBytes.{Appends-nil, Appends-trans}
 use Rattle.std.specs.Io.KnownBytes.{Appends}
 use Rattle.rdf_terms.specs.Sinks as sink
 use Rattle.rdf_terms.specs.Sinks.{Attempts}
-use Rattle.rdf_terms.specs.Terms.{Quad}
 use Rattle.rdf_terms.specs.declared.reason.Reason.{Reason}
 use Rattle.rdf_terms.specs.declared.reason.Reason.TheVariants as reason
 use Rattle.rdf_tokens.specs.Tokens.{Place}
@@ -17,6 +16,7 @@ use Rattle.rdf_stream.specs.declared.line_out.LineOut.{LineOut}
 use Rattle.rdf_stream.specs.Converting.{Reports, ReportsWrite}
 use Rattle.rdf_stream.specs.Devices.{AppendsFront, Grows}
 use Rattle.rdf_stream.specs.LineOut.{Leaves, Moves, OnlyGrows, PutHalts, SameOut, Takes}
+use Rattle.rdf_stream.specs.Outputs.{Writer}
 use Rattle.rdf_stream.proofs.LineOutLemmas.{same_out}
 
 module _ {D A : Type 0} (contents : D → Option (List ℕ)) where
@@ -49,18 +49,6 @@ module _ {D A : Type 0} (contents : D → Option (List ℕ)) where
   grows_moved a b bytes rest s m = grows_by a b m.front s m.taken
 
 module _ {D A : Type 0} (contents : D → Option (List ℕ)) (failed : D → Bool) where
-  -- quads were put
-  pub puts_grow : (qs : List Quad) (a b : LineOut D A) → sink.Appends (Takes contents failed) a qs b → OnlyGrows contents a b
-  puts_grow [] a b h = subst (OnlyGrows contents a) (sym h) (grows_none contents a)
-  puts_grow (q ∷ qs) a b h = grows_both contents a h.0 b (grows_moved contents a h.0 _ _ h.1.same h.1.writes) (puts_grow qs h.0 b h.2)
-
-  -- the last of them may have been refused
-  pub tries_grow : (qs : List Quad) (a b : LineOut D A) → Attempts (Takes contents failed) (Leaves contents failed) a qs b → OnlyGrows contents a b
-  tries_grow [] a b h = subst (OnlyGrows contents a) (sym h) (grows_none contents a)
-  tries_grow (q ∷ qs) a b h =
-      ⊎_elim (λ p. grows_moved contents a b _ _ p.1.same p.1.moves)
-      (λ p. grows_both contents a p.0 b (grows_moved contents a p.0 _ _ p.1.same p.1.writes) (tries_grow qs p.0 b p.2)) h
-
   -- some bytes were not put
   pub refusal_grows : (reported : StreamFault) (a b : LineOut D A) (bytes : List ℕ) → SameOut a b →
       PutHalts contents failed reported a bytes b → OnlyGrows contents a b
@@ -81,9 +69,22 @@ module _ {D A : Type 0} (contents : D → Option (List ℕ)) (failed : D → Boo
           }
       by false e t = let (rest, m) = t.while_taking e in grows_moved contents a b _ rest s m
 
-  module _ {G X : Type 0} (w : Words G X Quad) (at : Place) (old new : Driven G) (a b : LineOut D A) where
+module _ {D A I : Type 0} (how : Writer I) (contents : D → Option (List ℕ)) (failed : D → Bool) where
+  -- items were put
+  pub puts_grow : (is : List I) (a b : LineOut D A) → sink.Appends (Takes how contents failed) a is b → OnlyGrows contents a b
+  puts_grow [] a b h = subst (OnlyGrows contents a) (sym h) (grows_none contents a)
+  puts_grow (i ∷ is) a b h = grows_both contents a h.0 b (grows_moved contents a h.0 _ _ h.1.put.same h.1.put.writes) (puts_grow is h.0 b h.2)
+
+  -- the last of them may have been refused
+  pub tries_grow : (is : List I) (a b : LineOut D A) → Attempts (Takes how contents failed) (Leaves how contents failed) a is b → OnlyGrows contents a b
+  tries_grow [] a b h = subst (OnlyGrows contents a) (sym h) (grows_none contents a)
+  tries_grow (i ∷ is) a b h =
+      ⊎_elim (λ p. grows_moved contents a b _ _ p.1.left.same p.1.left.moves)
+      (λ p. grows_both contents a p.0 b (grows_moved contents a p.0 _ _ p.1.put.same p.1.put.writes) (tries_grow is p.0 b p.2)) h
+
+  module _ {G X : Type 0} (w : Words G X I) (at : Place) (old new : Driven G) (a b : LineOut D A) where
     -- a piece was not read to its end
-    pub feed_grows : (why : Reason) (piece : List ℕ) → FeedFails w (Takes contents failed) (Leaves contents failed)
+    pub feed_grows : (why : Reason) (piece : List ℕ) → FeedFails w (Takes how contents failed) (Leaves how contents failed)
         (λ s. failed s.drain.now) why at old a piece new b → OnlyGrows contents a b
     feed_grows reason.Ended piece h = subst (OnlyGrows contents a) (sym h.2) (grows_none contents a)
     feed_grows reason.Memory piece h = tries_grow h.0.more a b h.0.puts
@@ -92,7 +93,7 @@ module _ {D A : Type 0} (contents : D → Option (List ℕ)) (failed : D → Boo
     feed_grows why piece h = puts_grow h.more a b h.puts
 
     -- a document was not finished
-    pub finish_grows : (why : Reason) → FinishFails w (Takes contents failed) (Leaves contents failed)
+    pub finish_grows : (why : Reason) → FinishFails w (Takes how contents failed) (Leaves how contents failed)
         (λ s. failed s.drain.now) why at old a new b → OnlyGrows contents a b
     finish_grows reason.Ended h = subst (OnlyGrows contents a) (sym h.2) (grows_none contents a)
     finish_grows reason.Memory h = tries_grow h.0.more a b h.0.puts

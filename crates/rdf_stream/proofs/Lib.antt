@@ -15,7 +15,6 @@ pub mod ExplainsLemmas
 pub mod BracketLemmas
 pub mod ChecksLemmas
 pub mod TokenWordsLemmas
-pub mod TokenOutLemmas
 pub mod ShowsLemmas
 pub mod LoadsLemmas
 mod WithoutCrsLemmas

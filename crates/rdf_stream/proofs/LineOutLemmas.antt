@@ -1,27 +1,23 @@
 -- What a sink of lines has handed over after some puts, and what waits.
 use Rattle.std.proofs.Common.{◌≡◌, ℕ, Bool, true, false, List, [], ◌∷◌, ◌++◌, Option, refl, sym, ap, subst, ◌∙◌, append_assoc, ⊎_elim, inr}
-use Rattle.std.proofs.lemmas.List.{append-nil, map-append}
-use Rattle.std.proofs.lemmas.Str.{encodes-append}
-use Rattle.std.proofs.lemmas.Grind.{flat_map-append}
+use Rattle.std.proofs.lemmas.List.{append-nil}
 use Rattle.std.proofs.KnownBytes.{Appends-nil, Appends-trans}
-use Rattle.std.specs.Prelude.{encode_utf8_all, map}
 use Rattle.std.specs.Io.KnownBytes.{Appends}
 use Rattle.std.specs.List.{AllByRecursion}
 use Rattle.rdf_terms.specs.Sinks as sink
 use Rattle.rdf_terms.specs.Sinks.{Attempts}
 use Rattle.rdf_terms.specs.Terms.{Quad, IsQuad}
-use Rattle.rdf_lines.specs.Writing.{CanWrite, Writable}
+use Rattle.rdf_lines.specs.declared.form.Style.{Style}
+use Rattle.rdf_lines.specs.Writing.{Writable}
 use Rattle.rdf_lines.specs.Forms.{form_of}
-use Rattle.rdf_lines.specs.NodePrefixes.{line_in, text_in}
 use Rattle.rdf_stream.specs.Devices.{AppendsFront}
 use Rattle.rdf_stream.specs.Faults.{IsSentOn}
-use Rattle.rdf_stream.specs.LineOut.{Leaves, LeavesBytes, Moves, PutHalts, SameOut, Takes, Writes, line_bytes}
+use Rattle.rdf_stream.specs.LineOut.{Leaves, LeavesBytes, Moves, PutHalts, SameOut, Takes, TakesBytes, Writes}
 use Rattle.rdf_stream.specs.declared.fault.StreamFault.{StreamFault}
 use Rattle.rdf_stream.specs.declared.fault.StreamFault.TheVariants as stream
 use Rattle.rdf_stream.specs.declared.line_out.LineOut.{LineOut}
 use Rattle.rdf_stream.specs.declared.output.OutputView.{OutputView}
-use Rattle.rdf_stream.specs.Graphs.{in_graph}
-use Rattle.rdf_stream.specs.Outputs.{graph_of, line_by, lines_by, output_of}
+use Rattle.rdf_stream.specs.Outputs.{Able, Output, Writer, graph_of, line_by, of_quads, output_of}
 use Rattle.rdf_stream.proofs.WellFormedLemmas.{untruncated_quad}
 
 -- nothing was taken
@@ -56,28 +52,19 @@ front_moves a b bytes f = (f.1, record { front = f.0; whole = f.2; taken = f.3 }
 pub moves_all : (a b c : Option (List ℕ)) (bytes rest : List ℕ) → Moves a b bytes rest → Appends b c rest → Appends a c bytes
 moves_all a b c bytes rest m t = subst (Appends a c) (sym m.whole) (Appends-trans a b c m.front rest m.taken t)
 
--- the bytes of the quads' lines
-abbrev pub bytes_of : OutputView → List Quad → List ℕ
-bytes_of f qs = lines_by (output_of f) qs
-
--- a quad in the graph that is asked for
-abbrev placed : OutputView → Quad → Quad
-placed f q = in_graph (graph_of f.graph) q
-
--- the characters of its line
-abbrev line_chars : OutputView → Quad → List ℕ
-line_chars f q = line_in (form_of f.lines) (placed f q)
-
--- the characters of the quads' lines
-abbrev lines_chars : OutputView → List Quad → List ℕ
-lines_chars f qs = text_in (form_of f.lines) (map (placed f) qs)
+-- what a way of writing items promises
+pub record IsWriter {I : Type 0} (how : Writer I) : Type 0 where
+  pub none : (o : Output) → how.lines o [] ≡ []
+  pub more : (o : Output) (i : I) (is : List I) → how.lines o (i ∷ is) ≡ how.line o i ++ how.lines o is
+  -- what is known of the lines of items that can be written
+  pub told : (f : OutputView) (is : List I) → Able how f.lines.style is → how.known (output_of f) is
 
 -- the lines of two lists are those of the first and then the second
-pub bytes_of-append : (f : OutputView) (qs rs : List Quad) → bytes_of f (qs ++ rs) ≡ bytes_of f qs ++ bytes_of f rs
-bytes_of-append f qs rs =
-    ap encode_utf8_all (ap (text_in (form_of f.lines)) (map-append (placed f) qs rs)
-    ∙ flat_map-append (line_in (form_of f.lines)) (map (placed f) qs) (map (placed f) rs))
-    ∙ encodes-append (lines_chars f qs) (lines_chars f rs)
+pub lines-append : {I : Type 0} (how : Writer I) → IsWriter how → (o : Output) (is js : List I) → how.lines o (is ++ js) ≡ how.lines o is ++ how.lines o js
+lines-append how laws o [] js = ap (λ l. l ++ how.lines o js) (sym (laws.none o))
+lines-append how laws o (i ∷ is) js =
+    laws.more o i (is ++ js) ∙ (ap (λ l. how.line o i ++ l) (lines-append how laws o is js)
+    ∙ (sym (append_assoc (how.line o i) (how.lines o is) (how.lines o js)) ∙ ap (λ l. l ++ how.lines o js) (sym (laws.more o i is))))
 
 -- the form and the place of the bytes stay the same over two steps
 pub same_out : {D A : Type 0} (a b c : LineOut D A) → SameOut a b → SameOut b c → SameOut a c
@@ -96,127 +83,159 @@ pub rewritten_waits : {D A : Type 0} (contents : D → Option (List ℕ)) (old m
     mid.buffer.now ≡ old.buffer.now ++ w → Writes contents old w mid
 rewritten_waits contents old mid w d e = rewritten_writes contents old mid mid w d e (waits_same (contents mid.drain.now) mid.buffer.now mid.buffer.now refl)
 
-module _ {D A : Type 0} (contents : D → Option (List ℕ)) (failed : D → Bool) where
-  abbrev Puts : LineOut D A → List Quad → LineOut D A → Type 0
-  Puts a qs b = sink.Appends (Takes contents failed) a qs b
-
-  abbrev Tries : LineOut D A → List Quad → LineOut D A → Type 0
-  Tries a qs b = Attempts (Takes contents failed) (Leaves contents failed) a qs b
-
-  -- puts of quads that the style can write
-  pub record Taken (a : LineOut D A) (qs : List Quad) (b : LineOut D A) : Type 0 where
-    pub same : SameOut a b
-    pub writable : Writable a.form.lines.style qs
-    pub writes : Writes contents a (bytes_of a.form qs) b
-    pub live : failed a.drain.now ≡ false → failed b.drain.now ≡ false
-
+module _ {D A : Type 0} (contents : D → Option (List ℕ)) where
   -- some bytes were written, and then others
   pub writes_on : (a b c : LineOut D A) (bs cs : List ℕ) → Writes contents a bs b → Writes contents b cs c → Writes contents a (bs ++ cs) c
   writes_on a b c bs cs p q =
       subst (λ l. Moves (contents a.drain.now) (contents c.drain.now) l c.buffer.now) (append_assoc a.buffer.now bs cs)
       (moves_on (contents a.drain.now) (contents b.drain.now) (contents c.drain.now) (a.buffer.now ++ bs) cs b.buffer.now c.buffer.now p q)
 
-  -- the lines of quads that were put are in the buffer or the drain, one after another
-  pub taken : (qs : List Quad) (a b : LineOut D A) → Puts a qs b → AllByRecursion (CanWrite a.form.lines.style) qs → Taken a qs b
-  taken [] a b h w = subst (Taken a []) (sym h) (record {
-    same = record { form = refl; buffer = refl; drain = refl };
-    writable = tt;
-    writes = waits_same (contents a.drain.now) a.buffer.now a.buffer.now refl;
-    live = λ l. l;
-  })
-  taken (q ∷ qs) a b h w =
+module _ {D A I : Type 0} (how : Writer I) (laws : IsWriter how) (contents : D → Option (List ℕ)) (failed : D → Bool) where
+  abbrev Puts : LineOut D A → List I → LineOut D A → Type 0
+  Puts a is b = sink.Appends (Takes how contents failed) a is b
+
+  abbrev Tries : LineOut D A → List I → LineOut D A → Type 0
+  Tries a is b = Attempts (Takes how contents failed) (Leaves how contents failed) a is b
+
+  -- the bytes of their lines in the sink's form
+  abbrev lines : LineOut D A → List I → List ℕ
+  lines a is = how.lines (output_of a.form) is
+
+  -- no line was written
+  none_written : (a : LineOut D A) → Writes contents a (lines a []) a
+  none_written a = subst (λ l. Writes contents a l a) (sym (laws.none (output_of a.form))) (waits_same (contents a.drain.now) a.buffer.now a.buffer.now refl)
+
+  -- puts of items that the style can write
+  pub record Taken (a : LineOut D A) (is : List I) (b : LineOut D A) : Type 0 where
+    pub same : SameOut a b
+    pub able : Able how a.form.lines.style is
+    pub writes : Writes contents a (lines a is) b
+    pub live : failed a.drain.now ≡ false → failed b.drain.now ≡ false
+
+  -- the lines of items that were put are in the buffer or the drain, one after another
+  pub taken : (is : List I) (a b : LineOut D A) → Puts a is b → AllByRecursion (how.can a.form.lines.style) is → Taken a is b
+  taken [] a b h w =
+      subst (Taken a []) (sym h) (record { same = record { form = refl; buffer = refl; drain = refl }; able = tt; writes = none_written a; live = λ l. l })
+  taken (i ∷ is) a b h w =
       let (next, t, rest) = h in
-      let r = taken qs next b rest (subst (λ (f : OutputView). AllByRecursion (CanWrite f.lines.style) qs) (sym t.same.form) w.1) in
-      let more = subst (λ f. Writes contents next (bytes_of f qs) b) t.same.form r.writes in
+      let p = t.put in
+      let r = taken is next b rest (subst (λ (f : OutputView). AllByRecursion (how.can f.lines.style) is) (sym p.same.form) w.1) in
+      let more = subst (λ f. Writes contents next (how.lines (output_of f) is) b) p.same.form r.writes in
       record {
-        same = same_out a next b t.same r.same;
-        writable = ((untruncated_quad q t.formed, w.0), subst (λ (f : OutputView). Writable f.lines.style qs) t.same.form r.writable);
-        writes = subst (λ l. Writes contents a l b) (sym (encodes-append (line_chars a.form q) (lines_chars a.form qs)))
-            (writes_on a next b (line_bytes a.form q) (bytes_of a.form qs) t.writes more);
-        live = λ l. r.live t.live;
+        same = same_out a next b p.same r.same;
+        able = ((t.formed, w.0), subst (λ (f : OutputView). Able how f.lines.style is) p.same.form r.able);
+        writes = subst (λ l. Writes contents a l b) (sym (laws.more (output_of a.form) i is))
+            (writes_on contents a next b (how.line (output_of a.form) i) (lines a is) p.writes more);
+        live = λ l. r.live p.live;
       }
 
   -- puts of which the last may have been refused
-  pub record Tried (a : LineOut D A) (qs : List Quad) (b : LineOut D A) : Type 0 where
+  pub record Tried (a : LineOut D A) (is : List I) (b : LineOut D A) : Type 0 where
     pub same : SameOut a b
     pub rest : List ℕ
-    pub moves : Moves (contents a.drain.now) (contents b.drain.now) (a.buffer.now ++ bytes_of a.form qs) rest
-    pub writable : AllByRecursion (CanWrite a.form.lines.style) qs → Writable a.form.lines.style qs
-    -- where the drain has not failed, the lines of some of the quads were written
-    pub whole : failed b.drain.now ≡ false → (done later : List Quad) × (qs ≡ done ++ later) × Writes contents a (bytes_of a.form done) b
+    pub moves : Moves (contents a.drain.now) (contents b.drain.now) (a.buffer.now ++ lines a is) rest
+    pub able : AllByRecursion (how.can a.form.lines.style) is → Able how a.form.lines.style is
+    -- where the drain has not failed, the lines of some of the items were written
+    pub whole : failed b.drain.now ≡ false → (done later : List I) × (is ≡ done ++ later) × Writes contents a (lines a done) b
 
-  -- so for quads of which the last was refused: then the drain has a beginning of their lines
-  pub tried : (qs : List Quad) (a b : LineOut D A) → Tries a qs b → Tried a qs b
+  -- so for items of which the last was refused: then the drain has a beginning of their lines
+  pub tried : (is : List I) (a b : LineOut D A) → Tries a is b → Tried a is b
   tried [] a b h = subst (Tried a []) (sym h) (record {
     same = record { form = refl; buffer = refl; drain = refl };
     rest = a.buffer.now;
-    moves = waits_same (contents a.drain.now) a.buffer.now a.buffer.now refl;
-    writable = λ w. tt;
-    whole = λ l. ([], [], refl, waits_same (contents a.drain.now) a.buffer.now a.buffer.now refl);
+    moves = none_written a;
+    able = λ w. tt;
+    whole = λ l. ([], [], refl, none_written a);
   })
-  tried (q ∷ qs) a b h = ⊎_elim last (more (λ n x. tried qs n b x)) h
+  tried (i ∷ is) a b h = ⊎_elim last (more (λ n x. tried is n b x)) h
     where
-      last : (qs ≡ []) × Leaves contents failed a q b → Tried a (q ∷ qs) b
-      last p = record {
-        same = p.1.same;
-        rest = p.1.rest;
-        moves = subst (λ l. Moves (contents a.drain.now) (contents b.drain.now) (a.buffer.now ++ l) p.1.rest)
-            (ap encode_utf8_all (sym (append-nil (line_chars a.form q))) ∙ ap (λ rs. bytes_of a.form (q ∷ rs)) (sym p.0)) p.1.moves;
-        writable = λ w. ((untruncated_quad q p.1.formed, w.0), subst (Writable a.form.lines.style) (sym p.0) tt);
-        whole = λ l. ([], q ∷ qs, refl, p.1.live l);
-      }
+      one_line : is ≡ [] → how.line (output_of a.form) i ≡ lines a (i ∷ is)
+      one_line e =
+          sym (append-nil (how.line (output_of a.form) i)) ∙ (ap (λ l. how.line (output_of a.form) i ++ l) (sym (laws.none (output_of a.form)))
+          ∙ (sym (laws.more (output_of a.form) i []) ∙ ap (λ js. lines a (i ∷ js)) (sym e)))
 
-      more : ((n : LineOut D A) → Tries n qs b → Tried n qs b) → (next : LineOut D A) × Takes contents failed a q next × Tries next qs b → Tried a (q ∷ qs) b
+      last : (is ≡ []) × Leaves how contents failed a i b → Tried a (i ∷ is) b
+      last p =
+          let h = p.1.left in
+          record {
+            same = h.same;
+            rest = h.rest;
+            moves = subst (λ l. Moves (contents a.drain.now) (contents b.drain.now) (a.buffer.now ++ l) h.rest) (one_line p.0) h.moves;
+            able = λ w. ((p.1.formed, w.0), subst (Able how a.form.lines.style) (sym p.0) tt);
+            whole = λ l. ([], i ∷ is, refl, subst (λ l. Writes contents a l b) (sym (laws.none (output_of a.form))) (h.live l));
+          }
+
+      more : ((n : LineOut D A) → Tries n is b → Tried n is b) →
+          (next : LineOut D A) × Takes how contents failed a i next × Tries next is b → Tried a (i ∷ is) b
       more others p =
           let (next, t, tries) = p in
           let r = others next tries in
-          let first = t.writes in
-          let join = encodes-append (line_chars a.form q) (lines_chars a.form qs) in
+          let first = t.put in
+          let join = laws.more (output_of a.form) i is in
           record {
-            same = same_out a next b t.same r.same;
+            same = same_out a next b first.same r.same;
             rest = r.rest;
             moves = subst (λ l. Moves (contents a.drain.now) (contents b.drain.now) l r.rest)
-                (append_assoc a.buffer.now (line_bytes a.form q) (bytes_of a.form qs) ∙ ap (λ l. a.buffer.now ++ l) (sym join))
-                (moves_on (contents a.drain.now) (contents next.drain.now) (contents b.drain.now) (a.buffer.now ++ line_bytes a.form q)
-                (bytes_of a.form qs) next.buffer.now r.rest first
-                (subst (λ f. Moves (contents next.drain.now) (contents b.drain.now) (next.buffer.now ++ bytes_of f qs) r.rest) t.same.form r.moves));
-            writable = λ w. (
-              (untruncated_quad q t.formed, w.0),
-              subst (λ (f : OutputView). Writable f.lines.style qs) t.same.form
-                  (r.writable (subst (λ (f : OutputView). AllByRecursion (CanWrite f.lines.style) qs) (sym t.same.form) w.1)),
+                (append_assoc a.buffer.now (how.line (output_of a.form) i) (lines a is) ∙ ap (λ l. a.buffer.now ++ l) (sym join))
+                (moves_on (contents a.drain.now) (contents next.drain.now) (contents b.drain.now) (a.buffer.now ++ how.line (output_of a.form) i)
+                (lines a is) next.buffer.now r.rest first.writes
+                (subst (λ f. Moves (contents next.drain.now) (contents b.drain.now) (next.buffer.now ++ how.lines (output_of f) is) r.rest)
+                first.same.form r.moves));
+            able = λ w. (
+              (t.formed, w.0),
+              subst (λ (f : OutputView). Able how f.lines.style is) first.same.form
+                  (r.able (subst (λ (f : OutputView). AllByRecursion (how.can f.lines.style) is) (sym first.same.form) w.1)),
             );
             whole = λ l.
                 let (done, later, split, writes) = r.whole l in (
-                  q ∷ done,
+                  i ∷ done,
                   later,
-                  ap (λ rs. q ∷ rs) split,
-                  subst (λ l. Writes contents a l b) (sym (encodes-append (line_chars a.form q) (lines_chars a.form done)))
-                      (writes_on a next b (line_bytes a.form q) (bytes_of a.form done) first
-                      (subst (λ s. Writes contents next (bytes_of s done) b) t.same.form writes)),
+                  ap (λ js. i ∷ js) split,
+                  subst (λ l. Writes contents a l b) (sym (laws.more (output_of a.form) i done))
+                      (writes_on contents a next b (how.line (output_of a.form) i) (lines a done) first.writes
+                      (subst (λ f. Writes contents next (how.lines (output_of f) done) b) first.same.form writes)),
                 );
           }
 
   -- puts that were all taken are some that were tried
-  pub puts_tries : (qs : List Quad) (a b : LineOut D A) → Puts a qs b → Tries a qs b
+  pub puts_tries : (is : List I) (a b : LineOut D A) → Puts a is b → Tries a is b
   puts_tries [] a b h = h
-  puts_tries (q ∷ qs) a b h = inr (h.0, h.1, puts_tries qs h.0 b h.2)
+  puts_tries (i ∷ is) a b h = inr (h.0, h.1, puts_tries is h.0 b h.2)
 
   -- a drain that took all lines has not failed
-  pub puts_live : (qs : List Quad) (a b : LineOut D A) → Puts a qs b → failed a.drain.now ≡ false → failed b.drain.now ≡ false
+  pub puts_live : (is : List I) (a b : LineOut D A) → Puts a is b → failed a.drain.now ≡ false → failed b.drain.now ≡ false
   puts_live [] a b h l = subst (λ (x : LineOut D A). failed x.drain.now ≡ false) (sym h) l
-  puts_live (q ∷ qs) a b h l = puts_live qs h.0 b h.2 h.1.live
+  puts_live (i ∷ is) a b h l = puts_live is h.0 b h.2 h.1.put.live
+
+-- ---- quads
+
+-- items that can be written are well formed quads that can be
+pub writable : (s : Style) (qs : List Quad) → Able of_quads s qs → Writable s qs
+writable s [] h = tt
+writable s (q ∷ qs) h = ((untruncated_quad q h.0.0, h.0.1), writable s qs h.1)
+
+-- and such quads are items
+pub able : (s : Style) (qs : List Quad) → Writable s qs → Able of_quads s qs
+able s [] h = tt
+able s (q ∷ qs) h = ((∣ h.0.0 ∣₁, h.0.1), able s qs h.1)
+
+-- a line was put as it is, where no graph was asked for, or in the graph
+pub taken_by : {D A : Type 0} (contents : D → Option (List ℕ)) (failed : D → Bool) (before after : LineOut D A) (q : Quad) → ∥ IsQuad q ∥₁ →
+    (g : Option (List ℕ)) → g ≡ graph_of before.form.graph →
+    TakesBytes contents failed before (line_by (record { form = form_of before.form.lines; graph = g }) q) after → Takes of_quads contents failed before q after
+taken_by contents failed before after q formed g e h = record {
+  formed = formed;
+  put = subst (λ x. TakesBytes contents failed before (line_by (record { form = form_of before.form.lines; graph = x }) q) after) e h;
+}
 
 -- what is left of a line that was not put is what is left of its quad
 pub left_by : {D A : Type 0} (contents : D → Option (List ℕ)) (failed : D → Bool) (before after : LineOut D A) (q : Quad) → ∥ IsQuad q ∥₁ →
     (g : Option (List ℕ)) → g ≡ graph_of before.form.graph →
-    LeavesBytes contents failed before (line_by (record { form = form_of before.form.lines; graph = g }) q) after → Leaves contents failed before q after
+    LeavesBytes contents failed before (line_by (record { form = form_of before.form.lines; graph = g }) q) after →
+    Leaves of_quads contents failed before q after
 left_by contents failed before after q formed g e h = record {
-  same = h.same;
   formed = formed;
-  rest = h.rest;
-  moves = subst (λ x. Moves (contents before.drain.now) (contents after.drain.now)
-      (before.buffer.now ++ line_by (record { form = form_of before.form.lines; graph = x }) q) h.rest) e h.moves;
-  live = h.live;
+  left = subst (λ x. LeavesBytes contents failed before (line_by (record { form = form_of before.form.lines; graph = x }) q) after) e h;
 }
 
 -- ---- bytes that go to the drain after what waited

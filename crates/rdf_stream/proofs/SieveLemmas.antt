@@ -2,14 +2,13 @@
 use Rattle.std.proofs.Common.{◌≡◌, ℕ, ◌+◌, ◌<◌, ◌≤◌, ◌==◌, cond, Bool, true, false, List, [], ◌∷◌, ◌++◌, inl, inr, Option, Some, IfSome, refl, sym, ap, ◌∙◌, subst, append_assoc, length, take, drop, arith, length-append, length-drop, length-take}
 use Rattle.std.specs.Io.KnownBytes.{Appends}
 use Rattle.std.specs.List.{concat}
-use Rattle.std.specs.Prelude.{encode_utf8_all, map, count_by}
+use Rattle.std.specs.Prelude.{count_by}
 use Rattle.std.specs.Str.{IsUtf8, chars}
 use Rattle.std.specs.Str.Lossy.{utf8_valid_len}
 use Rattle.std.proofs.Math.Utf8.{encode, encodes}
 use Rattle.std.proofs.KnownBytes.{Appends-nil, Appends-trans}
-use Rattle.std.proofs.lemmas.List.{append-nil, map-append, take-append-drop}
-use Rattle.std.proofs.lemmas.List.Concat.{flat_map-append}
-use Rattle.std.proofs.lemmas.Str.{encodes-append, chars-encodes, encodes-chars}
+use Rattle.std.proofs.lemmas.List.{append-nil, take-append-drop}
+use Rattle.std.proofs.lemmas.Str.{chars-encodes, encodes-chars}
 use Rattle.std.proofs.lemmas.Bool.{false≢true, false_from_ne_true, eqb-true}
 use Rattle.rdf_tokens.specs.Good.{good, has_byte_order_mark}
 use Rattle.rdf_tokens.proofs.GoodLemmas.{good_front}
@@ -28,7 +27,7 @@ use Rattle.rdf_tokens.specs.Scans.{place_of}
 use Rattle.rdf_tokens.specs.declared.token.Fault.{Fault}
 use Rattle.rdf_lines.specs.declared.form.LineForm.{LineForm}
 use Rattle.rdf_lines.specs.Documents.{in_lines}
-use Rattle.rdf_lines.specs.NodePrefixes.{Form, line_in, text_in}
+use Rattle.rdf_lines.specs.NodePrefixes.{Form}
 use Rattle.rdf_lines.specs.SplitLines.{IsBadLine, IsGoodLine, Sifts, split_lines}
 use Rattle.rdf_lines.proofs.AcceptedLemmas.{refused_none}
 use Rattle.rdf_lines.proofs.SplitLemmas.{good_sifted, split_whole}
@@ -37,14 +36,17 @@ use Rattle.rdf_stream.specs.declared.fault.StreamFault.{StreamFault}
 use Rattle.rdf_stream.specs.declared.fault.StreamFault.TheVariants as fault
 use Rattle.rdf_stream.specs.declared.sieve.LineStart.{LineStart}
 use Rattle.rdf_stream.specs.declared.sieve.Sieve.{Sieve}
-use Rattle.rdf_stream.specs.Converts.{Accepts, RefusesDocument, StopsFor, lines_of}
+use Rattle.rdf_stream.specs.Converts.{Accepts, RefusesDocument, StopsFor}
 use Rattle.rdf_stream.specs.Devices.{AppendsFront, Reading}
-use Rattle.rdf_stream.specs.Graphs.{all_in_graph, in_graph}
-use Rattle.rdf_stream.specs.Languages.{Conversion, put_quads}
+use Rattle.rdf_stream.specs.Graphs.{all_in_graph}
+use Rattle.rdf_stream.specs.Languages.{Conversion, lines_of, written_in}
+use Rattle.rdf_stream.specs.Outputs.{of_quads, output_of}
 use Rattle.rdf_stream.specs.Sieves.{Counts, HasRoom, HasMarkBytes, HasNoMark, HasSifted, PutBadFails, PutGoodFails, PutsBad, PutsGood, PutsNone, SameSieve, SiftFails, first_after, job_of, place_past, start_of}
 use Rattle.rdf_stream.specs.Checks.{IsRefusedFor}
 use Rattle.rdf_stream.specs.Skips.{IsAside, IsBadFor, comment_text, counted_up, fault_from, place_after}
+use Rattle.rdf_stream.proofs.ConvertingLemmas.{quad_lines}
 use Rattle.rdf_stream.proofs.LineCuts.{some_lines}
+use Rattle.rdf_stream.proofs.LineOutLemmas.{lines-append}
 
 -- bytes that are not none are some
 pub some_bytes : (w : List ℕ) → (length w == 0) ≡ false → 0 < length w
@@ -54,14 +56,6 @@ some_bytes (c ∷ w) e = omega arith
 -- counts that stop are added up
 count_more : (a m n b c : ℕ) → counted_up m ≡ counted_up (a + b) → counted_up n ≡ counted_up (m + c) → counted_up n ≡ counted_up (a + (b + c))
 count_more a m n b c h k = omega (arith, h, k)
-
--- the lines of the quads of two lists
-pub lines_append : (job : Conversion) (qs rs : List Quad) → lines_of job.form (put_quads job (qs ++ rs)) ≡ lines_of job.form
-    (put_quads job qs) ++ lines_of job.form (put_quads job rs)
-lines_append job qs rs =
-    let put = in_graph job.graph in
-    ap encode_utf8_all (ap (text_in job.form) (map-append put qs rs) ∙ flat_map-append (line_in job.form) (map put qs) (map put rs))
-    ∙ encodes-append (text_in job.form (map put qs)) (text_in job.form (map put rs))
 
 -- what comes after other lines is not first
 still : (xs : List (List ℕ)) → first_after false xs ≡ false
@@ -369,8 +363,8 @@ module _ {A D B : Type 0} (takes : drain.Ghosts D) (sets : drain.Ghosts B) where
       HasSifted takes sets start old d b xs mid dm bm → HasSifted takes sets (place_past start xs) mid dm bm ys new d' b' →
       HasSifted takes sets start old d b (xs ++ ys) new d' b'
   sifted_then start old mid new d dm d' b bm b' xs ys p q =
-      let lines : lines_of (job_of mid).form (put_quads (job_of mid) q.aside.quads) ≡ lines_of (job_of old).form (put_quads (job_of old) q.aside.quads) =
-      ap (λ (j : Conversion). lines_of j.form (put_quads j q.aside.quads)) (job_same old mid p.same) in
+      let lines : (job_of mid).lines q.aside.quads ≡ (job_of old).lines q.aside.quads =
+      ap (λ (j : Conversion). j.lines q.aside.quads) (job_same old mid p.same) in
       record {
         aside = record {
           kept = p.aside.kept ++ q.aside.kept;
@@ -379,7 +373,8 @@ module _ {A D B : Type 0} (takes : drain.Ghosts D) (sets : drain.Ghosts B) where
           sifts = sifts_append (job_of old).language old.is_first xs ys p.aside.kept q.aside.kept p.aside.bad q.aside.bad p.aside.quads
               q.aside.quads p.aside.sifts
               (moved old mid xs ys q.aside.kept q.aside.bad q.aside.quads p.same p.first q.aside.sifts);
-          written = subst (Appends (takes.contents d) (takes.contents d')) (sym (lines_append (job_of old) p.aside.quads q.aside.quads))
+          written = subst (Appends (takes.contents d) (takes.contents d'))
+              (sym (lines-append of_quads quad_lines (output_of old.output) p.aside.quads q.aside.quads))
               (Appends-trans (takes.contents d) (takes.contents dm) (takes.contents d') _ _ p.aside.written
               (subst (Appends (takes.contents dm) (takes.contents d')) lines q.aside.written));
           text = p.aside.text ++ q.aside.text;
@@ -406,8 +401,8 @@ module _ {A D B : Type 0} (takes : drain.Ghosts D) (sets : drain.Ghosts B) where
       HasSifted takes sets start old d b xs mid dm bm → SiftFails takes sets f (place_past start xs) mid dm bm ys new d' b' →
       SiftFails takes sets f start old d b (xs ++ ys) new d' b'
   fails_then start fault.Write old mid new d dm d' b bm b' xs ys p (failed, ahead, later, split, q) =
-      let lines : lines_of (job_of mid).form (put_quads (job_of mid) q.quads) ≡ lines_of (job_of old).form (put_quads (job_of old) q.quads) =
-      ap (λ (j : Conversion). lines_of j.form (put_quads j q.quads)) (job_same old mid p.same) in (
+      let lines : (job_of mid).lines q.quads ≡ (job_of old).lines q.quads =
+      ap (λ (j : Conversion). j.lines q.quads) (job_same old mid p.same) in (
         failed,
         xs ++ ahead,
         later,
@@ -418,7 +413,8 @@ module _ {A D B : Type 0} (takes : drain.Ghosts D) (sets : drain.Ghosts B) where
           quads = p.aside.quads ++ q.quads;
           sifts = sifts_append (job_of old).language old.is_first xs ahead p.aside.kept q.kept p.aside.bad q.bad p.aside.quads q.quads p.aside.sifts
               (moved old mid xs ahead q.kept q.bad q.quads p.same p.first q.sifts);
-          written = subst (AppendsFront (takes.contents d) (takes.contents d')) (sym (lines_append (job_of old) p.aside.quads q.quads))
+          written = subst (AppendsFront (takes.contents d) (takes.contents d'))
+              (sym (lines-append of_quads quad_lines (output_of old.output) p.aside.quads q.quads))
               (front_then (takes.contents d) (takes.contents dm) (takes.contents d') _ _ p.aside.written
               (subst (AppendsFront (takes.contents dm) (takes.contents d')) lines q.written));
           text = p.aside.text ++ q.text;
@@ -463,10 +459,10 @@ refused_place l bytes why at h = by why h
 -- What is converted is a good line.
 pub converted_good : (form : LineForm) (limit iri : ℕ) (f : Form) (g : Option (List ℕ)) (first : Bool) (bytes old new : List ℕ)
     (s : Summary) → old ≡ [] → (first ≡ false → HasNoMark bytes) →
-    Accepts (record { language = in_lines form limit iri; form = f; graph = g }) bytes (Some old) (Some new) s →
+    Accepts (written_in (in_lines form limit iri) f g) bytes (Some old) (Some new) s →
     (quads : List Quad) × IsGoodLine (in_lines form limit iri) first bytes quads × (new ≡ lines_of f (all_in_graph g quads)) × (s.quads ≡ length quads)
 converted_good form limit iri f g first bytes old new s none mark a = (
-  a.quads,
+  a.items,
   record {
     accepted = record {
       document = a.document;
@@ -478,7 +474,7 @@ converted_good form limit iri f g first bytes old new s none mark a = (
     };
     marked = mark;
   },
-  a.written ∙ ap (λ x. x ++ lines_of f (all_in_graph g a.quads)) none,
+  a.written ∙ ap (λ x. x ++ lines_of f (all_in_graph g a.items)) none,
   a.counts.quads,
 )
 

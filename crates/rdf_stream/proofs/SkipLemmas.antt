@@ -19,8 +19,6 @@ use Rattle.rdf_lines.specs.declared.form.LineForm.{LineForm}
 use Rattle.rdf_lines.specs.declared.form.Style.TheVariants.{Kept}
 use Rattle.rdf_lines.specs.SplitLines.{IsDocumentWithin, Sifts, split_lines}
 use Rattle.rdf_lines.specs.Writing.{Writable}
-use Rattle.rdf_lines.proofs.FormReadBack.{form_reads_back}
-use Rattle.rdf_lines.proofs.NodePrefixLemmas.{IsNodePrefix-had}
 use Rattle.rdf_lines.proofs.SplitLemmas.{good_read, split_whole}
 use Rattle.rdf_lines.proofs.WellFormed.{document_writable}
 use Rattle.rdf_stream.specs.declared.devices.Drain as drain
@@ -31,20 +29,22 @@ use Rattle.rdf_stream.specs.declared.sieve.LineStart.{LineStart}
 use Rattle.rdf_stream.specs.declared.sieve.Sieve.{Sieve}
 use Rattle.rdf_stream.specs.declared.skips.Held.{Held}
 use Rattle.rdf_stream.specs.declared.skips.SkipSummary.{SkipSummary}
-use Rattle.rdf_stream.specs.Converts.{IsConverted, lines_of}
+use Rattle.rdf_stream.specs.Converts.{IsConverted}
 use Rattle.rdf_stream.specs.Devices.{AppendsFront, HasGiven, Reading}
 use Rattle.rdf_stream.specs.Jobs.{JobRead}
 use Rattle.rdf_stream.specs.Kinds.{kind_of}
-use Rattle.rdf_stream.specs.declared.form.Kind.TheVariants.{Line}
-use Rattle.rdf_stream.specs.Languages.{Conversion, conversion_of, put_quads}
+use Rattle.rdf_stream.specs.declared.form.Kind.{Kind}
+use Rattle.rdf_stream.specs.declared.form.Kind.TheVariants.{Line, Tree}
+use Rattle.rdf_stream.specs.Languages.{Conversion, conversion_by, conversion_of, written_in}
 use Rattle.rdf_stream.specs.Outputs.{output}
 use Rattle.rdf_stream.specs.Pieces.{ReadStops, ReadsAll, SourceFails}
 use Rattle.rdf_stream.specs.Outputs.{output_of}
 use Rattle.rdf_stream.specs.Sieves.{Begins, HasRoom, HasSifted, Holds, IsEndedFront, IsSkipping, RefusesPiece, SiftFails, SiftFrontFails, SiftsFront, SkipEnds, SkipHalts, job_of, place_past, start_of}
 use Rattle.rdf_stream.specs.Skips.{IsAside, PutsAside, SkipStops, Skips, SkipsAll, SkipsEnded, counted_up, place_after}
-use Rattle.rdf_stream.proofs.ConvertingLemmas.{graph_had, placed_ascii, placed_writable}
+use Rattle.rdf_stream.proofs.ConvertingLemmas.{quad_lines}
 use Rattle.rdf_stream.proofs.ConvertsLemmas.{lines_job}
 use Rattle.rdf_stream.proofs.LineCuts.{split_append}
+use Rattle.rdf_stream.proofs.LineOutLemmas.{able}
 use Rattle.rdf_stream.proofs.PiecesLemmas.{none_given}
 use Rattle.rdf_stream.proofs.SieveLemmas.{feeds, feeds_cons, few_feeds, fails_more, fails_then, past_concat, past_lines, place_same, sifted_none, sifted_then, whole_front}
 
@@ -94,23 +94,18 @@ too_long bytes piece at n line count lines few many offset place =
 -- What was written for a document within the limits is what `convert` writes.
 converted : (form : LineForm) (limit iri : ℕ) (out : OutputView) → out.lines.style ≡ Kept → (bytes : List ℕ) (qs : List Quad) →
     IsDocumentWithin (in_lines form limit iri) bytes qs → (old new : Option (List ℕ)) →
-    (let job : Conversion = record { language = in_lines form limit iri; form = (output_of out).form; graph = (output_of out).graph } in
-    Appends old new (lines_of (output_of out).form (put_quads job qs)) → IsConverted job bytes old new)
+    (let job : Conversion = written_in (in_lines form limit iri) (output_of out).form (output_of out).graph in
+    Appends old new (job.lines qs) → IsConverted job bytes old new)
 converted form limit iri out style bytes qs d old new written =
-    let o = output_of out in
-    let job : Conversion = record { language = in_lines form limit iri; form = o.form; graph = o.graph } in
-    let able : Writable out.lines.style qs = subst (λ s. Writable s qs) (sym style) (document_writable form limit iri bytes qs d.document) in
-    let is_word = IsNodePrefix-had o.form.prefix out.lines.prefix.is_prefix in
-    let is_graph = graph_had o.graph out.graph.is_graph in (
+    let can : Writable out.lines.style qs = subst (λ s. Writable s qs) (sym style) (document_writable form limit iri bytes qs d.document) in (
       record { quads = length qs; tokens = counted (tokens_of Lines limit bytes true).tokens; bytes = length bytes },
       record {
-        quads = qs;
+        items = qs;
         document = d.document;
         within = document_whole (in_lines form limit iri) bytes qs d.document d.within.limits;
         size = d.within.size;
         written = written;
-        reads_back = λ n h. form_reads_back o.form (put_quads job qs) n is_word (placed_writable out.lines.style o.graph is_graph qs able) h;
-        ascii = placed_ascii o qs is_word is_graph able;
+        known = quad_lines.told out qs (able out.lines.style qs can);
         counts = record { quads = refl; tokens = counted_complete Lines limit bytes true d.document.0; bytes = refl };
       },
     )
@@ -453,7 +448,7 @@ module _ {A D B : Type 0} (takes : drain.Ghosts D) (sets : drain.Ghosts B) where
 
       module _ (d2 : D) (b2 : B) (k : Keeps (takes.contents d') (takes.contents d2)) (l : Keeps (sets.contents b') (sets.contents b2)) where
         written_all : Appends (takes.contents first.1) (takes.contents d2)
-            (lines_of (job_of first.0.sieve).form (put_quads (job_of first.0.sieve) every.aside.quads))
+            ((job_of first.0.sieve).lines every.aside.quads)
         written_all = Appends-kept (takes.contents first.1) (takes.contents d') (takes.contents d2) _ every.aside.written k
 
         aside_all : Appends (sets.contents first.2) (sets.contents b2) every.aside.text
@@ -564,10 +559,15 @@ module _ {A D B : Type 0} (takes : drain.Ghosts D) (sets : drain.Ghosts B) where
       halted fault.Write given (failed, some) = (failed, given, some)
       halted fault.Memory given (live, bad, some) = (live, bad, given, some)
 
+-- no quads have no lines
+no_lines : (k : Kind) (job : JobRead) → (conversion_by k job).lines [] ≡ []
+no_lines (Line form) job = refl
+no_lines (Tree form) job = refl
+
 -- nothing was read
-pub none_skips : (job : Conversion) (left : Reading) (old old_bad : Option (List ℕ)) (failed bad_failed : Bool) → left.has_ended ≡ false →
+pub none_skips : (job : JobRead) (left : Reading) (old old_bad : Option (List ℕ)) (failed bad_failed : Bool) → left.has_ended ≡ false →
     left.has_failed ≡ false → failed ≡ false → bad_failed ≡ false →
-    SkipStops fault.Memory job left.remaining left old old old_bad old_bad failed bad_failed
+    SkipStops fault.Memory (conversion_of job) left.remaining left old old old_bad old_bad failed bad_failed
 none_skips job left old old_bad failed bad_failed o r f g = (
   f,
   g,
@@ -581,7 +581,7 @@ none_skips job left old old_bad failed bad_failed o r f g = (
       bad = [];
       quads = [];
       sifts = (refl, refl, refl);
-      written = Appends-nil old;
+      written = subst (Appends old old) (sym (no_lines (kind_of job.form) job)) (Appends-nil old);
       text = [];
       aside = refl;
       put_aside = Appends-nil old_bad;
@@ -595,4 +595,4 @@ pub by_job : {A : Type 0} (P : Conversion → Type 0) (job : JobRead) (form : Li
     P (job_of s) → P (conversion_of job)
 by_job P job form k s f l o h =
     lines_job P job form k s.limits.iri (ap (λ m. m.iri) l) s.limits.token (ap (λ m. m.token) l) (output_of s.output) o
-    (subst (λ f. P (record { language = in_lines f s.limits.token s.limits.iri; form = (output_of s.output).form; graph = (output_of s.output).graph })) f h)
+    (subst (λ f. P (written_in (in_lines f s.limits.token s.limits.iri) (output_of s.output).form (output_of s.output).graph)) f h)

@@ -9,7 +9,8 @@ use Rattle.rdf_tokens.specs.Tokens.{Token}
 use Rattle.rdf_tokens.specs.Scans.{is_end}
 use Rattle.rdf_tokens.specs.Grammars.{Due, MarkedItem, counted, items_below, unmarked}
 use Rattle.rdf_driver.specs.Words.{GivesUp, Lawful, Takes}
-use Rattle.rdf_stream.specs.TokenWords.{marked_from, token_words, without_end}
+use Rattle.rdf_stream.specs.Shows.{marked_from}
+use Rattle.rdf_stream.specs.TokenWords.{token_words, without_end}
 
 -- what comes after the first n tokens is not due with them
 none_below : (n m : ℕ) (ts : List Token) → m ≤ n → items_below m (marked_from n ts) ≡ []

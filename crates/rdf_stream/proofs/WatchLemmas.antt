@@ -1,6 +1,6 @@
 -- Columns and lines after bytes that come in parts.
 use Rattle.std.proofs.Common.{◌≡◌, ◌≤◌, ◌<◌, ◌+◌, ◌-◌, ◌∙◌, ℕ, zero, suc, Bool, true, false, cond, List, [], ◌∷◌, ◌++◌, length, take, drop, refl, sym, ap, subst, arith, length-append, length-drop, append_assoc}
-use Rattle.std.specs.Prelude.{slice_index, Option, Some, None, IfSome, Err}
+use Rattle.std.specs.Prelude.{slice_index, Option, Some, None, IfSome, Result, Err}
 use Rattle.std.specs.Io.KnownBytes.{Consumes, IsAtEnd}
 use Rattle.std.proofs.KnownBytes.{Consumes-trans}
 use Rattle.std.proofs.lemmas.Bool.{false≢true}
@@ -13,6 +13,7 @@ use Rattle.rdf_stream.specs.declared.watch.Watching.{Watching}
 use Rattle.rdf_stream.specs.declared.watch.Words.{Words}
 use Rattle.rdf_stream.specs.Devices.{HasGiven, Reading}
 use Rattle.rdf_terms.specs.declared.kind.Dialect.{Dialect}
+use Rattle.rdf_driver.specs.declared.summary.Summary.{Summary}
 use Rattle.rdf_tokens.specs.Good.{tokens_of}
 use Rattle.rdf_stream.specs.declared.brackets.Opened.{Opened}
 use Rattle.rdf_stream.specs.declared.brackets.TokenPlace.{TokenPlace}
@@ -146,6 +147,14 @@ hands_out (Told o) (Told n) new told tells a b h = absurd a
 hands_out (Told o) Asked Unasked told tells a b h = absurd b
 hands_out (Told o) Asked Asked told tells a b h = tt
 hands_out (Told o) Asked (Told n) told tells a b h = subst (λ t. IfSome t tells) b h
+
+-- so what is told of the place of a refusal, in the tokens that were looked for
+pub hands_near : (old mid new : Nearby NearRead) (told : Option NearRead) (words : Words) (d : Dialect) (l : ℕ) → words.dialect ≡ d → words.limit ≡ l →
+    (r : Result Summary StreamFault) (known : Option (List ℕ)) (left : Reading) → HandsOut old (λ n. ⊥) mid → HandsOut mid (λ n. told ≡ Some n) new →
+    IfSome told (TellsNear words.dialect words.limit r known left) → HandsOut old (TellsNear d l r known left) new
+hands_near old mid new told words d l e f r known left a b h =
+    hands_out old mid new told (TellsNear d l r known left) a b
+    (subst (λ m. IfSome told (TellsNear d m r known left)) f (subst (λ k. IfSome told (TellsNear k words.limit r known left)) e h))
 
 -- what is told of the place of a fault is told by the bytes that the source gave
 pub tells_given : (words : Words) (f : StreamFault) (near : NearRead) (known : Option (List ℕ)) (left : Reading)

@@ -2,7 +2,6 @@
 use Rattle.std.specs.Prelude.{ℕ, List, [], Option, None, Some}
 use Rattle.rdf_iri.specs.Limits.{Sizes}
 use Rattle.rdf_lines.specs.declared.form.Escapes.{Escapes}
-use Rattle.rdf_lines.specs.declared.form.Escapes.TheVariants.{Plain}
 use Rattle.rdf_stream.specs.declared.form.Form.{Form}
 
 -- the document's format, its base or none, the prefixes that are bound before it with their IRIs, the escapes of what is written, the word in front of the

@@ -35,4 +35,3 @@ pub mod Passes
 pub mod Converting
 pub mod Sieves
 pub mod TokenWords
-pub mod Showing

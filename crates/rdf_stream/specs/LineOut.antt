@@ -1,13 +1,11 @@
 -- What a sink of lines does to the bytes of its drain and to those that wait for it.
 use Rattle.std.specs.Prelude.{◌≡◌, ◌<◌, ℕ, Bool, true, false, List, [], ◌++◌, length, Option}
 use Rattle.std.specs.Io.KnownBytes.{Appends}
-use Rattle.rdf_terms.specs.Terms.{Quad, IsQuad}
 use Rattle.rdf_stream.specs.Devices.{Grows}
 use Rattle.rdf_stream.specs.declared.fault.StreamFault.{StreamFault}
 use Rattle.rdf_stream.specs.declared.fault.StreamFault.TheVariants as fault
 use Rattle.rdf_stream.specs.declared.line_out.LineOut.{LineOut}
-use Rattle.rdf_stream.specs.declared.output.OutputView.{OutputView}
-use Rattle.rdf_stream.specs.Outputs.{line_by, output_of}
+use Rattle.rdf_stream.specs.Outputs.{Writer, output_of}
 
 -- fewer bytes wait when a line has been put
 abbrev pub most_waiting : ℕ
@@ -34,10 +32,6 @@ pub record OnlyGrows {D A : Type 0} (contents : D → Option (List ℕ)) (before
 abbrev pub Writes : {D A : Type 0} → (D → Option (List ℕ)) → LineOut D A → List ℕ → LineOut D A → Type 0
 Writes contents before bytes after = Moves (contents before.drain.now) (contents after.drain.now) (before.buffer.now ++ bytes) after.buffer.now
 
--- the bytes of the quad's line
-abbrev pub line_bytes : OutputView → Quad → List ℕ
-line_bytes f q = line_by (output_of f) q
-
 -- What a put of some bytes does: they are written after the others.
 pub record TakesBytes {D A : Type 0} (contents : D → Option (List ℕ)) (failed : D → Bool) (before : LineOut D A) (bytes : List ℕ) (after : LineOut D A) : Type 0 where
   pub same : SameOut before after
@@ -52,21 +46,17 @@ pub record LeavesBytes {D A : Type 0} (contents : D → Option (List ℕ)) (fail
   pub moves : Moves (contents before.drain.now) (contents after.drain.now) (before.buffer.now ++ bytes) rest
   pub live : failed after.drain.now ≡ false → Writes contents before [] after
 
--- What a put of a quad does: its line is written after the others. The quad's type says that it is well formed.
-pub record Takes {D A : Type 0} (contents : D → Option (List ℕ)) (failed : D → Bool) (before : LineOut D A) (q : Quad) (after : LineOut D A) : Type 0 where
-  pub same : SameOut before after
-  pub formed : ∥ IsQuad q ∥₁
-  pub writes : Writes contents before (line_bytes before.form q) after
-  pub few : length before.buffer.now < most_waiting → length after.buffer.now < most_waiting
-  pub live : failed after.drain.now ≡ false
+-- What a put of an item does: its line is written after the others.
+pub record Takes {D A I : Type 0} (how : Writer I) (contents : D → Option (List ℕ)) (failed : D → Bool)
+    (before : LineOut D A) (i : I) (after : LineOut D A) : Type 0 where
+  pub formed : how.formed i
+  pub put : TakesBytes contents failed before (how.line (output_of before.form) i) after
 
--- what a refused put leaves: the drain took a beginning of the lines, and where it has not failed nothing of the quad's line
-pub record Leaves {D A : Type 0} (contents : D → Option (List ℕ)) (failed : D → Bool) (before : LineOut D A) (q : Quad) (after : LineOut D A) : Type 0 where
-  pub same : SameOut before after
-  pub formed : ∥ IsQuad q ∥₁
-  pub rest : List ℕ
-  pub moves : Moves (contents before.drain.now) (contents after.drain.now) (before.buffer.now ++ line_bytes before.form q) rest
-  pub live : failed after.drain.now ≡ false → Writes contents before [] after
+-- What a refused put leaves.
+pub record Leaves {D A I : Type 0} (how : Writer I) (contents : D → Option (List ℕ)) (failed : D → Bool)
+    (before : LineOut D A) (i : I) (after : LineOut D A) : Type 0 where
+  pub formed : how.formed i
+  pub left : LeavesBytes contents failed before (how.line (output_of before.form) i) after
 
 -- What is reported of bytes that were not put, once all that waited was handed over: nothing of them was written, or where the drain failed, a beginning of
 -- what waited and of them.

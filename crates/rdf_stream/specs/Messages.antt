@@ -1,5 +1,5 @@
 -- The line that reports a fault, as the program prints it.
-use Rattle.std.specs.Prelude.{ℕ, List, [], ◌∷◌, ◌++◌, codes, decimal}
+use Rattle.std.specs.Prelude.{ℕ, List, ◌++◌, codes, decimal}
 use Rattle.rdf_terms.specs.declared.reason.Reason.{Reason}
 use Rattle.rdf_terms.specs.declared.reason.Reason.TheVariants as reason
 use Rattle.rdf_tokens.specs.declared.token.Fault.{Fault}

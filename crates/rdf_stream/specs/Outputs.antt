@@ -1,16 +1,18 @@
 -- What the code's values of an output mean.
 use Rattle.std.specs.Prelude.{ℕ, List, Option, None, encode_utf8_all}
-use Rattle.rdf_terms.specs.Terms.{Quad}
+use Rattle.std.specs.List.{AllByRecursion}
+use Rattle.rdf_terms.specs.Terms.{IsQuad, Quad}
 use Rattle.rdf_terms.specs.Views.{quad_of}
 use Rattle.rdf_terms.specs.declared.views.QuadRef.{QuadRef}
 use Rattle.rdf_lines.specs.declared.form.WrittenForm.{WrittenForm}
 use Rattle.rdf_lines.specs.Forms.{form_of}
-use Rattle.rdf_lines.specs.NodePrefixes.{line_in, text_in, Form}
+use Rattle.rdf_lines.specs.NodePrefixes.{line_in, Form}
+use Rattle.rdf_lines.specs.Writing.{CanWrite}
 use Rattle.rdf_stream.specs.declared.output.GraphView.{GraphView}
 use Rattle.rdf_stream.specs.declared.output.OutputView.{OutputView}
 use Rattle.rdf_stream.specs.GraphTexts.{graph_in}
 use Rattle.rdf_stream.specs.Graphs.{all_in_graph, in_graph}
-use Rattle.rdf_stream.specs.Languages.{Conversion, written_form}
+use Rattle.rdf_stream.specs.Languages.{AreLines, ConversionOf, lines_of, written_form}
 use Rattle.rdf_driver.specs.Words.{Words, in_words}
 use Rattle.rdf_lines.specs.declared.form.Style.{Style}
 use Rattle.rdf_stream.specs.Jobs.{JobRead}
@@ -19,10 +21,6 @@ use Rattle.rdf_stream.specs.Jobs.{JobRead}
 pub record Output : Type 0 where
   pub form : Form
   pub graph : Option (List ℕ)
-
--- the conversion of what a grammar reads from this start on, with this limit on its tokens
-abbrev pub conversion : {G X : Type 0} → Words G X Quad → X → ℕ → Output → Conversion
-conversion w x limit output = record { language = in_words w x limit; form = output.form; graph = output.graph }
 
 -- so its form, and the job's graph
 abbrev pub output : Style → JobRead → Output
@@ -42,7 +40,35 @@ line_by o q = encode_utf8_all (line_in o.form (in_graph o.graph q))
 
 -- the bytes of the quads' lines
 abbrev pub lines_by : Output → List Quad → List ℕ
-lines_by o qs = encode_utf8_all (text_in o.form (all_in_graph o.graph qs))
+lines_by o qs = lines_of o.form (all_in_graph o.graph qs)
+
+-- How a sink writes items, quads or others, in an output: the bytes of the line of one and of the lines of some, and what is known of these.
+pub record Writer (I : Type 0) : Type 1 where
+  pub line : Output → I → List ℕ
+  pub lines : Output → List I → List ℕ
+  pub known : Output → List I → Type 0
+  -- what an item's type says
+  pub formed : I → Type 0
+  -- a style can write the item
+  pub can : Style → I → Type 0
+
+-- items whose lines can be written in a style
+abbrev pub Able : {I : Type 0} → Writer I → Style → List I → Type 0
+Able how s is = AllByRecursion (λ i. how.formed i × how.can s i) is
+
+-- a line for each quad
+abbrev pub of_quads : Writer Quad
+of_quads = record {
+  line = line_by;
+  lines = lines_by;
+  known = λ o qs. AreLines o.form (all_in_graph o.graph qs);
+  formed = λ q. ∥ IsQuad q ∥₁;
+  can = CanWrite;
+}
+
+-- the conversion of what a grammar reads from this start on, with this limit on its tokens
+abbrev pub conversion : {G X I : Type 0} → Writer I → Words G X I → X → ℕ → Output → ConversionOf I
+conversion how w x limit output = record { language = in_words w x limit; lines = how.lines output; known = how.known output }
 
 -- the bytes of the line of a quad as it is
 abbrev pub line_of : WrittenForm → QuadRef → List ℕ

@@ -5,7 +5,7 @@ use Rattle.rdf_driver.specs.Readers.{Driven, HasRead}
 use Rattle.rdf_driver.specs.Words.{Words}
 use Rattle.rdf_lines.specs.declared.form.Style.{Style}
 use Rattle.rdf_lines.specs.Writing.{Writable}
-use Rattle.rdf_stream.specs.Converts.{lines_of}
+use Rattle.rdf_stream.specs.Languages.{lines_of}
 use Rattle.rdf_stream.specs.WrittenForms.{plain}
 
 -- A reader has passed some bytes, for which others are written: these are the plain lines of some quads, and it has read the bytes and these quads.

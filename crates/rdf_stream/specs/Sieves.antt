@@ -22,15 +22,14 @@ use Rattle.rdf_stream.specs.declared.sieve.Tried.{Tried}
 use Rattle.rdf_stream.specs.declared.sieve.Tried.TheVariants.{Bad, Good}
 use Rattle.rdf_stream.specs.declared.skips.Held.{Held}
 use Rattle.rdf_stream.specs.declared.skips.SkipSummary.{SkipSummary}
-use Rattle.rdf_stream.specs.Converts.{lines_of}
 use Rattle.rdf_stream.specs.Devices.{AppendsFront}
-use Rattle.rdf_stream.specs.Languages.{Conversion, put_quads}
+use Rattle.rdf_stream.specs.Languages.{Conversion, written_in}
 use Rattle.rdf_stream.specs.Outputs.{output_of}
 use Rattle.rdf_stream.specs.Skips.{IsBadFor, PutsAside, Skips, SkipsSome, comment_text, counted_up, place_after}
 
 -- what a sieve converts its lines by
 abbrev pub job_of : {A : Type 0} → Sieve A → Conversion
-job_of s = record { language = in_lines s.form s.limits.token s.limits.iri; form = (output_of s.output).form; graph = (output_of s.output).graph }
+job_of s = written_in (in_lines s.form s.limits.token s.limits.iri) (output_of s.output).form (output_of s.output).graph
 
 -- the format, the limits and the output stay
 pub record SameSieve {A : Type 0} (old new : Sieve A) : Type 0 where
@@ -61,7 +60,7 @@ place_past start (x ∷ xs) = place_past (place_after start x) xs
 pub record IsConvertedTo {A : Type 0} (s : Sieve A) (bytes : List ℕ) (c : Converted A) : Type 0 where
   pub quads : List Quad
   pub is_good : IsGoodLine (job_of s).language s.is_first bytes quads
-  pub lines : c.lines.items ≡ lines_of (job_of s).form (put_quads (job_of s) quads)
+  pub lines : c.lines.items ≡ (job_of s).lines quads
   pub count : c.quads ≡ length quads
 
 -- why the bytes are no good line, and no good lines
@@ -121,7 +120,7 @@ RefusesPiece reported bytes line piece = ⊥
 pub record PutsGood {A D : Type 0} (takes : drain.Ghosts D) (old : Sieve A) (d : D) (bytes : List ℕ) (new : Sieve A) (d' : D) : Type 0 where
   pub quads : List Quad
   pub is_good : IsGoodLine (job_of old).language old.is_first bytes quads
-  pub written : Appends (takes.contents d) (takes.contents d') (lines_of (job_of old).form (put_quads (job_of old) quads))
+  pub written : Appends (takes.contents d) (takes.contents d') ((job_of old).lines quads)
   pub counts : Counts old new (length quads) 0
   pub first : new.is_first ≡ false
   pub same : SameSieve old new
@@ -137,7 +136,7 @@ pub record PutsNone {A D : Type 0} (old : Sieve A) (d : D) (bytes : List ℕ) (f
 abbrev pub PutGoodFails : {A D : Type 0} → drain.Ghosts D → StreamFault → Sieve A → D → List ℕ → Sieve A → D → Type 0
 PutGoodFails takes fault.Write old d bytes new d' =
     (takes.has_failed d' ≡ true) × (quads : List Quad) × IsGoodLine (job_of old).language old.is_first bytes quads
-    × AppendsFront (takes.contents d) (takes.contents d') (lines_of (job_of old).form (put_quads (job_of old) quads))
+    × AppendsFront (takes.contents d) (takes.contents d') ((job_of old).lines quads)
 PutGoodFails takes fault.Memory old d bytes new d' = (new ≡ old) × (d' ≡ d)
 PutGoodFails takes reported old d bytes new d' = ⊥
 

@@ -17,10 +17,10 @@ use Rattle.rdf_stream.specs.declared.form.Form.{Form}
 use Rattle.rdf_stream.specs.declared.form.Kind.TheVariants.{Line}
 use Rattle.rdf_stream.specs.declared.skips.SkipSummary.{SkipSummary}
 use Rattle.rdf_stream.specs.Checks.{IsRefusedFor}
-use Rattle.rdf_stream.specs.Converts.{IsConverted, lines_of}
+use Rattle.rdf_stream.specs.Converts.{IsConverted}
 use Rattle.rdf_stream.specs.Devices.{AppendsFront, HasBroken, HasGiven, Reading}
 use Rattle.rdf_stream.specs.Kinds.{kind_of}
-use Rattle.rdf_stream.specs.Languages.{Conversion, put_quads}
+use Rattle.rdf_stream.specs.Languages.{Conversion}
 use Rattle.rdf_stream.specs.Messages.{place_text}
 
 -- a format that is read line by line
@@ -72,7 +72,7 @@ pub record PutsAside (Puts : Option (List ℕ) → Option (List ℕ) → List �
   pub bad : List (List ℕ)
   pub quads : List Quad
   pub sifts : Sifts job.language first lines kept bad quads
-  pub written : Puts old new (lines_of job.form (put_quads job quads))
+  pub written : Puts old new (job.lines quads)
   pub text : List ℕ
   pub aside : IsAside job.language first start lines text
   pub put_aside : Puts old_bad new_bad text

@@ -9,7 +9,7 @@ ghost use Rattle.rdf_stream.specs.ExpectedRuns.{RunExpects, Stands};
 ghost use Rattle.rdf_stream.specs.Faults.{IsRefusal, IsSentOn};
 ghost use Rattle.rdf_stream.specs.Languages.{conversion_of, language_of};
 ghost use Rattle.rdf_stream.specs.LineOut.{OnlyGrows};
-ghost use Rattle.rdf_stream.specs.Outputs.{output_of};
+ghost use Rattle.rdf_stream.specs.Outputs.{of_quads, output_of};
 ghost use Rattle.rdf_stream.specs.Places.{HandsOut, TellsNear};
 ghost use Rattle.rdf_stream.specs.Told.{AsTold, told};
 
@@ -136,24 +136,24 @@ fn convert_with<A: Allocator + Copy, G: Passes<A>, S: Source, D: Drain>(
     details: &mut Details,
     near: &mut Nearby<Near<A>>,
 ) -> Result<Summary, StreamFault>
-    requires starts { (x : G.Setting) × Starts G.words x reader output.lines.style }
+    requires starts { (x : G.Setting) × Starts of_quads G.words x reader output.lines.style }
     requires limit { limit ≡ reader.scanner.limit }
     requires styled { output.lines.style ≡ G.style }
     requires more { S.has_ended source.old ≡ false }
     requires source { S.has_failed source.old ≡ false }
     requires drain { D.has_failed drain.old ≡ false }
-    ensures accepted { IfOk result (Converts G.words S.Source D.Drain reader
+    ensures accepted { IfOk result (Converts of_quads G.words S.Source D.Drain reader
         (output_of output.entry) source.old drain.old drain.new) }
     ensures ended { OnOk result (S.has_ended source.new ≡ true) }
     ensures flushed { OnOk result (D.is_flushed drain.new ≡ true) }
-    ensures stops { IfErr result (ConversionStops G.words S.Source D.Drain reader
+    ensures stops { IfErr result (ConversionStops of_quads G.words S.Source D.Drain reader
         (output_of output.entry) source.old source.new drain.old drain.new) }
     ensures refused { IfErr result IsRefusal }
     ensures sent { IfErr result (λ fault. IsSentOn fault (D.is_flushed drain.new)) }
-    ensures prompt { KeepsPrompt G.words S.Source D.Drain reader
+    ensures prompt { KeepsPrompt of_quads G.words S.Source D.Drain reader
         (output_of output.entry) source.old source.new drain.old drain.new }
     ensures expected { RunExpects G.words G.trees
-        (λ x. Starts G.words x reader output.entry.lines.style) reader.scanner.limit result
+        (λ x. Starts of_quads G.words x reader output.entry.lines.style) reader.scanner.limit result
         (S.remaining source.old) (told S.Source source.new) details.new }
     ensures near { HandsOut near.old (TellsNear G.words.dialect reader.scanner.limit result (S.remaining source.old)
         (told S.Source source.new)) near.new }
@@ -190,12 +190,12 @@ pub(crate) fn convert_whole<A: Allocator + Copy, G: Passes<A>, D: Drain>(
     bytes: &[u8],
     drain: &mut D,
 ) -> Result<Summary, StreamFault>
-    requires starts { (x : G.Setting) × Starts G.words x reader output.lines.style }
+    requires starts { (x : G.Setting) × Starts of_quads G.words x reader output.lines.style }
     requires styled { output.lines.style ≡ G.style }
     requires drain { D.has_failed drain.old ≡ false }
-    ensures accepted { IfOk result (ConvertsWhole G.words D.Drain reader
+    ensures accepted { IfOk result (ConvertsWhole of_quads G.words D.Drain reader
         (output_of output.entry) bytes.now drain.old drain.new) }
-    ensures stops { IfErr result (WholeStops G.words D.Drain reader
+    ensures stops { IfErr result (WholeStops of_quads G.words D.Drain reader
         (output_of output.entry) bytes.now drain.old drain.new) }
 {
     let mut reader = reader;
@@ -207,16 +207,16 @@ pub(crate) fn convert_whole<A: Allocator + Copy, G: Passes<A>, D: Drain>(
 impl<'a, A: Allocator + Copy, G: QuadGrammar + Passes<A>, D: Drain> Run<LineOut<'a, D, A>>
     for Reader<G, A> {
     ghost taken = { λ first bytes now.
-        IsConverting D.contents D.has_failed G.words G.style first.0 first.1 bytes now.0 now.1 };
+        IsConverting of_quads D.contents D.has_failed G.words G.style first.0 first.1 bytes now.0 now.1 };
 
     ghost halts = { λ reported first bytes is_end now.
-        RunHalts D.contents D.has_failed G.words reported first.0 first.1 bytes is_end now.1
+        RunHalts of_quads D.contents D.has_failed G.words reported first.0 first.1 bytes is_end now.1
         × IsSentOn reported (D.is_flushed now.1.drain.now)
-        × Stands G.words (λ x. Begins D.has_failed G.words x first.0 first.1) first.0.scanner.limit reported bytes
-        is_end now.0 };
+        × Stands G.words (λ x. Begins of_quads D.has_failed G.words x first.0 first.1) first.0.scanner.limit
+        reported bytes is_end now.0 };
 
     ghost ends = { λ summary first bytes now.
-        RunEnds D.contents D.has_failed D.is_flushed G.words summary first.0 first.1 bytes now.1 };
+        RunEnds of_quads D.contents D.has_failed D.is_flushed G.words summary first.0 first.1 bytes now.1 };
 
     ghost stays = { λ first now. OnlyGrows D.contents first.1 now.1 };
 
@@ -251,13 +251,13 @@ impl<'a, A: Allocator + Copy, G: QuadGrammar + Passes<A>, D: Drain> Run<LineOut<
 
 impl<'a, A: Allocator + Copy, G: Passes<A>, D: Drain> Parts<LineOut<'a, D, A>> for Reader<G, A> {
     ghost taken = { λ first bytes now.
-        IsPutting D.contents D.has_failed G.words G.style first.0 first.1 bytes now.0 now.1 };
+        IsPutting of_quads D.contents D.has_failed G.words G.style first.0 first.1 bytes now.0 now.1 };
 
     ghost halts = { λ reported first bytes is_end now.
-        RunHalts D.contents D.has_failed G.words reported first.0 first.1 bytes is_end now.1
+        RunHalts of_quads D.contents D.has_failed G.words reported first.0 first.1 bytes is_end now.1
         × IsSentOn reported (D.is_flushed now.1.drain.now)
-        × Stands G.words (λ x. Begins D.has_failed G.words x first.0 first.1) first.0.scanner.limit reported bytes
-        is_end now.0 };
+        × Stands G.words (λ x. Begins of_quads D.has_failed G.words x first.0 first.1) first.0.scanner.limit
+        reported bytes is_end now.0 };
 
     ghost stays = { λ first now. OnlyGrows D.contents first.1 now.1 };
 

@@ -10,10 +10,10 @@ ghost use Rattle.rdf_stream.specs.Devices.{AppendsFront};
 ghost use Rattle.rdf_stream.specs.Faults.{IsSentOn};
 ghost use Rattle.rdf_tokens.specs.Scans.{token_of};
 ghost use Rattle.rdf_stream.specs.LineOut.{Leaves, LeavesBytes, PutHalts, SameOut, Takes, TakesBytes, Writes};
-ghost use Rattle.rdf_stream.specs.LineOut.{line_bytes, most_waiting};
-ghost use Rattle.rdf_stream.specs.Outputs.{line_of};
+ghost use Rattle.rdf_stream.specs.LineOut.{most_waiting};
+ghost use Rattle.rdf_stream.specs.Outputs.{line_by, line_of, of_quads, output_of};
+ghost use Rattle.rdf_stream.specs.Shows.{token_line};
 ghost use Rattle.rdf_stream.specs.Passes.{RewritesText};
-ghost use Rattle.rdf_stream.specs.Showing.{LeavesToken, TakesToken};
 ghost use Rattle.rdf_stream.specs.WrittenForms.{keeps_lines};
 
 use crate::devices::{Drain, Failed};
@@ -371,9 +371,9 @@ impl<'a, D: Drain, A: Allocator + Copy> LineOut<'a, D, A> {
     fn put_in_graph(&mut self, quad: &QuadRef<'_>) -> Result<(), PutFault>
         requires live { D.has_failed self.old.drain.now ≡ false }
         ensures taken { OnOk result (TakesBytes D.contents D.has_failed self.old
-            (line_bytes self.old.form (quad_of quad.now)) self.new) }
+            (line_by (output_of self.old.form) (quad_of quad.now)) self.new) }
         ensures left { OnErr result (LeavesBytes D.contents D.has_failed self.old
-            (line_bytes self.old.form (quad_of quad.now)) self.new) }
+            (line_by (output_of self.old.form) (quad_of quad.now)) self.new) }
         ensures device { (D.has_failed self.new.drain.now ≡ true) ↔ (result ≡ Err PutFault.Device) }
     {
         self.put_line::<InGraph>(&in_graph(quad, self.form.graph))
@@ -389,9 +389,11 @@ impl<'a, D: Drain, A: Allocator + Copy> LineOut<'a, D, A> {
     ) -> Result<(), PutFault>
         requires live { D.has_failed self.old.drain.now ≡ false }
         ensures taken { OnOk result (TakesBytes D.contents D.has_failed self.old
-            (line_bytes self.old.form (quad_of (iris_quad subject.entry predicate.entry object.entry))) self.new) }
+            (line_by (output_of self.old.form) (quad_of (iris_quad subject.entry predicate.entry object.entry)))
+            self.new) }
         ensures left { OnErr result (LeavesBytes D.contents D.has_failed self.old
-            (line_bytes self.old.form (quad_of (iris_quad subject.entry predicate.entry object.entry))) self.new) }
+            (line_by (output_of self.old.form) (quad_of (iris_quad subject.entry predicate.entry object.entry)))
+            self.new) }
         ensures device { (D.has_failed self.new.drain.now ≡ true) ↔ (result ≡ Err PutFault.Device) }
     {
         self.put_in_graph(&QuadRef::of_iris(subject, predicate, object))
@@ -401,8 +403,10 @@ impl<'a, D: Drain, A: Allocator + Copy> LineOut<'a, D, A> {
     #[inline(always)]
     pub(crate) fn put_token(&mut self, token: Token<'_>) -> Result<(), PutFault>
         requires live { D.has_failed self.old.drain.now ≡ false }
-        ensures taken { OnOk result (TakesToken D.contents D.has_failed self.old (token_of token.entry) self.new) }
-        ensures left { OnErr result (LeavesToken D.contents D.has_failed self.old (token_of token.entry) self.new) }
+        ensures taken { OnOk result (TakesBytes D.contents D.has_failed self.old
+            (token_line (token_of token.entry)) self.new) }
+        ensures left { OnErr result (LeavesBytes D.contents D.has_failed self.old
+            (token_line (token_of token.entry)) self.new) }
         ensures device { (D.has_failed self.new.drain.now ≡ true) ↔ (result ≡ Err PutFault.Device) }
     {
         match put_token_line(token, self.buffer) {
@@ -420,9 +424,9 @@ impl<'a, D: Drain, A: Allocator + Copy> LineOut<'a, D, A> {
 }
 
 impl<'a, D: Drain, A: Allocator + Copy> QuadSink for LineOut<'a, D, A> {
-    ghost takes = { λ before quad after. Takes D.contents D.has_failed before quad after };
+    ghost takes = { λ before quad after. Takes of_quads D.contents D.has_failed before quad after };
 
-    ghost leaves = { λ before quad after. Leaves D.contents D.has_failed before quad after };
+    ghost leaves = { λ before quad after. Leaves of_quads D.contents D.has_failed before quad after };
 
     ghost has_failed = { λ sink. D.has_failed sink.drain.now };
 

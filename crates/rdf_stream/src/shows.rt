@@ -1,12 +1,15 @@
 // From a document to the lines of its tokens.
 
-ghost use Rattle.std.specs.Prelude.{◌≡◌, true, false, OnOk, IfOk, IfErr};
+ghost use Rattle.std.specs.Prelude.{◌≡◌, true, false, OnOk, IfOk, IfErr, ⊤};
 ghost use Rattle.rdf_stream.specs.Faults.{IsRefusal, IsSentOn};
-ghost use Rattle.rdf_stream.specs.LineOut.{SameOut};
-ghost use Rattle.rdf_stream.specs.Showing.{IsShowing, ShowEnds, ShowHalts};
-ghost use Rattle.rdf_stream.specs.Shows.{ShowStops, ShowsAll, dialect_of};
+ghost use Rattle.rdf_stream.specs.Converting.{IsConverting, RunHalts};
+ghost use Rattle.rdf_stream.specs.Converts.{IsPrompt, StopsFor};
+ghost use Rattle.rdf_stream.specs.LineOut.{OnlyGrows};
 ghost use Rattle.rdf_stream.specs.Places.{HandsOut, TellsNear};
+ghost use Rattle.rdf_stream.specs.Shows.{ShowsAll, dialect_of, showing_of};
+ghost use Rattle.rdf_stream.specs.TokenWords.{ShowEnds, of_tokens, token_words};
 ghost use Rattle.rdf_stream.specs.Told.{AsTold, told};
+ghost use Rattle.rdf_lines.specs.declared.form.Style.TheVariants.{Kept};
 
 use crate::devices::{Drain, Failed, Source};
 use crate::fault::StreamFault;
@@ -41,9 +44,11 @@ pub fn show<A: Allocator + Copy, S: Source, D: Drain>(
     ensures ended { OnOk result (S.has_ended source.new ≡ true) }
     ensures flushed { OnOk result (D.is_flushed drain.new ≡ true) }
     ensures stops { IfErr result (λ fault.
-        AsTold (ShowStops fault job) S.Source D.Drain source.old source.new drain.old drain.new) }
+        AsTold (StopsFor fault (showing_of job)) S.Source D.Drain source.old source.new drain.old drain.new) }
     ensures refused { IfErr result IsRefusal }
     ensures sent { IfErr result (λ fault. IsSentOn fault (D.is_flushed drain.new)) }
+    ensures prompt { IsPrompt (showing_of job) (S.remaining source.old) (told S.Source source.new)
+        (D.contents drain.old) (D.contents drain.new) }
 {
     let mut near = Nearby::Unasked;
     show_near(alloc, job, source, drain, &mut near)
@@ -65,9 +70,11 @@ pub fn show_near<A: Allocator + Copy, S: Source, D: Drain>(
     ensures ended { OnOk result (S.has_ended source.new ≡ true) }
     ensures flushed { OnOk result (D.is_flushed drain.new ≡ true) }
     ensures stops { IfErr result (λ fault.
-        AsTold (ShowStops fault job) S.Source D.Drain source.old source.new drain.old drain.new) }
+        AsTold (StopsFor fault (showing_of job)) S.Source D.Drain source.old source.new drain.old drain.new) }
     ensures refused { IfErr result IsRefusal }
     ensures sent { IfErr result (λ fault. IsSentOn fault (D.is_flushed drain.new)) }
+    ensures prompt { IsPrompt (showing_of job) (S.remaining source.old) (told S.Source source.new)
+        (D.contents drain.old) (D.contents drain.new) }
     ensures near { HandsOut near.old (TellsNear (dialect_of job.form) job.limits.token result (S.remaining source.old)
         (told S.Source source.new)) near.new }
 {
@@ -102,9 +109,11 @@ fn show_in<T: Spoken + Drop, A: Allocator + Copy, S: Source, D: Drain>(
     ensures ended { OnOk result (S.has_ended source.new ≡ true) }
     ensures flushed { OnOk result (D.is_flushed drain.new ≡ true) }
     ensures stops { IfErr result (λ fault.
-        AsTold (ShowStops fault job.now) S.Source D.Drain source.old source.new drain.old drain.new) }
+        AsTold (StopsFor fault (showing_of job.now)) S.Source D.Drain source.old source.new drain.old drain.new) }
     ensures refused { IfErr result IsRefusal }
     ensures sent { IfErr result (λ fault. IsSentOn fault (D.is_flushed drain.new)) }
+    ensures prompt { IsPrompt (showing_of job.now) (S.remaining source.old) (told S.Source source.new)
+        (D.contents drain.old) (D.contents drain.new) }
     ensures near { HandsOut near.old (TellsNear (dialect_of job.now.form) job.now.limits.token result
         (S.remaining source.old) (told S.Source source.new)) near.new }
 {
@@ -129,16 +138,17 @@ fn show_in<T: Spoken + Drop, A: Allocator + Copy, S: Source, D: Drain>(
 
 impl<'a, T: Spoken + Drop, D: Drain, A: Allocator + Copy> Run<LineOut<'a, D, A>>
     for Reader<TokenGrammar<T>, A> {
-    ghost taken = { λ first bytes now. IsShowing D.contents D.has_failed T.spoken first.0 first.1 bytes now.0 now.1 };
+    ghost taken = { λ first bytes now.
+        IsConverting of_tokens D.contents D.has_failed (token_words T.spoken) Kept first.0 first.1 bytes now.0 now.1 };
 
     ghost halts = { λ reported first bytes is_end now.
-        ShowHalts D.contents D.has_failed T.spoken reported first.0 first.1 bytes is_end now.1
-        × IsSentOn reported (D.is_flushed now.1.drain.now) };
+        RunHalts of_tokens D.contents D.has_failed (token_words T.spoken) reported first.0 first.1 bytes is_end now.1
+        × IsSentOn reported (D.is_flushed now.1.drain.now) × ⊤ };
 
     ghost ends = { λ summary first bytes now.
         ShowEnds D.contents D.has_failed D.is_flushed T.spoken summary first.0 first.1 bytes now.1 };
 
-    ghost stays = { λ first now. SameOut first.1 now.1 };
+    ghost stays = { λ first now. OnlyGrows D.contents first.1 now.1 };
 
     ghost count = { λ now. now.so_far.bytes };
 

@@ -4,8 +4,8 @@ ghost use Rattle.std.specs.Prelude.{◌≡◌};
 ghost use Rattle.rdf_terms.specs.declared.kind.Dialect.{Dialect};
 ghost use Rattle.rdf_terms.specs.declared.kind.Dialect.TheVariants.{Lines, Turtle};
 ghost use Rattle.rdf_tokens.specs.Scans.{is_end};
-ghost use Rattle.rdf_stream.specs.Showing.{LeavesToken, TakesToken};
-ghost use Rattle.rdf_stream.specs.TokenWords.{token_words};
+ghost use Rattle.rdf_stream.specs.LineOut.{Leaves, Takes};
+ghost use Rattle.rdf_stream.specs.TokenWords.{of_tokens, token_words};
 
 use crate::devices::Drain;
 use crate::line_out::LineOut;
@@ -117,9 +117,9 @@ impl<T: Spoken> Holds for TokenGrammar<T> {
 }
 
 impl<'a, T: Spoken, D: Drain, A: Allocator + Copy> Accepts<LineOut<'a, D, A>> for TokenGrammar<T> {
-    ghost takes = { λ before token after. TakesToken D.contents D.has_failed before token after };
+    ghost takes = { λ before token after. Takes of_tokens D.contents D.has_failed before token after };
 
-    ghost leaves = { λ before token after. LeavesToken D.contents D.has_failed before token after };
+    ghost leaves = { λ before token after. Leaves of_tokens D.contents D.has_failed before token after };
 
     ghost has_failed = { λ lines. D.has_failed lines.drain.now };
 

@@ -1,11 +1,12 @@
 -- A check over the pieces of a source: it begins with nothing read, and each outcome is that of the pieces.
-use Rattle.std.proofs.Common.{◌≡◌, true, refl}
+use Rattle.std.proofs.Common.{◌≡◌, ◌∙◌, true, refl, ap}
 use Rattle.rdf_stream.specs.CheckRuns.{BeginsToRead}
 use Rattle.rdf_stream.specs.Devices.{reading}
 use Rattle.rdf_stream.specs.Faults.{IsRefusal}
 use Rattle.rdf_stream.proofs.ChecksLemmas.{Halted, Taken, begins, checked, refused_document, stopped}
 use Rattle.rdf_stream.proofs.ExpectedLemmas.{none_expected, run_expects}
 use Rattle.rdf_stream.proofs.PiecesLemmas.{if_err, if_ok, none_given, on_ok, reported_stops}
+use Rattle.rdf_stream.proofs.WatchLemmas.{hands_near}
 use Rattle.rdf_stream.proofs.checks.check_with.Goals as goal
 
 pub returns-in_err-piece-clause-stops : goal.returns-in_err-piece-clause-stops
@@ -46,3 +47,10 @@ returns-clause-expected g c =
     run_expects w g.G.Foresees.trees (λ x. BeginsToRead w x c.args.reader) c.args.reader.scanner.limit (λ x b. b.lawful.ends x) (Taken w) (Halted w)
     (c.args.reader, _) (c.read_pieces-result.new.run, _) c.read_pieces-result.new.run
     (λ f bytes e h. h.1) _ _ _ _ c.read_pieces-result.ensures.stops c.details_beside.ensures
+
+pub returns-clause-near : goal.returns-clause-near
+returns-clause-near g c =
+    let words = c.new-watching.ensures.words in
+    hands_near c.args.near.now c.ask_again-asked.new.self c.hand_out.new.near c.read_pieces-result.new.watching.near c.new-watching.result.words _ _
+    (ap (λ w. w.dialect) words ∙ (c.new.ensures.dialect ∙ c.dialect.ensures.dialect)) (ap (λ w. w.limit) words ∙ (c.new.ensures.limit ∙ c.requires.limit))
+    _ _ _ c.ask_again-asked.ensures.untold c.hand_out.ensures c.read_pieces-result.ensures.near

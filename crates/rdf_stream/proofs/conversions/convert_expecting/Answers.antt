@@ -5,7 +5,7 @@ use Rattle.rdf_lines.specs.Accepting.{line_words}
 use Rattle.rdf_trig.specs.Accepting.{tree_words}
 use Rattle.rdf_stream.specs.Converting.{Starts}
 use Rattle.rdf_stream.specs.Converts.{Accepts, IsPrompt, StopsFor}
-use Rattle.rdf_stream.specs.Outputs.{output}
+use Rattle.rdf_stream.specs.Outputs.{of_quads, output}
 use Rattle.rdf_stream.specs.Places.{HandsOut, TellsNear}
 use Rattle.rdf_stream.specs.Told.{told}
 use Rattle.rdf_stream.proofs.ConvertsLemmas.{lines_job, trees_job}
@@ -90,7 +90,7 @@ returns-in-Line-clause-expected g c =
     expects_err _ _ _ _ _
     (lines_expect c.args.job c.in-Line.form (search rules) c.limits-limits.result.iri
     (search rules) c.line_reader-reader.result.scanner.limit (search rules)
-    (λ x. Starts line_words x c.line_reader-reader.result c.output.result.lines.style)
+    (λ x. Starts of_quads line_words x c.line_reader-reader.result c.output.result.lines.style)
     (record { convertible = lines_convertible _ _ (ap (λ o. o.form.style) c.output.ensures); read = c.line_reader-reader.ensures.read }) _ _
     _ _ c.convert_with-result.ensures.expected)
 
@@ -99,7 +99,7 @@ returns-in-Line-clause-none g c =
     expects_none _ _ _ _ _
     (lines_expect c.args.job c.in-Line.form (search rules) c.limits-limits.result.iri
     (search rules) c.line_reader-reader.result.scanner.limit (search rules)
-    (λ x. Starts line_words x c.line_reader-reader.result c.output.result.lines.style)
+    (λ x. Starts of_quads line_words x c.line_reader-reader.result c.output.result.lines.style)
     (record { convertible = lines_convertible _ _ (ap (λ o. o.form.style) c.output.ensures); read = c.line_reader-reader.ensures.read }) _ _
     _ _ c.convert_with-result.ensures.expected)
 
@@ -107,7 +107,7 @@ pub returns-in-Tree-clause-expected : goal.returns-in-Tree-clause-expected
 returns-in-Tree-clause-expected g c =
     expects_err _ _ _ _ _
     (trees_expect c.args.job c.in-Tree.form (search rules) c.options.result (search rules) c.tree_reader-reader.result.scanner.limit
-    (search rules) (λ x. Starts tree_words x c.tree_reader-reader.result c.output-in-Tree.result.lines.style)
+    (search rules) (λ x. Starts of_quads tree_words x c.tree_reader-reader.result c.output-in-Tree.result.lines.style)
     (record {
       convertible = trees_convertible _ _ (ap (λ o. o.form.style) c.output-in-Tree.ensures);
       read = c.tree_reader-reader.ensures.read;
@@ -117,7 +117,7 @@ pub returns-in-Tree-clause-none : goal.returns-in-Tree-clause-none
 returns-in-Tree-clause-none g c =
     expects_none _ _ _ _ _
     (trees_expect c.args.job c.in-Tree.form (search rules) c.options.result (search rules) c.tree_reader-reader.result.scanner.limit
-    (search rules) (λ x. Starts tree_words x c.tree_reader-reader.result c.output-in-Tree.result.lines.style)
+    (search rules) (λ x. Starts of_quads tree_words x c.tree_reader-reader.result c.output-in-Tree.result.lines.style)
     (record {
       convertible = trees_convertible _ _ (ap (λ o. o.form.style) c.output-in-Tree.ensures);
       read = c.tree_reader-reader.ensures.read;

@@ -1,6 +1,5 @@
 -- A run over the pieces of a source, and what it means for the job.
 use Rattle.std.proofs.Common.{rules, ◌∙◌, ap}
-use Rattle.rdf_stream.specs.Languages.{conversion_of}
 use Rattle.rdf_stream.specs.Outputs.{output_of}
 use Rattle.rdf_stream.specs.Skips.{SkipStops, SkipsAll}
 use Rattle.rdf_stream.specs.Told.{told}
@@ -10,7 +9,7 @@ use Rattle.rdf_stream.proofs.skips.convert_skipping.Goals as goal
 
 pub returns-in_err-piece-in-Line-clause-stops : goal.returns-in_err-piece-in-Line-clause-stops
 returns-in_err-piece-in-Line-clause-stops g c =
-    reported_stops _ _ _ c.from_residual.ensures.1 (none_skips (conversion_of c.args.job)
+    reported_stops _ _ _ c.from_residual.ensures.1 (none_skips c.args.job
     (told g.S.Source c.args.source.now) _ _ _ _ c.requires.more c.requires.source c.requires.drain c.requires.bad)
 
 pub skip_pieces-requires-clause-begun : goal.skip_pieces-requires-clause-begun

@@ -12,11 +12,12 @@ use Rattle.rdf_stream.specs.Converting.{IsPutting, RunHalts}
 use Rattle.rdf_stream.specs.LineOut.{OnlyGrows, PutHalts, SameOut}
 use Rattle.rdf_stream.specs.Passes.{RewritesText}
 use Rattle.rdf_stream.specs.WrittenForms.{keeps_lines}
-use Rattle.rdf_stream.proofs.ConvertingLemmas.{kept_where, live_now, run_passes, run_stops}
+use Rattle.rdf_stream.proofs.ConvertingLemmas.{kept_where, live_now, quad_lines, run_passes, run_stops}
 use Rattle.rdf_stream.proofs.ConvertsLemmas.{halts_more}
 use Rattle.rdf_stream.proofs.ExpectedLemmas.{stands_unput}
 use Rattle.rdf_stream.proofs.GrowthLemmas.{grows_both, grows_moved, refusal_grows}
 use Rattle.rdf_stream.proofs.LineOutLemmas.{put_sent, rewritten_waits, rewritten_writes, same_out}
+use Rattle.rdf_stream.specs.Outputs.{of_quads}
 use Rattle.rdf_stream.proofs.conversions.ReaderPartsLineOut.pass_escaped.Goals as goal
 
 -- Some text was passed, and what is written for it waits.
@@ -26,24 +27,26 @@ module _ {G X D A : Type 0} (contents : D → Option (List ℕ)) (failed : D →
     (drain : mid.drain.now ≡ lines.drain.now)
     (p : RewritesText w style old (take n text) new lines.buffer.now mid.buffer.now) where
   -- it was put
-  waiting : IsPutting contents failed w style reader first bytes old lines → IsPutting contents failed w style reader first (bytes ++ take n text) new mid
+  waiting : IsPutting of_quads contents failed w style reader first bytes old lines →
+      IsPutting of_quads contents failed w style reader first (bytes ++ take n text) new mid
   waiting i =
       run_passes contents failed w style reader first bytes old lines i (take n text) p.written
       (kept_where lines.form false p.written keeps (λ e. absurd (false≢true e))) new p.passes mid same
-      (rewritten_waits contents lines mid p.written drain p.appended) (ap failed drain ∙ live_now contents failed w style reader first bytes old lines i)
+      (rewritten_waits contents lines mid p.written drain p.appended)
+      (ap failed drain ∙ live_now of_quads quad_lines contents failed w style reader first bytes old lines i)
 
   module _ (reported : StreamFault) (after : LineOut D A) (moved : SameOut mid after) (h : PutHalts contents failed reported mid [] after) where
     -- then the run stops
-    stops : IsPutting contents failed w style reader first bytes old lines → (more : List ℕ) →
-        RunHalts contents failed w reported reader first (bytes ++ (text ++ more)) false after
+    stops : IsPutting of_quads contents failed w style reader first bytes old lines → (more : List ℕ) →
+        RunHalts of_quads contents failed w reported reader first (bytes ++ (text ++ more)) false after
     stops i more =
         let part = take n text in
         let rest = drop n text in
         let whole : (bytes ++ part) ++ (rest ++ more) ≡ bytes ++ (text ++ more) = append_assoc bytes part (rest ++ more)
         ∙ (ap (λ l. bytes ++ l) (sym (append_assoc part rest more)) ∙ ap (λ l. bytes ++ (l ++ more)) (take-append-drop n text)) in
-        subst (λ b. RunHalts contents failed w reported reader first b false after) whole
-        (halts_more contents failed w reported reader first (bytes ++ part) (rest ++ more) after
-        (run_stops contents failed w style reader first (bytes ++ part) new mid (waiting i) reported after moved h))
+        subst (λ b. RunHalts of_quads contents failed w reported reader first b false after) whole
+        (halts_more of_quads contents failed w reported reader first (bytes ++ part) (rest ++ more) after
+        (run_stops of_quads quad_lines contents failed w style reader first (bytes ++ part) new mid (waiting i) reported after moved h))
 
     -- the drain only grew
     grown : OnlyGrows contents first lines → OnlyGrows contents first after
@@ -56,7 +59,7 @@ pub settle-requires : goal.settle-requires
 settle-requires g c =
     let (first, bytes, i) = c.requires.begun in
     record {
-      live = ap g.D.Drain.has_failed c.pass_escaped.ensures.drain ∙ live_now g.D.Drain.contents g.D.Drain.has_failed
+      live = ap g.D.Drain.has_failed c.pass_escaped.ensures.drain ∙ live_now of_quads quad_lines g.D.Drain.contents g.D.Drain.has_failed
           g.G.Grammar.words g.G.Passes.style first.0 first.1 bytes c.args.self.now c.args.lines.now i;
     }
 
@@ -64,7 +67,7 @@ pub handed_over-requires : goal.handed_over-requires
 handed_over-requires g c =
     let (first, bytes, i) = c.requires.begun in
     record {
-      live = ap g.D.Drain.has_failed c.pass_escaped.ensures.drain ∙ live_now g.D.Drain.contents g.D.Drain.has_failed
+      live = ap g.D.Drain.has_failed c.pass_escaped.ensures.drain ∙ live_now of_quads quad_lines g.D.Drain.contents g.D.Drain.has_failed
           g.G.Grammar.words g.G.Passes.style first.0 first.1 bytes c.args.self.now c.args.lines.now i;
     }
 
@@ -124,5 +127,5 @@ returns-in-Err-clause-stays g c = λ first s.
 
 pub returns-then-not-keeps_lines-clause-takes : goal.returns-then-not-keeps_lines-clause-takes
 returns-then-not-keeps_lines-clause-takes g c = λ first bytes i.
-    subst (λ b. IsPutting g.D.Drain.contents g.D.Drain.has_failed g.G.Grammar.words g.G.Passes.style first.0 first.1 b c.args.self.now
+    subst (λ b. IsPutting of_quads g.D.Drain.contents g.D.Drain.has_failed g.G.Grammar.words g.G.Passes.style first.0 first.1 b c.args.self.now
     c.args.lines.now) (sym (append-nil bytes)) i

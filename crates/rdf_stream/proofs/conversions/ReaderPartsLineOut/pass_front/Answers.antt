@@ -4,19 +4,20 @@ use Rattle.std.proofs.lemmas.List.{take-append-drop}
 use Rattle.rdf_lines.specs.Canonical.{written_as}
 use Rattle.rdf_stream.specs.Converting.{RunHalts}
 use Rattle.rdf_stream.specs.LineOut.{PutHalts, Writes}
-use Rattle.rdf_stream.proofs.ConvertingLemmas.{kept_where, live_now, pass_halts, run_passes}
+use Rattle.rdf_stream.proofs.ConvertingLemmas.{kept_where, live_now, pass_halts, quad_lines, run_passes}
 use Rattle.rdf_stream.proofs.ConvertsLemmas.{halts_more}
 use Rattle.rdf_stream.proofs.ExpectedLemmas.{stands_unput}
 use Rattle.rdf_stream.proofs.GrowthLemmas.{grows_both, grows_moved, refusal_grows}
 use Rattle.rdf_stream.proofs.LineOutLemmas.{put_sent}
 use Rattle.rdf_stream.proofs.PartsLemmas.{ascii_take, low_written}
+use Rattle.rdf_stream.specs.Outputs.{of_quads}
 use Rattle.rdf_stream.proofs.conversions.ReaderPartsLineOut.pass_front.Goals as goal
 
 pub append-requires : goal.append-requires
 append-requires g c =
     let (first, bytes, i) = c.requires.begun in
     record {
-      live = live_now g.D.Drain.contents g.D.Drain.has_failed g.G.Grammar.words g.G.Passes.style first.0 first.1 bytes
+      live = live_now of_quads quad_lines g.D.Drain.contents g.D.Drain.has_failed g.G.Grammar.words g.G.Passes.style first.0 first.1 bytes
           c.args.self.now c.args.lines.now i;
     }
 
@@ -43,8 +44,8 @@ returns-in-Err-clause-halts g c = λ more first bytes i.
     c.pass-passed.ensures.passes _ _ c.in-Err.ensures.same reported in
     let whole : (bytes ++ part) ++ (rest ++ more) ≡ bytes ++ (text ++ more) = append_assoc bytes part (rest ++ more)
     ∙ (ap (λ l. bytes ++ l) (sym (append_assoc part rest more)) ∙ ap (λ l. bytes ++ (l ++ more)) (take-append-drop c.pass-passed.result text)) in (
-      subst (λ b. RunHalts g.D.Drain.contents g.D.Drain.has_failed g.G.Grammar.words c.in-Err.fault first.0 first.1 b false c.append.new.self) whole
-          (halts_more g.D.Drain.contents g.D.Drain.has_failed g.G.Grammar.words c.in-Err.fault first.0 first.1 (bytes ++ part)
+      subst (λ b. RunHalts of_quads g.D.Drain.contents g.D.Drain.has_failed g.G.Grammar.words c.in-Err.fault first.0 first.1 b false c.append.new.self) whole
+          (halts_more of_quads g.D.Drain.contents g.D.Drain.has_failed g.G.Grammar.words c.in-Err.fault first.0 first.1 (bytes ++ part)
           (rest ++ more) c.append.new.self halts),
       put_sent g.D.Drain.contents g.D.Drain.has_failed _ _ _ c.in-Err.fault _ c.in-Err.ensures.halts,
       λ x b. stands_unput g.D.Drain.contents g.D.Drain.has_failed g.G.Grammar.words x first.0.scanner.limit c.in-Err.fault _ _ _ _ _ _ c.in-Err.ensures.halts,

@@ -2,37 +2,40 @@
 use Rattle.std.proofs.Common.{◌++◌, false, append_assoc, subst}
 use Rattle.rdf_stream.specs.Converting.{RunHalts}
 use Rattle.rdf_stream.specs.ExpectedRuns.{StandsFor}
-use Rattle.rdf_stream.proofs.ConvertingLemmas.{few_now, live_now, run_halts, run_reads}
+use Rattle.rdf_stream.proofs.ConvertingLemmas.{few_now, live_now, quad_lines, run_halts, run_reads}
 use Rattle.rdf_stream.proofs.ConvertsLemmas.{halts_more}
 use Rattle.rdf_stream.proofs.ExpectedLemmas.{stands_in_piece, stands_more, stands_told}
 use Rattle.rdf_stream.proofs.GrowthLemmas.{feed_grows, grows_both, puts_grow, stop_grows}
+use Rattle.rdf_stream.specs.Outputs.{of_quads}
 use Rattle.rdf_stream.proofs.conversions.ReaderPartsLineOut.read_part.Goals as goal
 
 pub feed-requires : goal.feed-requires
 feed-requires g c =
     let (first, bytes, i) = c.requires.begun in
-    λ running. live_now g.D.Drain.contents g.D.Drain.has_failed g.G.Grammar.words g.G.Passes.style first.0 first.1 bytes c.args.self.now c.args.lines.now i
+    λ running. live_now of_quads quad_lines g.D.Drain.contents g.D.Drain.has_failed g.G.Grammar.words g.G.Passes.style first.0 first.1 bytes c.args.self.now
+    c.args.lines.now i
 
 pub returns-in-Ok-clause-takes : goal.returns-in-Ok-clause-takes
 returns-in-Ok-clause-takes g c = λ first bytes i.
-    run_reads g.D.Drain.contents g.D.Drain.has_failed g.G.Grammar.words g.G.Passes.style first.0 first.1 bytes c.args.self.now
+    run_reads of_quads quad_lines g.D.Drain.contents g.D.Drain.has_failed g.G.Grammar.words g.G.Passes.style first.0 first.1 bytes c.args.self.now
     c.args.lines.now i c.args.part.now _ _ c.in-Ok.ensures.ok
 
 pub returns-in-Ok-clause-few : goal.returns-in-Ok-clause-few
 returns-in-Ok-clause-few g c =
     let (first, bytes, i) = c.requires.begun in
-    let put = run_reads g.D.Drain.contents g.D.Drain.has_failed g.G.Grammar.words g.G.Passes.style first.0 first.1 bytes c.args.self.now
+    let put = run_reads of_quads quad_lines g.D.Drain.contents g.D.Drain.has_failed g.G.Grammar.words g.G.Passes.style first.0 first.1 bytes c.args.self.now
     c.args.lines.now i c.args.part.now _ _ c.in-Ok.ensures.ok in
-    few_now g.D.Drain.contents g.D.Drain.has_failed g.G.Grammar.words g.G.Passes.style first.0 first.1 _ _ _ put _ c.in-Ok.ensures.few
+    few_now of_quads quad_lines g.D.Drain.contents g.D.Drain.has_failed g.G.Grammar.words g.G.Passes.style first.0 first.1 _ _ _ put _ c.in-Ok.ensures.few
 
 pub returns-in-Err-clause-halts : goal.returns-in-Err-clause-halts
 returns-in-Err-clause-halts g c = λ more first bytes i.
     let part = c.args.part.now in
-    let halts = run_halts g.D.Drain.contents g.D.Drain.has_failed g.G.Grammar.words g.G.Passes.style first.0 first.1 bytes c.args.self.now
+    let halts = run_halts of_quads quad_lines g.D.Drain.contents g.D.Drain.has_failed g.G.Grammar.words g.G.Passes.style first.0 first.1 bytes c.args.self.now
     c.args.lines.now i part _ _ _ _ _ _ _ c.in-Err.ensures.err c.stop.ensures.same c.stop.ensures.reports in (
-      subst (λ b. RunHalts g.D.Drain.contents g.D.Drain.has_failed g.G.Grammar.words c.stop.result first.0 first.1 b false c.stop.new.lines)
+      subst (λ b. RunHalts of_quads g.D.Drain.contents g.D.Drain.has_failed g.G.Grammar.words c.stop.result first.0 first.1 b false c.stop.new.lines)
           (append_assoc bytes part more)
-          (halts_more g.D.Drain.contents g.D.Drain.has_failed g.G.Grammar.words c.stop.result first.0 first.1 (bytes ++ part) more c.stop.new.lines halts),
+          (halts_more of_quads g.D.Drain.contents g.D.Drain.has_failed g.G.Grammar.words c.stop.result first.0 first.1 (bytes ++ part) more c.stop.new.lines
+          halts),
       c.stop.ensures.sent,
       λ x b.
           let put = i.put x b in
@@ -42,16 +45,16 @@ returns-in-Err-clause-halts g c = λ more first bytes i.
           subst (λ all. StandsFor w x limit c.stop.result all false now) (append_assoc bytes part more)
           (stands_more w x limit (b.starts.convertible.lawful.ends x) now c.stop.result (bytes ++ part) more
           (stands_told g.D.Drain.contents g.D.Drain.has_failed w x limit c.in-Err.fault _ _ _ (bytes ++ part) false now c.stop.ensures.reports
-          (stands_in_piece w x c.args.self.now bytes put.quads put.read limit i.limit _ _ _ _ _ now c.in-Err.fault.offset
+          (stands_in_piece w x c.args.self.now bytes put.items put.read limit i.limit _ _ _ _ _ now c.in-Err.fault.offset
           c.in-Err.fault.line part c.in-Err.fault.reason c.in-Err.ensures.err))),
     )
 
 pub returns-in-Ok-clause-stays : goal.returns-in-Ok-clause-stays
 returns-in-Ok-clause-stays g c =
-    λ first s. grows_both g.D.Drain.contents _ _ _ s (puts_grow g.D.Drain.contents g.D.Drain.has_failed _ _ _ c.in-Ok.ensures.ok.puts)
+    λ first s. grows_both g.D.Drain.contents _ _ _ s (puts_grow of_quads g.D.Drain.contents g.D.Drain.has_failed _ _ _ c.in-Ok.ensures.ok.puts)
 
 pub returns-in-Err-clause-stays : goal.returns-in-Err-clause-stays
 returns-in-Err-clause-stays g c = λ first s.
     grows_both g.D.Drain.contents _ _ _ s
-    (grows_both g.D.Drain.contents _ _ _ (feed_grows g.D.Drain.contents g.D.Drain.has_failed g.G.Grammar.words _ _ _ _ _ _ _ c.in-Err.ensures.err)
+    (grows_both g.D.Drain.contents _ _ _ (feed_grows of_quads g.D.Drain.contents g.D.Drain.has_failed g.G.Grammar.words _ _ _ _ _ _ _ c.in-Err.ensures.err)
     (stop_grows g.D.Drain.contents g.D.Drain.has_failed _ _ _ _ c.stop.ensures.same c.stop.ensures.reports))

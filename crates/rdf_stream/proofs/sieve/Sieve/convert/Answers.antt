@@ -4,8 +4,7 @@ use Rattle.rdf_lines.specs.declared.rules.Rules.{Rules}
 use Rattle.rdf_lines.specs.Documents.{in_lines}
 use Rattle.rdf_tokens.specs.Scans.{place_of}
 use Rattle.rdf_stream.specs.Converts.{Accepts}
-use Rattle.rdf_stream.specs.Outputs.{conversion}
-use Rattle.rdf_stream.specs.Outputs.{output_of}
+use Rattle.rdf_stream.specs.Outputs.{conversion, of_quads, output_of}
 use Rattle.rdf_stream.proofs.DocumentLemmas.{lines_convertible}
 use Rattle.rdf_stream.proofs.SieveLemmas.{converted_good, mark_bad, mark_had, refusal, refused_bad, refused_for, refused_place}
 use Rattle.rdf_stream.proofs.sieve.Sieve.convert.Goals as goal
@@ -33,7 +32,7 @@ returns-in-Ok-convert_whole-clause-tried g c =
     let r = converted_good s.form s.limits.token s.limits.iri o.form o.graph s.is_first c.args.bytes.now c.in-Ok.kept.bytes.items
     c.convert_whole.new.drain.bytes.items c.in-Ok-convert_whole.summary c.in-Ok.ensures.none
     (c.is_marked.ensures.unmarked c.if-is_marked.false)
-    (subst (λ n. Accepts (conversion line_words x n o) c.args.bytes.now (Some c.in-Ok.kept.bytes.items)
+    (subst (λ n. Accepts (conversion of_quads line_words x n o) c.args.bytes.now (Some c.in-Ok.kept.bytes.items)
     (Some c.convert_whole.new.drain.bytes.items) c.in-Ok-convert_whole.summary) c.line_reader-reader.ensures.token given) in
     record { quads = r.0; is_good = r.1; lines = r.2; count = r.3 }
 
@@ -43,7 +42,7 @@ returns-in-Err-Refused-clause-tried g c =
     let x : Rules = record { form = s.form; iri = s.limits.iri } in
     let n = c.line_reader-reader.result.scanner.limit in
     let f = c.in-Err-Refused.fault in
-    let job = conversion line_words x n (output_of s.output) in
+    let job = conversion of_quads line_words x n (output_of s.output) in
     let stops = c.in-Err-Refused.ensures.stops x (record { convertible = lines_convertible _ _ c.requires.styled; read = c.line_reader-reader.ensures.read }) in
     let same = ap (λ k. in_lines s.form k s.limits.iri) c.line_reader-reader.ensures.token in
     let refused = refusal c.in-Err-Refused.field-0 f c.in-Err-Refused.field-0-is job (Some c.args.bytes.now) _ _ _ _ stops.1 in
