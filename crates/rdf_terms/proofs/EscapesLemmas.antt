@@ -18,35 +18,6 @@ use Rattle.rdf_terms.specs.Escapes.{run_of, stands, completes, value_after, with
 use Rattle.rdf_terms.proofs.CharsLemmas.{Next, next_char}
 use Rattle.rdf_terms.proofs.IriBytes.{iri_bytes, have-append}
 use Rattle.rdf_terms.proofs.ValuesLemmas.{backslash_excluded}
-use Rattle.std.proofs.Math.Nat.{pow-succ', one-le-pow, mul-le-mul_right, le-mul_of_pos_right, mul_assoc}
-
--- sixteen numbers fit where one digit more is to come
-digit_steps : (n left : ℕ) → (n + 1) * 16 ^ suc left ≤ 2 ^ 32 → (16 * n + 16) * 16 ^ left ≤ 2 ^ 32
-digit_steps n left h =
-    let e : (n + 1) * 16 ^ suc left ≡ (n + 1) * 16 * 16 ^ left = ap (λ k. (n + 1) * k) (pow-succ' 16 left) ∙ sym (mul_assoc (n + 1) 16 (16 ^ left)) in
-    let f : (n + 1) * 16 ≡ 16 * n + 16 = omega arith in
-    subst (λ k. k ≤ 2 ^ 32) (e ∙ ap (λ k. k * 16 ^ left) f) h
-
--- a hex digit more leaves room for the digits to come, so the code's number does not overflow
-digit_room : (n left v : ℕ) → (n + 1) * 16 ^ suc left ≤ 2 ^ 32 → v < 16 → (16 * n + v + 1) * 16 ^ left ≤ 2 ^ 32
-digit_room n left v h l =
-    let le : 16 * n + v + 1 ≤ 16 * n + 16 = omega arith in
-    omega (arith, mul-le-mul_right (16 ^ left) le, digit_steps n left h)
-
--- the sum with one hex digit more does not overflow
-digit_fits : (n left : ℕ) → (n + 1) * 16 ^ suc left ≤ 2 ^ 32 → 16 * n + 16 ≤ 2 ^ 32
-digit_fits n left h =
-    omega (arith, le-mul_of_pos_right (16 * n + 16) (one-le-pow left 16 (omega arith)), digit_steps n left h)
-
--- the same where so many digits are left
-pub left_room : (n left v : ℕ) → 0 < left → (n + 1) * 16 ^ left ≤ 2 ^ 32 → v < 16 → (16 * n + v + 1) * 16 ^ (left - 1) ≤ 2 ^ 32
-left_room n zero v p h l = absurd (omega arith)
-left_room n (suc k) v p h l = let e : k ≡ suc k - 1 = omega arith in subst (λ j. (16 * n + v + 1) * 16 ^ j ≤ 2 ^ 32) e (digit_room n k v h l)
-
--- so the sum with the next digit does not overflow either
-pub left_fits : (n left : ℕ) → 0 < left → (n + 1) * 16 ^ left ≤ 2 ^ 32 → 16 * n + 16 ≤ 2 ^ 32
-left_fits n zero p h = absurd (omega arith)
-left_fits n (suc k) p h = digit_fits n k h
 
 -- the value of a text by the move of its first character
 pub value-cons : (i : Inside) (s : EscapeState) (c : ℕ) (w : List ℕ) → value i s (c ∷ w) ≡ go (move i s c) (λ t. value i t w)
@@ -249,7 +220,7 @@ with_front-nil out None e = refl
 with_front-nil out (Some w) e = ap (λ x. Some (x ++ w)) (ap chars e ∙ chars-nil)
 
 -- the two ways to write the range of a character say the same
-std_scalar : (c : ℕ) → scalar c ≡ true → lib_scalar c ≡ true
+pub std_scalar : (c : ℕ) → scalar c ≡ true → lib_scalar c ≡ true
 std_scalar c h = grind (arith, nat_tests)
 
 -- a character that is encoded is one character

@@ -15,6 +15,7 @@ pub mod NamesLemmas
 pub mod ViewLemmas
 pub mod LocalLemmas
 pub mod PiecesLemmas
+pub mod UcharLemmas
 pub mod SinksLemmas
 pub mod IriBytes
 pub mod LookUps

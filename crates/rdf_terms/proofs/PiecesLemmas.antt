@@ -51,7 +51,7 @@ letter-takes l c r =
     r
 
 -- the number that is read digit by digit
-abbrev so_far : ℕ → List ℕ → ℕ
+abbrev pub so_far : ℕ → List ℕ → ℕ
 so_far n [] = n
 so_far n (c ∷ w) = so_far (16 * n + hex_value c) w
 
@@ -70,7 +70,7 @@ so_far-number n (c ∷ w) =
     assoc a b c = omega arith
 
 -- before the first digit it is 0
-from_none : (w : List ℕ) → so_far 0 w ≡ hex_number w
+pub from_none : (w : List ℕ) → so_far 0 w ≡ hex_number w
 from_none w = so_far-number 0 w ∙ omega arith
 
 -- it takes the digits of a UCHAR

@@ -1,10 +1,11 @@
 -- What the code's way from escape to escape in a token's inside means.
-use Rattle.std.specs.Prelude.{◌≡◌, ℕ, ◌+◌, ◌*◌, ◌≤◌, ◌==◌, ◌&&◌, nat_le, Bool, true, cond, List, ◌++◌, length, get_or, drop, Option, Some, None, option_map}
+use Rattle.std.specs.Prelude.{◌≡◌, ℕ, ◌+◌, ◌*◌, ◌≤◌, ◌==◌, ◌&&◌, ◌⊎◌, nat_le, Bool, true, cond, List, ◌++◌, length, get_or, drop, take, Option, Some, None, option_map}
 use Rattle.std.specs.Option.{MatchOption}
 use Rattle.std.specs.Str.{chars, IsUtf8}
 use Rattle.rdf_terms.specs.Classes.{has, scalar}
 use Rattle.rdf_terms.specs.Classes.Class.{hex_digit, iri_char}
-use Rattle.rdf_terms.specs.Runs.{is_unescaped}
+use Rattle.rdf_terms.specs.Pieces.{hex_number}
+use Rattle.rdf_terms.specs.Runs.{PassBetween, is_unescaped}
 use Rattle.rdf_terms.specs.declared.runs.Run.{Run}
 use Rattle.rdf_terms.specs.declared.runs.Run.TheVariants.{Iri, Unescaped}
 use Rattle.rdf_terms.specs.declared.values.Inside.{Inside as CodeInside}
@@ -25,6 +26,16 @@ run_of of_iri = Iri
 abbrev pub stands : Inside → ℕ → Bool
 stands of_string c = is_unescaped c
 stands of_iri c = has iri_char c
+
+-- a character may be meant
+abbrev pub may_mean : Inside → ℕ → Bool
+may_mean of_string c = true
+may_mean of_iri c = has iri_char c
+
+-- the character that an escape means and where it ends, where that may be meant
+abbrev pub allowed_in : Inside → Option (ℕ × ℕ) → Option (ℕ × ℕ)
+allowed_in i None = None
+allowed_in i (Some x) = cond (may_mean i x.0) (Some x) None
 
 -- the character that a move completes, where it completes one
 abbrev pub completes : Option ℕ → Move
@@ -60,9 +71,38 @@ are_four_digits bs at = has hex_digit (get_or bs at 0)
 abbrev pub four_number : List ℕ → ℕ → ℕ
 four_number bs at = 16 * (16 * (16 * hex_value (get_or bs at 0) + hex_value (get_or bs (at + 1) 0)) + hex_value (get_or bs (at + 2) 0)) + hex_value (get_or bs (at + 3) 0)
 
--- a backslash and `u` stand at a place, and four bytes after them
-abbrev pub begins_uchar : List ℕ → ℕ → Bool
-begins_uchar bs at = nat_le (at + 6) (length bs) && (get_or bs at 0 == 92 && get_or bs (at + 1) 0 == 117)
+-- a backslash and this letter stand at a place, in so many bytes from there on
+abbrev pub begins : List ℕ → ℕ → ℕ → ℕ → Bool
+begins bs at letter room = nat_le (at + room) (length bs) && (get_or bs at 0 == 92 && get_or bs (at + 1) 0 == letter)
+
+-- so many hex digits stand between two places
+pub record IsHexes (bs : List ℕ) (from count end : ℕ) : Type 0 where
+  pub ends : end ≡ from + count
+  pub within : end ≤ length bs
+  pub hexes : PassBetween (has hex_digit) bs from end
+
+-- and they write the number of a character
+pub record IsNumber (bs : List ℕ) (from count end : ℕ) : Type 0 where
+  pub hexes : IsHexes bs from count end
+  pub character : scalar (hex_number (take count (drop from bs))) ≡ true
+
+-- a UCHAR with four digits stands at a place
+pub record IsShortUchar (bs : List ℕ) (at : ℕ) : Type 0 where
+  pub slash : get_or bs at 0 ≡ 92
+  pub letter : get_or bs (at + 1) 0 ≡ 117
+  pub number : IsNumber bs (at + 2) 4 (at + 6)
+
+-- one with eight does
+pub record IsLongUchar (bs : List ℕ) (at : ℕ) : Type 0 where
+  pub slash : get_or bs at 0 ≡ 92
+  pub letter : get_or bs (at + 1) 0 ≡ 85
+  pub number : IsNumber bs (at + 2) 8 (at + 10)
+
+-- the character of the UCHAR at a place, and where it ends, or none where no UCHAR is there
+abbrev pub UcharAt : List ℕ → ℕ → Option (ℕ × ℕ) → Type 0
+UcharAt bs at r = MatchOption r ((IsShortUchar bs at → ⊥) × (IsLongUchar bs at → ⊥)) (λ x.
+    (IsShortUchar bs at × (x ≡ (hex_number (take 4 (drop (at + 2) bs)), at + 6)))
+    ⊎ (IsLongUchar bs at × (x ≡ (hex_number (take 8 (drop (at + 2) bs)), at + 10))))
 
 -- what was built before what is left
 abbrev pub with_front : List ℕ → Option (List ℕ) → Option (List ℕ)

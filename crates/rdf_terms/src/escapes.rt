@@ -1,8 +1,10 @@
-// What follows the backslash of an escape: the letters of ECHAR, and the digits of UCHAR, four at a time.
+// What follows the backslash of an escape: the letters of ECHAR, and UCHAR, its digits four at a time.
 
-ghost use Rattle.std.specs.Prelude.{◌≡◌, ◌≤◌, ◌+◌, true, IfSome, SomeIff, length};
+ghost use Rattle.std.specs.Prelude.{◌≡◌, ◌≤◌, ◌<◌, ◌+◌, true, IfSome, SomeIff, length, take, drop, option_map};
 ghost use Rattle.rdf_terms.specs.Classes.{scalar};
-ghost use Rattle.rdf_terms.specs.Escapes.{are_four_digits, begins_uchar, completes, digit_or_none, four_number};
+ghost use Rattle.rdf_terms.specs.Pieces.{hex_number};
+ghost use Rattle.rdf_terms.specs.Escapes.{are_four_digits, begins, completes, digit_or_none, four_number};
+ghost use Rattle.rdf_terms.specs.Escapes.{IsLongUchar, IsShortUchar, UcharAt};
 ghost use Rattle.rdf_terms.specs.Values.{letter_move};
 
 /// Stands for a byte that is no hex digit: more than four digits write.
@@ -55,29 +57,73 @@ pub fn letter_meaning(letter: u8) -> Option<char>
     }
 }
 
-/// Whether `\u` stands at a place, and four bytes after it.
+/// The character that the UCHAR at a place of some bytes means, and where it ends (Turtle 6.4). None where none stands
+/// there whole, or its number is no character's.
 #[inline(always)]
-pub fn begins_uchar(bytes: &[u8], at: usize) -> bool
+pub fn uchar(bytes: &[u8], at: usize) -> Option<(char, usize)>
     requires { at ≤ length bytes.now }
-    ensures { result ≡ begins_uchar bytes.now at }
+    ensures { UcharAt bytes.now at result }
 {
-    bytes.len() - at >= 6 && bytes[at] == b'\\' && bytes[at + 1] == b'u'
+    match short_uchar(bytes, at) {
+        Some(read) => Some(read),
+        None => long_uchar(bytes, at),
+    }
 }
 
-/// Whether four bytes are hex digits.
+/// The same of one with four digits.
 #[inline(always)]
-pub fn are_four_digits(bytes: &[u8], at: usize) -> bool
-    requires { at + 4 ≤ length bytes.now }
-    ensures { result ≡ are_four_digits bytes.now at }
+pub fn short_uchar(bytes: &[u8], at: usize) -> Option<(char, usize)>
+    requires { at ≤ length bytes.now }
+    ensures { SomeIff result (IsShortUchar bytes.now at) (hex_number (take 4 (drop (at + 2) bytes.now)), at + 6) }
 {
-    digit(bytes[at]) + digit(bytes[at + 1]) + digit(bytes[at + 2]) + digit(bytes[at + 3]) < NONE
+    if !begins(bytes, at, b'u', 6) {
+        return None;
+    }
+    let number = four_digits(bytes, at + 2)?;
+    with_end(char::from_u32(number), at + 6)
+}
+
+/// The same of one with eight.
+#[inline(always)]
+pub fn long_uchar(bytes: &[u8], at: usize) -> Option<(char, usize)>
+    requires { at ≤ length bytes.now }
+    ensures { SomeIff result (IsLongUchar bytes.now at) (hex_number (take 8 (drop (at + 2) bytes.now)), at + 10) }
+{
+    if !begins(bytes, at, b'U', 10) {
+        return None;
+    }
+    let front = four_digits(bytes, at + 2)?;
+    let back = four_digits(bytes, at + 6)?;
+    with_end(char::from_u32(NONE * front + back), at + 10)
+}
+
+/// Whether a backslash and this letter stand at a place, in so many bytes from there on.
+#[inline(always)]
+fn begins(bytes: &[u8], at: usize, letter: u8, room: usize) -> bool
+    requires within { at ≤ length bytes.now }
+    requires two { 2 ≤ room }
+    ensures { result ≡ begins bytes.now at letter room }
+{
+    bytes.len() - at >= room && bytes[at] == b'\\' && bytes[at + 1] == letter
+}
+
+/// A character with the place where its escape ends.
+#[inline(always)]
+fn with_end(meant: Option<char>, end: usize) -> Option<(char, usize)>
+    ensures { result ≡ option_map (λ c. (c, end)) meant }
+{
+    match meant {
+        Some(c) => Some((c, end)),
+        None => None,
+    }
 }
 
 /// The number that four bytes write, where they are hex digits.
 #[inline(always)]
-pub fn four_digits(bytes: &[u8], at: usize) -> Option<u32>
+fn four_digits(bytes: &[u8], at: usize) -> Option<u32>
     requires { at + 4 ≤ length bytes.now }
-    ensures { SomeIff result (are_four_digits bytes.now at ≡ true) (four_number bytes.now at) }
+    ensures is { SomeIff result (are_four_digits bytes.now at ≡ true) (four_number bytes.now at) }
+    ensures small { IfSome result (λ n. n < 0x10000) }
 {
     let front = 16 * digit(bytes[at]) + digit(bytes[at + 1]);
     let back = 16 * digit(bytes[at + 2]) + digit(bytes[at + 3]);

@@ -1,21 +1,20 @@
 // The characters that a token's inside means.
 
-ghost use Rattle.std.specs.Prelude.{◌≡◌, ◌↔◌, ◌^◌, ◌≤◌, ◌<◌, ◌++◌, true, false, cond, IfOk, OnOk, OnErr, IfSome};
-ghost use Rattle.std.specs.Prelude.{SomeIff, Err, Some, None, is_some, option_map, drop, length, get_or, slice_range};
+ghost use Rattle.std.specs.Prelude.{◌≡◌, ◌↔◌, ◌≤◌, ◌<◌, ◌+◌, ◌++◌, true, false, cond, IfOk, OnOk, OnErr, IfSome};
+ghost use Rattle.std.specs.Prelude.{Err, Some, None, is_some, option_map, drop, length, get_or, slice_range};
 ghost use Rattle.std.specs.Prelude.{encode_utf8};
 ghost use Rattle.std.specs.Str.{chars, IsUtf8};
 ghost use Rattle.std.specs.String.{string_bytes};
 ghost use Rattle.rdf_terms.specs.Classes.{has, scalar};
-ghost use Rattle.rdf_terms.specs.Classes.Class.{iri_char, hex_digit};
+ghost use Rattle.rdf_terms.specs.Classes.Class.{iri_char};
 ghost use Rattle.rdf_terms.specs.Runs.{IsRun, goes_over};
 ghost use Rattle.rdf_terms.specs.Terms.{all_have};
-ghost use Rattle.rdf_terms.specs.Values.{value, inside, is_fit, outside, slash, string_value, iri_value, leads, means};
-ghost use Rattle.rdf_terms.specs.Values.{fails, allowed, echar_move, digit_move, hex_value};
-ghost use Rattle.rdf_terms.specs.Escapes.{inside_of, run_of, completes, IsRead, Reads, IsPut, IsPutUpTo};
+ghost use Rattle.rdf_terms.specs.Values.{value, inside, is_fit, outside, string_value, iri_value, leads, echar_move};
+ghost use Rattle.rdf_terms.specs.Escapes.{inside_of, run_of, allowed_in, completes, may_mean, IsRead, Reads, IsPut, IsPutUpTo};
 
 use crate::Kind;
-use crate::classes::{hex_value, is_iri_char};
-use crate::escapes::{begins_uchar, four_digits, letter_meaning};
+use crate::classes::is_iri_char;
+use crate::escapes::{letter_meaning, short_uchar, uchar};
 use crate::runs::{Run, near_run_end, run_end};
 use std::alloc::{AllocError, Allocator};
 
@@ -255,7 +254,7 @@ fn put_escapes<A: Allocator>(
         IsPut (inside_of inside) text.now (string_bytes out.old) (string_bytes out.new) at r) }
     ensures on { IfOk result (λ r. IfSome r (λ end. at < end)) }
 {
-    match short_uchar(inside, text.as_bytes(), at) {
+    match short_number(inside, text.as_bytes(), at) {
         Some((meant, next)) => {
             push_char(out, meant)?;
             Ok(Some(put_row(out, inside, text, next)?))
@@ -278,7 +277,7 @@ fn put_row<A: Allocator>(
         IsPutUpTo (inside_of inside) text.now (string_bytes out.old) (string_bytes out.new) from end) }
 {
     let mut at = from;
-    while let Some((meant, next)) = short_uchar(inside, text.as_bytes(), at) {
+    while let Some((meant, next)) = short_number(inside, text.as_bytes(), at) {
         push_char(out, meant)?;
         at = next;
     }
@@ -323,30 +322,13 @@ fn put_escape<A: Allocator>(
 
 /// What a UCHAR of four digits means that stands at a place, and where it ends, if it is not bad.
 #[inline(always)]
-fn short_uchar(inside: Inside, text: &[u8], at: usize) -> Option<(char, usize)>
+fn short_number(inside: Inside, text: &[u8], at: usize) -> Option<(char, usize)>
     requires within { at ≤ length text.now }
     requires utf8 { IsUtf8 (drop at text.now) }
     ensures read { IfSome result (λ x. IsRead (inside_of inside) (leads outside) text.now at x.0 x.1) }
     ensures on { IfSome result (λ x. at < x.1) }
 {
-    if !begins_uchar(text, at) {
-        return None;
-    }
-    match four_digits(text, at + 2) {
-        Some(number) => with_end(numbered(inside, number), at + 6),
-        None => None,
-    }
-}
-
-/// A character with the place where its escape ends.
-#[inline(always)]
-fn with_end(meant: Option<char>, end: usize) -> Option<(char, usize)>
-    ensures { result ≡ option_map (λ c. (c, end)) meant }
-{
-    match meant {
-        Some(c) => Some((c, end)),
-        None => None,
-    }
+    allowed(inside, short_uchar(text, at))
 }
 
 /// What stands at a place as it is, up to the next escape: the place of that.
@@ -393,37 +375,24 @@ fn escape(inside: Inside, text: &[u8], at: usize) -> Option<(char, usize)>
     if text[at] != b'\\' {
         return None;
     }
-    after_backslash(inside, text, at + 1)
+    after_backslash(inside, text, at)
 }
 
-/// The same after its backslash.
+/// The same of one that begins with a backslash.
 #[inline(always)]
 fn after_backslash(inside: Inside, text: &[u8], at: usize) -> Option<(char, usize)>
-    requires within { at ≤ length text.now }
-    requires utf8 { IsUtf8 (drop at text.now) }
-    ensures { Reads (inside_of inside) (leads slash) text.now at result }
-{
-    if at == text.len() {
-        return None;
-    }
-    match letter(inside, text[at]) {
-        Some(c) => Some((c, at + 1)),
-        None => after_no_letter(inside, text, at),
-    }
-}
-
-/// The same where what follows the backslash is no letter of ECHAR.
-#[inline(always)]
-fn after_no_letter(inside: Inside, text: &[u8], at: usize) -> Option<(char, usize)>
     requires within { at < length text.now }
     requires utf8 { IsUtf8 (drop at text.now) }
-    requires none { echar_move (inside_of inside) (get_or text.now at 0) ≡ fails }
-    ensures { Reads (inside_of inside) (leads slash) text.now at result }
+    requires backslash { get_or text.now at 0 ≡ 92 }
+    ensures read { Reads (inside_of inside) (leads outside) text.now at result }
+    ensures on { IfSome result (λ x. at < x.1) }
 {
-    match text[at] {
-        b'u' => number(inside, text, at + 1, 4),
-        b'U' => number(inside, text, at + 1, 8),
-        _ => None,
+    if at + 1 == text.len() {
+        return None;
+    }
+    match letter(inside, text[at + 1]) {
+        Some(c) => Some((c, at + 2)),
+        None => allowed(inside, uchar(text, at)),
     }
 }
 
@@ -439,56 +408,13 @@ fn letter(inside: Inside, byte: u8) -> Option<char>
     }
 }
 
-/// The character whose number so many hex digits write, and where they end.
+/// An escape, where what it means may be meant.
 #[inline(always)]
-fn number(inside: Inside, text: &[u8], from: usize, count: usize) -> Option<(char, usize)>
-    requires within { from ≤ length text.now }
-    requires utf8 { IsUtf8 (drop from text.now) }
-    requires room { 16 ^ count ≤ 2 ^ 32 }
-    ensures { Reads (inside_of inside) (digit_move (inside_of inside) count 0) text.now from result }
+fn allowed(inside: Inside, escape: Option<(char, usize)>) -> Option<(char, usize)>
+    ensures { result ≡ allowed_in (inside_of inside) escape }
 {
-    let mut at = from;
-    let mut left = count;
-    let mut number = 0;
-    while left > 0 {
-        let Some(value) = digit_at(text, at) else {
-            return None;
-        };
-        number = 16 * number + value;
-        at += 1;
-        left -= 1;
-    }
-    match numbered(inside, number) {
-        Some(c) => Some((c, at)),
-        None => None,
-    }
-}
-
-/// The value of the hex digit at a place, where there is one.
-#[inline(always)]
-fn digit_at(text: &[u8], at: usize) -> Option<u32>
-    requires { at ≤ length text.now }
-    ensures value { SomeIff result ((at < length text.now)
-        × (has hex_digit (get_or text.now at 0) ≡ true)) (hex_value (get_or text.now at 0)) }
-    ensures small { IfSome result (λ v. v < 16) }
-{
-    if at == text.len() {
-        return None;
-    }
-    match hex_value(text[at] as char) {
-        Some(value) => Some(u32::from(value)),
-        None => None,
-    }
-}
-
-/// The character of a number, where there is one that may be meant.
-#[inline(always)]
-fn numbered(inside: Inside, number: u32) -> Option<char>
-    ensures is { completes result ≡ digit_move (inside_of inside) 0 number }
-    ensures character { IfSome result (λ c. scalar c ≡ true) }
-{
-    match char::from_u32(number) {
-        Some(c) if may_mean(inside, c) => Some(c),
+    match escape {
+        Some((c, end)) if may_mean(inside, c) => Some((c, end)),
         _ => None,
     }
 }
@@ -496,7 +422,7 @@ fn numbered(inside: Inside, number: u32) -> Option<char>
 /// Whether a character may be meant: an IRI has IRI characters alone.
 #[inline(always)]
 fn may_mean(inside: Inside, c: char) -> bool
-    ensures { cond result (means c) fails ≡ allowed (inside_of inside) c }
+    ensures { result ≡ may_mean (inside_of inside) c }
 {
     match inside {
         Inside::OfString => true,

@@ -1,27 +1,26 @@
 -- Plain bytes and whole escapes of a string or an IRI have a meaning, whatever text comes after them.
-use Rattle.std.proofs.Common.{◌≡◌, ℕ, ◌+◌, ◌-◌, ◌<◌, ◌≤◌, ◌==◌, Bool, true, false, not, List, [], ◌∷◌, ◌++◌, inl, inr, is_some, get_or, take, drop, refl, sym, ap, ◌∙◌, subst, arith, ⊎_elim, append_assoc, length, length-drop}
+use Rattle.std.proofs.Common.{◌≡◌, ℕ, ◌+◌, ◌-◌, ◌<◌, ◌≤◌, ◌==◌, Bool, true, false, not, List, [], ◌∷◌, ◌++◌, Option, Some, None, inl, inr, is_some, get_or, take, drop, refl, sym, ap, ◌∙◌, subst, arith, ⊎_elim, append_assoc, length, length-drop}
 use Rattle.std.specs.Prelude.{slice_range}
-use Rattle.std.proofs.lemmas.Bool.{and_from, and_parts, cases_Bool, cases_lt, eqb-true, false≢true}
+use Rattle.std.proofs.lemmas.Bool.{agree_below_at, cases_Bool, cases_lt, eqb-true, false≢true}
 use Rattle.std.proofs.lemmas.Bool.Decides.{nat_tests}
 use Rattle.std.proofs.lemmas.List.{append-nil, get_or-drop, get_or-take, length-take-le}
 use Rattle.std.proofs.lemmas.List.Folds.{drop_split}
 use Rattle.std.proofs.Math.Seq.{take-append-add}
 use Rattle.rdf_terms.specs.Classes.{has}
 use Rattle.rdf_terms.specs.Classes.Class.{hex_digit, iri_char}
-use Rattle.rdf_terms.specs.Escapes.{stands}
+use Rattle.rdf_terms.specs.Escapes.{completes, stands, IsHexes, IsNumber}
 use Rattle.rdf_terms.specs.Pieces.{IsNumberEscape, MayMean, hex_number}
 use Rattle.rdf_terms.specs.declared.runs.Run.{Run}
 use Rattle.rdf_terms.specs.Runs.{IsRun, PassBetween, goes_over, iri_byte, is_unescaped}
 use Rattle.rdf_terms.specs.Terms.{all_have}
-use Rattle.rdf_terms.specs.Values.{Inside, of_string, of_iri, outside, slash, Move, means, move, go, value, string_value}
+use Rattle.rdf_terms.specs.Values.{Inside, of_string, of_iri, outside, slash, Move, means, letter_move, move, go, value, string_value}
 use Rattle.rdf_terms.proofs.EscapesLemmas.{is_some-map, slice_passes, value_stands}
 use Rattle.rdf_terms.proofs.PiecesLemmas.{number_escape-takes}
 use Rattle.rdf_terms.proofs.ValueBytes.{high_byte_stands}
 use Rattle.rdf_tokens.specs.declared.states.text.Quote.{Quote}
 use Rattle.rdf_tokens.specs.declared.states.text.Quote.TheVariants.{Double, Single}
 use Rattle.rdf_tokens.specs.Quick.{long_run, short_run}
-use Rattle.rdf_tokens.specs.Escapes.{is_hex, is_letter, IsEchar, IsEscapeThen, IsHexes, IsNumber, IsUchar, IsIriUchar, FitsIn, FitsInString, FitsInIri}
-use Rattle.rdf_tokens.proofs.EscapeNumbers.{digits-hex, digits-length}
+use Rattle.rdf_tokens.specs.Escapes.{is_letter, IsEchar, IsEscapeThen, IsUchar, IsIriUchar, FitsIn, FitsInString, FitsInIri}
 use Rattle.rdf_tokens.proofs.RestEscapes.{letter_below, implied, uchar_from}
 
 -- the bytes between two places, cut at one between them
@@ -112,6 +111,14 @@ abbrev is_means : Move → Bool
 is_means (means c) = true
 is_means m = false
 
+-- a letter of ECHAR means a character, and no other byte does, by a test of each byte
+pub letter_tells : (b : ℕ) (o : Option ℕ) → b < 256 → completes o ≡ letter_move b → is_some o ≡ is_letter b
+letter_tells b o l e = some o ∙ (ap is_means e ∙ agree_below_at (λ b. is_means (letter_move b)) is_letter 256 b refl l)
+  where
+    some : (o : Option ℕ) → is_some o ≡ is_means (completes o)
+    some None = refl
+    some (Some c) = refl
+
 -- that character
 meant : (m : Move) → is_means m ≡ true → (c : ℕ) × (m ≡ means c)
 meant (means c) e = (c, refl)
@@ -155,16 +162,6 @@ fits_echar bs at end e = record {
       ap (λ p. is_some (string_value (p ++ w))) (two-at bs at end 92 l e.ends e.within e.slash refl) ∙ letter_value l w e.letter;
 }
 
--- a hex digit is one of the grammar's
-pub has_hex : (c : ℕ) → is_hex c ≡ true → has hex_digit c ≡ true
-unfolding has
-has_hex c h = grind (arith, nat_tests)
-
--- hex digits are
-have_hex : (w : List ℕ) → all_have is_hex w ≡ true → all_have (has hex_digit) w ≡ true
-have_hex [] h = refl
-have_hex (c ∷ w) h = let p = and_parts (is_hex c) (all_have is_hex w) h in and_from (has hex_digit c) _ (has_hex c p.0) (have_hex w p.1)
-
 -- what is an escape by number
 number_value : (i : Inside) (piece : List ℕ) (c : ℕ) (w : List ℕ) → IsNumberEscape i piece c →
     is_some (value i outside (piece ++ w)) ≡ is_some (value i outside w)
@@ -181,6 +178,18 @@ escape-at bs at count end a b x y n =
     ∙ (ap (λ p. p ++ slice_range bs (at + 2) end) (two-at bs at (at + 2) a b refl (omega arith) x y)
     ∙ ap (λ k. a ∷ b ∷ take k (drop (at + 2) bs)) count_is)
 
+-- the digits between two places
+module _ (bs : List ℕ) (from count end : ℕ) (h : IsHexes bs from count end) where
+  -- there are so many
+  digits-length : length (take count (drop from bs)) ≡ count
+  digits-length = let w = h.within in let e = h.ends in length-take-le count (drop from bs) (omega (arith, length-drop from bs))
+
+  -- they are hex digits
+  digits-hex : all_have (has hex_digit) (take count (drop from bs)) ≡ true
+  digits-hex = let w = h.within in
+      let e = h.ends in
+      slice_passes (has hex_digit) bs from count (omega arith) (subst (PassBetween (has hex_digit) bs from) e h.hexes)
+
 -- a UCHAR whose character may be meant
 fits_number : (i : Inside) (bs : List ℕ) (at end : ℕ) (u : IsUchar bs at end) → MayMean i (hex_number (slice_range bs (at + 2) end)) → FitsIn i bs at end
 fits_number i bs at end u m = record {
@@ -192,13 +201,13 @@ fits_number i bs at end u m = record {
       let n = g.1 in
       ap (λ p. is_some (value i outside (p ++ w))) (escape-at bs at 4 end 92 117 u.slash g.0 n)
       ∙ number_value i (92 ∷ 117 ∷ hexes) (hex_number hexes) w
-      (hexes, inl (refl, digits-length bs (at + 2) 4 end n.hexes), have_hex hexes (digits-hex bs (at + 2) 4 end n.hexes), refl, n.character, may 4 n.hexes))
+      (hexes, inl (refl, digits-length bs (at + 2) 4 end n.hexes), digits-hex bs (at + 2) 4 end n.hexes, refl, n.character, may 4 n.hexes))
       (λ g.
       let hexes = take 8 (drop (at + 2) bs) in
       let n = g.1 in
       ap (λ p. is_some (value i outside (p ++ w))) (escape-at bs at 8 end 92 85 u.slash g.0 n)
       ∙ number_value i (92 ∷ 85 ∷ hexes) (hex_number hexes) w
-      (hexes, inr (refl, digits-length bs (at + 2) 8 end n.hexes), have_hex hexes (digits-hex bs (at + 2) 8 end n.hexes), refl, n.character, may 8 n.hexes))
+      (hexes, inr (refl, digits-length bs (at + 2) 8 end n.hexes), digits-hex bs (at + 2) 8 end n.hexes, refl, n.character, may 8 n.hexes))
       u.digits;
 }
   where

@@ -56,9 +56,7 @@ pub mod LimitLemmas
 mod RestLemmas
 mod RestStates
 mod RestEscapes
-mod EscapeNumbers
 mod FitEscapes
-mod IriEscapes
 mod FlatLemmas
 mod QuickLemmas
 mod StringLemmas

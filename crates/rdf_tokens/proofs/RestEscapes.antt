@@ -8,6 +8,9 @@ use Rattle.std.proofs.lemmas.Str.{encode_ascii, len_utf8_ascii}
 use Rattle.rdf_terms.specs.declared.kind.Dialect.{Dialect}
 use Rattle.rdf_terms.specs.declared.kind.Kind.{Kind}
 use Rattle.rdf_terms.specs.declared.runs.Run.{Run}
+use Rattle.rdf_terms.specs.Classes.{has}
+use Rattle.rdf_terms.specs.Classes.Class.{hex_digit}
+use Rattle.rdf_terms.specs.Escapes.{IsHexes}
 use Rattle.rdf_terms.specs.Runs.{PassBetween}
 use Rattle.rdf_tokens.specs.declared.states.machine.State.{State}
 use Rattle.rdf_tokens.specs.declared.states.machine.State.TheVariants as state
@@ -27,7 +30,7 @@ use Rattle.rdf_tokens.specs.Sorts.{sort_by}
 use Rattle.rdf_tokens.specs.Tokens.{with_length, only_long, three_quotes}
 use Rattle.rdf_tokens.specs.Iri as iri
 use Rattle.rdf_tokens.specs.Text as text
-use Rattle.rdf_tokens.specs.Escapes.{is_hex, is_letter, IsHexes, IsNumber, IsEchar, IsEscapeThen, IsUchar, RestsInIri}
+use Rattle.rdf_tokens.specs.Escapes.{is_hex, is_letter, IsEchar, IsEscapeThen, IsUchar, RestsInIri}
 use Rattle.rdf_tokens.proofs.NoNamesLemmas.{no_long}
 use Rattle.rdf_tokens.proofs.RestLemmas.{rests-more}
 use Rattle.rdf_tokens.proofs.RestStates.{rests_short, rests_long}
@@ -62,7 +65,12 @@ record Numbers (s e : State) (h : ℕ → State) : Type 0 where
 pub hex_below : (c : ℕ) → is_hex c ≡ true → c < 128
 hex_below c h = ⊎_elim (λ (l : c < 128). l) (λ l. absurd (let n : is_hex c ≡ false = grind (arith, nat_tests) in false≢true (sym n ∙ h))) (cases_lt c 128)
 
--- so is the letter after a backslash
+-- a hex digit of the grammar is one
+hex_of : (c : ℕ) → has hex_digit c ≡ true → is_hex c ≡ true
+unfolding has
+hex_of c h = grind (arith, nat_tests)
+
+-- what follows a backslash is ASCII too
 pub letter_below : (c : ℕ) → is_letter c ≡ true → c < 128
 letter_below c h = ⊎_elim (λ (l : c < 128). l) (λ l. absurd (let n : is_letter c ≡ false = grind (arith, nat_tests) in false≢true (sym n ∙ h))) (cases_lt c 128)
 
@@ -90,7 +98,7 @@ module _ (s e : State) (h : ℕ → State) (f : Numbers s e h) (o : State) (bs :
       let begun = byte_on d bs (at + 1) e (h n) b (omega arith) (omega (arith, y)) (ap (step d e) y ∙ t) (f.none_yet n) after in
       let two : at + 1 + 1 ≡ at + 2 = omega arith in
       subst (λ k. Reached d bs k s b) (sym z)
-      (hexes_on s e h f d bs b n (at + 2) (omega arith) (subst (PassBetween is_hex bs (at + 2)) z g.hexes) (subst (λ k. Reached d bs k (h n) b) two begun))
+      (hexes_on s e h f d bs b n (at + 2) (omega arith) (λ k x y. hex_of (get_or bs k 0) (g.hexes k x (omega arith))) (subst (λ k. Reached d bs k (h n) b) two begun))
 
   uchar_on : IsUchar bs at end → Reached d bs at o b → Reached d bs end s b
   uchar_on u r = ⊎_elim
@@ -117,10 +125,6 @@ uchar_from bs at end u = ⊎_elim
     (λ g. (omega (arith, g.1.hexes.ends), g.1.hexes.within))
     (λ g. (omega (arith, g.1.hexes.ends), g.1.hexes.within))
     u.digits
-
--- its digits
-pub uchar_digits : (bs : List ℕ) (at end : ℕ) → IsUchar bs at end → IsNumber bs (at + 2) 4 end ⊎ IsNumber bs (at + 2) 8 end
-uchar_digits bs at end u = ⊎_elim (λ g. inl g.1) (λ g. inr g.1) u.digits
 
 -- so a UCHAR leads back to the state before it
 rests_uchar : (s e : State) (h : ℕ → State) → Numbers s e h → (bs : List ℕ) (at end : ℕ) → IsUchar bs at end → Rests s bs at end

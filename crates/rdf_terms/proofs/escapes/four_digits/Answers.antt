@@ -2,8 +2,8 @@ use Rattle.std.proofs.Common.{arith}
 use Rattle.rdf_terms.proofs.FourDigits.{all_small}
 use Rattle.rdf_terms.proofs.escapes.four_digits.Goals as goal
 
-pub returns-else-number-lt-NONE : goal.returns-else-number-lt-NONE
-returns-else-number-lt-NONE c h =
+pub returns-else-number-lt-NONE-clause-is : goal.returns-else-number-lt-NONE-clause-is
+returns-else-number-lt-NONE-clause-is c h =
     let s = all_small _ _ _ _ h in
     let a = c.digit.ensures.value in
     let b = c.digit-2.ensures.value in

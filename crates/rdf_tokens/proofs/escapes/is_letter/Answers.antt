@@ -1,5 +1,5 @@
 use Rattle.std.proofs.Common.{◌∙◌}
-use Rattle.rdf_tokens.proofs.EscapeNumbers.{letter_tells}
+use Rattle.rdf_tokens.proofs.FitEscapes.{letter_tells}
 use Rattle.rdf_tokens.proofs.escapes.is_letter.Goals as goal
 
 pub returns : goal.returns
