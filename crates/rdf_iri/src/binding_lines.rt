@@ -1,12 +1,11 @@
 // What a line of a file of bindings says.
 
-ghost use Rattle.std.specs.Prelude.{◌≡◌, ◌≤◌, ◌↔◌, ◌++◌, ◌∷◌, [], ℕ, List, Bool, true, MatchOption, MatchBool, length};
+ghost use Rattle.std.specs.Prelude.{◌≡◌, ◌≤◌, ◌↔◌, ◌++◌, ◌∷◌, [], ℕ, List, true, MatchOption, length};
 ghost use Rattle.std.specs.Prelude.{take, drop};
 ghost use Rattle.std.specs.Str.{chars};
 ghost use Rattle.rdf_terms.specs.declared.kind.Dialect.TheVariants.{Turtle};
 ghost use Rattle.rdf_terms.specs.declared.kind.Kind.TheVariants.{PnameNs, Prefix};
 ghost use Rattle.rdf_terms.specs.Terminals.{Shape};
-ghost use Rattle.rdf_terms.specs.Terms.{IsIri};
 ghost use Rattle.rdf_iri.specs.Cuts.{past};
 ghost use Rattle.rdf_iri.specs.BindingLines.{is_blank, AreBlanks, BeginsBlank, SaysNothing, IsPlain, IsBinding};
 ghost use Rattle.rdf_iri.specs.BindingSteps.{IsComment, NameThen, IriThen, PairThen, EndsAtDot, Declares};

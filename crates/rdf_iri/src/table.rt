@@ -1,7 +1,7 @@
 // Where prefixes stand in a row of many, by a hash of their bytes.
 
-ghost use Rattle.std.specs.Prelude.{◌≡◌, ◌≤◌, ◌<◌, ◌+◌, ◌*◌, ◌^◌, ◌%◌, ℕ, List, true, None, MatchBool, MatchOption};
-ghost use Rattle.std.specs.Prelude.{IfOk, IfSome, length, slice_index, ⊤};
+ghost use Rattle.std.specs.Prelude.{◌≡◌, ◌≤◌, ◌<◌, ◌+◌, ◌*◌, ◌^◌, ◌%◌, ℕ, true, None, MatchBool, MatchOption};
+ghost use Rattle.std.specs.Prelude.{IfOk, IfSome, length, ⊤};
 ghost use Rattle.std.specs.Option.{is_some};
 ghost use Rattle.std.specs.Str.{chars};
 ghost use Rattle.rdf_iri.specs.Scope.{bound_to};

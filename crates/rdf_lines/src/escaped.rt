@@ -1,7 +1,7 @@
 // Lines whose strings and IRIs may have any escapes.
 
 ghost use Rattle.std.specs.Prelude.{◌≡◌, ◌<◌, ◌≤◌, ◌+◌, ◌++◌, ◌∷◌, ℕ, false, drop, length, take, option_map, true};
-ghost use Rattle.std.specs.Prelude.{IfOk, IfSome, OnErr};
+ghost use Rattle.std.specs.Prelude.{IfOk, OnErr};
 ghost use Rattle.std.specs.Str.{chars, IsUtf8};
 ghost use Rattle.rdf_lines.specs.Canonical.{end_text};
 ghost use Rattle.rdf_lines.specs.Fronts.{IriStands};

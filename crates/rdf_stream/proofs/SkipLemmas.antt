@@ -27,7 +27,7 @@ use Rattle.rdf_stream.specs.declared.fault.StreamFault.TheVariants as fault
 use Rattle.rdf_stream.specs.declared.output.OutputView.{OutputView}
 use Rattle.rdf_stream.specs.declared.sieve.LineStart.{LineStart}
 use Rattle.rdf_stream.specs.declared.sieve.Sieve.{Sieve}
-use Rattle.rdf_stream.specs.declared.skips.Held.{Held}
+use Rattle.rdf_stream.specs.declared.skips.Sifter.{Sifter}
 use Rattle.rdf_stream.specs.declared.skips.SkipSummary.{SkipSummary}
 use Rattle.rdf_stream.specs.Converts.{IsConverted}
 use Rattle.rdf_stream.specs.Devices.{AppendsFront, HasGiven, Reading}
@@ -145,7 +145,7 @@ room_behind at part front n room =
 
 module _ {A D B : Type 0} (takes : drain.Ghosts D) (sets : drain.Ghosts B) where
   -- nothing was read
-  pub skipping_start : (first : Held A × D × B) → Begins takes sets first → first.0.part.items ≡ [] → first.0.bytes ≡ 0 → first.0.line ≡ 1 →
+  pub skipping_start : (first : Sifter A × D × B) → Begins takes sets first → first.0.part.items ≡ [] → first.0.bytes ≡ 0 → first.0.line ≡ 1 →
       takes.has_failed first.1 ≡ false → sets.has_failed first.2 ≡ false → IsSkipping takes sets first [] first
   skipping_start first b p n l live bad = record {
     begins = b;
@@ -160,7 +160,7 @@ module _ {A D B : Type 0} (takes : drain.Ghosts D) (sets : drain.Ghosts B) where
   }
 
   -- a piece that ends no line
-  pub front_none : (start : Place) (old : Held A) (d : D) (b : B) (front : List ℕ) → length front ≡ 0 → takes.has_failed d ≡ false →
+  pub front_none : (start : Place) (old : Sifter A) (d : D) (b : B) (front : List ℕ) → length front ≡ 0 → takes.has_failed d ≡ false →
       sets.has_failed b ≡ false → SiftsFront takes sets start old d b front old d b
   front_none start old d b [] e live bad = record {
     lines = [];
@@ -174,7 +174,7 @@ module _ {A D B : Type 0} (takes : drain.Ghosts D) (sets : drain.Ghosts B) where
   front_none start old d b (c ∷ w) e live bad = absurd (let z : length (c ∷ w) ≡ 0 = e in omega arith)
 
   -- a piece whose lines were sifted
-  pub front_sifted : (start : Place) (old new : Held A) (d d' : D) (b b' : B) (front block : List ℕ) → block ≡ old.part.items ++ front →
+  pub front_sifted : (start : Place) (old new : Sifter A) (d d' : D) (b b' : B) (front block : List ℕ) → block ≡ old.part.items ++ front →
       IsEndedFront front → 0 < length front →
       HasSifted takes sets start old.sieve d b (split_lines block) new.sieve d' b' → new.part.items ≡ [] → new.bytes ≡ old.bytes →
       new.line ≡ old.line → SiftsFront takes sets start old d b front new d' b'
@@ -189,7 +189,7 @@ module _ {A D B : Type 0} (takes : drain.Ghosts D) (sets : drain.Ghosts B) where
   }
 
   -- not all of them were
-  pub front_fails : (start : Place) (f : StreamFault) (old new : Held A) (d d' : D) (b b' : B) (front block : List ℕ) →
+  pub front_fails : (start : Place) (f : StreamFault) (old new : Sifter A) (d d' : D) (b b' : B) (front block : List ℕ) →
       block ≡ old.part.items ++ front → IsEndedFront front → 0 < length front →
       SiftFails takes sets f start old.sieve d b (split_lines block) new.sieve d' b' → SiftFrontFails takes sets f start old d b front new d' b'
   front_fails start f old new d d' b b' front block e ended l h = record {
@@ -199,7 +199,7 @@ module _ {A D B : Type 0} (takes : drain.Ghosts D) (sets : drain.Ghosts B) where
   }
 
   -- A piece that begins with a line: its lines were sifted where they stand.
-  pub front_direct : (start : Place) (old new : Held A) (d d' : D) (b b' : B) (front : List ℕ) → old.part.items ≡ [] → IsEndedFront front →
+  pub front_direct : (start : Place) (old new : Sifter A) (d d' : D) (b b' : B) (front : List ℕ) → old.part.items ≡ [] → IsEndedFront front →
       HasSifted takes sets start old.sieve d b (split_lines front) new.sieve d' b' → new.part.items ≡ old.part.items →
       new.bytes ≡ old.bytes → new.line ≡ old.line → SiftsFront takes sets start old d b front new d' b'
   front_direct start old new d d' b b' [] none ended h p n k = record {
@@ -215,14 +215,14 @@ module _ {A D B : Type 0} (takes : drain.Ghosts D) (sets : drain.Ghosts B) where
       front_sifted start old new d d' b b' (c ∷ w) (c ∷ w) (ap (λ u. u ++ c ∷ w) (sym none)) ended (omega arith) h (p ∙ none) n k
 
   -- not all of them were
-  pub direct_fails : (start : Place) (f : StreamFault) (old new : Held A) (d d' : D) (b b' : B) (front : List ℕ) → old.part.items ≡ [] → IsEndedFront front →
+  pub direct_fails : (start : Place) (f : StreamFault) (old new : Sifter A) (d d' : D) (b b' : B) (front : List ℕ) → old.part.items ≡ [] → IsEndedFront front →
       SiftFails takes sets f start old.sieve d b (split_lines front) new.sieve d' b' → SiftFrontFails takes sets f start old d b front new d' b'
   direct_fails start f old new d d' b b' [] none ended h = record { lines = []; split = λ more. (split_lines (old.part.items ++ more), refl); fails = h }
   direct_fails start f old new d d' b b' (c ∷ w) none ended h =
       front_fails start f old new d d' b b' (c ∷ w) (c ∷ w) (ap (λ u. u ++ c ∷ w) (sym none)) ended (omega arith) h
 
   -- The line of which a part was held is not sifted.
-  pub line_stops : (start : Place) (f : StreamFault) (old new : Held A) (d d' : D) (b b' : B) (front : List ℕ) (n : ℕ) →
+  pub line_stops : (start : Place) (f : StreamFault) (old new : Sifter A) (d d' : D) (b b' : B) (front : List ℕ) (n : ℕ) →
       IsEndedFront front → 0 < length front → IsEndedFront (take n front) → 0 < length (take n front) →
       SiftFails takes sets f start old.sieve d b (split_lines (old.part.items ++ take n front)) new.sieve d' b' →
       SiftFrontFails takes sets f start old d b front new d' b'
@@ -232,7 +232,7 @@ module _ {A D B : Type 0} (takes : drain.Ghosts D) (sets : drain.Ghosts B) where
       (fails_more takes sets start f old.sieve new.sieve d d' b b' (split_lines (old.part.items ++ take n front)) (split_lines (drop n front)) h))
 
   -- It was sifted, and the others behind it.
-  module _ (start next : Place) (old mid new : Held A) (d dm d' : D) (b bm b' : B) (front : List ℕ) (n : ℕ) (ended : IsEndedFront front)
+  module _ (start next : Place) (old mid new : Sifter A) (d dm d' : D) (b bm b' : B) (front : List ℕ) (n : ℕ) (ended : IsEndedFront front)
       (l : 0 < length front) (line : IsEndedFront (take n front)) (m : 0 < length (take n front))
       (h : HasSifted takes sets start old.sieve d b (split_lines (old.part.items ++ take n front)) mid.sieve dm bm)
       (at : next ≡ place_after start (old.part.items ++ take n front)) where
@@ -257,14 +257,14 @@ module _ {A D B : Type 0} (takes : drain.Ghosts D) (sets : drain.Ghosts B) where
         (split_lines (drop n front)) h
         (subst (λ (p : Place). SiftFails takes sets f p mid.sieve dm bm (split_lines (drop n front)) new.sieve d' b') past k)))
 
-  module _ (first : Held A × D × B) (bytes : List ℕ) (old : Held A) (d : D) (b : B) (i : IsSkipping takes sets first bytes (old, d, b)) where
+  module _ (first : Sifter A × D × B) (bytes : List ℕ) (old : Sifter A) (d : D) (b : B) (i : IsSkipping takes sets first bytes (old, d, b)) where
     -- what was sifted from the first line on
     from_first : (lines : List (List ℕ)) (s t : Option (List ℕ)) (u v : Option (List ℕ)) → PutsAside Appends (job_of first.0.sieve)
         first.0.sieve.is_first first_place lines s t u v → PutsAside Appends (job_of first.0.sieve) true first_place lines s t u v
     from_first lines s t u v h = subst (λ f. PutsAside Appends (job_of first.0.sieve) f first_place lines s t u v) i.begins.fresh h
 
     -- where not all lines of some bytes were sifted, the run halts
-    halts_of : (f : StreamFault) (all : List ℕ) (e : Bool) (lines later : List (List ℕ)) (new : Held A) (d' : D) (b' : B) → split_lines all ≡ lines ++ later →
+    halts_of : (f : StreamFault) (all : List ℕ) (e : Bool) (lines later : List (List ℕ)) (new : Sifter A) (d' : D) (b' : B) → split_lines all ≡ lines ++ later →
         SiftFails takes sets f first_place first.0.sieve first.1 first.2 lines new.sieve d' b' → SkipHalts takes sets f first all e (new, d', b')
     halts_of fault.Write all e lines later new d' b' s (failed, ahead, more, split, q) = (
       failed,
@@ -326,11 +326,11 @@ module _ {A D B : Type 0} (takes : drain.Ghosts D) (sets : drain.Ghosts B) where
         let n : old.bytes ≡ length bytes = i.count in omega (arith, s, n)
 
     module _ (piece : List ℕ) where
-      abbrev next : Held A
+      abbrev next : Sifter A
       next = record old { bytes = old.bytes + length piece; line = old.line + feeds piece }
 
       -- too many bytes
-      pub count_halts : (f : StreamFault) (new : Held A) → RefusesPiece f old.bytes old.line piece → new ≡ old →
+      pub count_halts : (f : StreamFault) (new : Sifter A) → RefusesPiece f old.bytes old.line piece → new ≡ old →
           SkipHalts takes sets f first (bytes ++ piece) false (new, d, b)
       count_halts (fault.Refused f) new (reason, many, offset, line) e = (
         i.sifted.live,
@@ -348,7 +348,7 @@ module _ {A D B : Type 0} (takes : drain.Ghosts D) (sets : drain.Ghosts B) where
       count_halts fault.Write new h e = absurd h
       count_halts fault.Memory new h e = absurd h
 
-      module _ (mid : Held A) (counted_on : mid ≡ next) (front rest : List ℕ) (whole : piece ≡ front ++ rest) where
+      module _ (mid : Sifter A) (counted_on : mid ≡ next) (front rest : List ℕ) (whole : piece ≡ front ++ rest) where
         -- the lines of all bytes
         lines_of_all : (more : List ℕ) → split_lines ((bytes ++ piece) ++ more) ≡ i.ahead ++ split_lines (old.part.items ++ (front ++ (rest ++ more)))
         lines_of_all more =
@@ -359,7 +359,7 @@ module _ {A D B : Type 0} (takes : drain.Ghosts D) (sets : drain.Ghosts B) where
         lines_without = i.lines piece ∙ ap (λ w. i.ahead ++ split_lines (old.part.items ++ w)) whole
 
         -- a fault while the lines of a piece are sifted
-        pub front_halts : (f : StreamFault) (start : Place) (new : Held A) (d' : D) (b' : B) → start ≡ place_past first_place i.ahead →
+        pub front_halts : (f : StreamFault) (start : Place) (new : Sifter A) (d' : D) (b' : B) → start ≡ place_past first_place i.ahead →
             SiftFrontFails takes sets f start mid d b front new d' b' →
             SkipHalts takes sets f first (bytes ++ piece) false (new, d', b')
         front_halts f start new d' b' at h' =
@@ -372,7 +372,7 @@ module _ {A D B : Type 0} (takes : drain.Ghosts D) (sets : drain.Ghosts B) where
             (lines_without ∙ (ap (λ z. i.ahead ++ z) s.1 ∙ sym (append_assoc i.ahead h.lines s.0)))
             (fails_then takes sets first_place f first.0.sieve old.sieve new.sieve first.1 d d' first.2 b b' i.ahead h.lines i.sifted h.fails)
 
-        module _ (start : Place) (at : start ≡ place_past first_place i.ahead) (m : Held A) (d' : D) (b' : B)
+        module _ (start : Place) (at : start ≡ place_past first_place i.ahead) (m : Sifter A) (d' : D) (b' : B)
             (s' : SiftsFront takes sets start mid d b front m d' b') where
           abbrev s : SiftsFront takes sets (place_past first_place i.ahead) next d b front m d' b'
           s = subst (λ (p : Place). SiftsFront takes sets p next d b front m d' b')
@@ -382,7 +382,7 @@ module _ {A D B : Type 0} (takes : drain.Ghosts D) (sets : drain.Ghosts B) where
           all_sifted = sifted_then takes sets first_place first.0.sieve old.sieve m.sieve first.1 d d' first.2 b b' i.ahead s.lines i.sifted s.sifted
 
           -- want of memory after that
-          pub hold_halts : (f : StreamFault) (new : Held A) → f ≡ fault.Memory → new.sieve ≡ m.sieve →
+          pub hold_halts : (f : StreamFault) (new : Sifter A) → f ≡ fault.Memory → new.sieve ≡ m.sieve →
               SkipHalts takes sets f first (bytes ++ piece) false (new, d', b')
           hold_halts f new e k =
               subst (λ f. SkipHalts takes sets f first (bytes ++ piece) false (new, d', b')) (sym e)
@@ -396,7 +396,7 @@ module _ {A D B : Type 0} (takes : drain.Ghosts D) (sets : drain.Ghosts B) where
               ))
 
           -- A piece was taken.
-          pub piece_taken : (tail : List ℕ) (new : Held A) → tail ≡ rest → AllByRecursion (λ b. is_line_end b ≡ false) rest →
+          pub piece_taken : (tail : List ℕ) (new : Sifter A) → tail ≡ rest → AllByRecursion (λ b. is_line_end b ≡ false) rest →
               old.bytes + length piece ≤ most_bytes → Holds m tail new → IsSkipping takes sets first (bytes ++ piece) (new, d', b')
           piece_taken tail new t n few h =
               let part : new.part.items ≡ m.part.items ++ rest = h.parts ∙ ap (λ w. m.part.items ++ w) t in
@@ -431,7 +431,7 @@ module _ {A D B : Type 0} (takes : drain.Ghosts D) (sets : drain.Ghosts B) where
     all_lines = ap split_lines (sym (append-nil bytes)) ∙ (i.lines [] ∙ ap (λ w. i.ahead ++ split_lines w) (append-nil old.part.items))
 
     -- a fault at the last line
-    pub rest_halts : (f : StreamFault) (start : Place) (new : Held A) (d' : D) (b' : B) → start ≡ place_past first_place i.ahead →
+    pub rest_halts : (f : StreamFault) (start : Place) (new : Sifter A) (d' : D) (b' : B) → start ≡ place_past first_place i.ahead →
         SiftFails takes sets f start old.sieve d b (split_lines old.part.items) new.sieve d' b' →
         SkipHalts takes sets f first bytes true (new, d', b')
     rest_halts f start new d' b' at h' =
@@ -440,7 +440,7 @@ module _ {A D B : Type 0} (takes : drain.Ghosts D) (sets : drain.Ghosts B) where
         halts_of f bytes true (i.ahead ++ split_lines old.part.items) [] new d' b' (all_lines ∙ sym (append-nil (i.ahead ++ split_lines old.part.items)))
         (fails_then takes sets first_place f first.0.sieve old.sieve new.sieve first.1 d d' first.2 b b' i.ahead (split_lines old.part.items) i.sifted h)
 
-    module _ (start : Place) (at : start ≡ place_past first_place i.ahead) (new : Held A) (d' : D) (b' : B)
+    module _ (start : Place) (at : start ≡ place_past first_place i.ahead) (new : Sifter A) (d' : D) (b' : B)
         (h : HasSifted takes sets start old.sieve d b (split_lines old.part.items) new.sieve d' b') where
       every : HasSifted takes sets first_place first.0.sieve first.1 first.2 (i.ahead ++ split_lines old.part.items) new.sieve d' b'
       every = sifted_then takes sets first_place first.0.sieve old.sieve new.sieve first.1 d d' first.2 b b' i.ahead (split_lines old.part.items) i.sifted
@@ -515,7 +515,7 @@ module _ {A D B : Type 0} (takes : drain.Ghosts D) (sets : drain.Ghosts B) where
             }
 
   -- All bytes of the source were read.
-  pub skipped_all : (first now : Held A × D × B) (known : Option (List ℕ)) (left : Reading) (s : SkipSummary) →
+  pub skipped_all : (first now : Sifter A × D × B) (known : Option (List ℕ)) (left : Reading) (s : SkipSummary) →
       ReadsAll (SkipEnds takes sets) known left s first now →
       SkipsAll (job_of first.0.sieve) known (takes.contents first.1) (takes.contents now.1) (sets.contents first.2) (sets.contents now.2) s
   skipped_all first now known left s a =
@@ -523,7 +523,7 @@ module _ {A D B : Type 0} (takes : drain.Ghosts D) (sets : drain.Ghosts B) where
       (takes.contents now.1) (sets.contents first.2) (sets.contents now.2) s) a.consumed a.at_end a.is_end.skips
 
   -- what had been sifted when the source failed
-  ended_lines : (first : Held A × D × B) (bytes : List ℕ) (old : Held A) (d : D) (b : B) → IsSkipping takes sets first bytes (old, d, b) →
+  ended_lines : (first : Sifter A × D × B) (bytes : List ℕ) (old : Sifter A) (d : D) (b : B) → IsSkipping takes sets first bytes (old, d, b) →
       SkipsEnded (job_of first.0.sieve) bytes (takes.contents first.1) (takes.contents d) (sets.contents first.2) (sets.contents b)
   ended_lines first bytes old d b i = record {
     ahead = i.ahead;
@@ -535,7 +535,7 @@ module _ {A D B : Type 0} (takes : drain.Ghosts D) (sets : drain.Ghosts B) where
   }
 
   -- Why the run stopped.
-  pub skip_stopped : (f : StreamFault) (first now : Held A × D × B) (known : Option (List ℕ)) (left : Reading) →
+  pub skip_stopped : (f : StreamFault) (first now : Sifter A × D × B) (known : Option (List ℕ)) (left : Reading) →
       ReadStops (IsSkipping takes sets) (SkipHalts takes sets) f known left first now →
       SkipStops f (job_of first.0.sieve) known left (takes.contents first.1) (takes.contents now.1) (sets.contents first.2)
       (sets.contents now.2) (takes.has_failed now.1) (sets.has_failed now.2)

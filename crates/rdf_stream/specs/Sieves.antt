@@ -20,7 +20,7 @@ use Rattle.rdf_stream.specs.declared.sieve.Converted.{Converted}
 use Rattle.rdf_stream.specs.declared.sieve.LineStart.{LineStart}
 use Rattle.rdf_stream.specs.declared.sieve.Tried.{Tried}
 use Rattle.rdf_stream.specs.declared.sieve.Tried.TheVariants.{Bad, Good}
-use Rattle.rdf_stream.specs.declared.skips.Held.{Held}
+use Rattle.rdf_stream.specs.declared.skips.Sifter.{Sifter}
 use Rattle.rdf_stream.specs.declared.skips.SkipSummary.{SkipSummary}
 use Rattle.rdf_stream.specs.Devices.{AppendsFront}
 use Rattle.rdf_stream.specs.Languages.{Conversion, written_in}
@@ -84,14 +84,14 @@ abbrev pub IsEndedFront : List ℕ → Type 0
 IsEndedFront front = (front ≡ []) ⊎ ((w : List ℕ) × (c : ℕ) × (front ≡ w ++ c ∷ []) × (is_line_end c ≡ true))
 
 -- a part of a line is held after another
-pub record Holds {A : Type 0} (old : Held A) (part : List ℕ) (new : Held A) : Type 0 where
+pub record Holds {A : Type 0} (old : Sifter A) (part : List ℕ) (new : Sifter A) : Type 0 where
   pub parts : new.part.items ≡ old.part.items ++ part
   pub sieve : new.sieve ≡ old.sieve
   pub count : new.bytes ≡ old.bytes
   pub line : new.line ≡ old.line
 
 -- no part of a line is held any more, and what is counted stays
-pub record HoldsNone {A : Type 0} (old new : Held A) : Type 0 where
+pub record HoldsNone {A : Type 0} (old new : Sifter A) : Type 0 where
   pub none : new.part.items ≡ []
   pub count : new.bytes ≡ old.bytes
   pub line : new.line ≡ old.line
@@ -173,7 +173,7 @@ module _ {A D B : Type 0} (takes : drain.Ghosts D) (sets : drain.Ghosts B) where
   SiftFails reported start old d b lines new d' b' = ⊥
 
   -- The lines that the front of a piece ends were sifted, and no part of a line is held any more where there were some.
-  pub record SiftsFront (start : Place) (old : Held A) (d : D) (b : B) (front : List ℕ) (new : Held A) (d' : D) (b' : B) : Type 0 where
+  pub record SiftsFront (start : Place) (old : Sifter A) (d : D) (b : B) (front : List ℕ) (new : Sifter A) (d' : D) (b' : B) : Type 0 where
     pub lines : List (List ℕ)
     pub sifted : HasSifted start old.sieve d b lines new.sieve d' b'
     pub split : (more : List ℕ) → split_lines (old.part.items ++ (front ++ more)) ≡ lines ++ split_lines (new.part.items ++ more)
@@ -183,19 +183,19 @@ module _ {A D B : Type 0} (takes : drain.Ghosts D) (sets : drain.Ghosts B) where
     pub line : new.line ≡ old.line
 
   -- Not all of them were.
-  pub record SiftFrontFails (f : StreamFault) (start : Place) (old : Held A) (d : D) (b : B) (front : List ℕ) (new : Held A) (d' : D) (b' : B) : Type 0 where
+  pub record SiftFrontFails (f : StreamFault) (start : Place) (old : Sifter A) (d : D) (b : B) (front : List ℕ) (new : Sifter A) (d' : D) (b' : B) : Type 0 where
     pub lines : List (List ℕ)
     pub split : (more : List ℕ) → (later : List (List ℕ)) × (split_lines (old.part.items ++ (front ++ more)) ≡ lines ++ later)
     pub fails : SiftFails f start old.sieve d b lines new.sieve d' b'
 
   -- a run that begins with a document
-  pub record Begins (first : Held A × D × B) : Type 0 where
+  pub record Begins (first : Sifter A × D × B) : Type 0 where
     pub fresh : first.0.sieve.is_first ≡ true
     pub no_quads : first.0.sieve.quads ≡ 0
     pub no_bad_lines : first.0.sieve.bad_lines ≡ 0
 
   -- Since the run began these bytes came: their lines that have ended were sifted, and the rest is held.
-  pub record IsSkipping (first : Held A × D × B) (bytes : List ℕ) (now : Held A × D × B) : Type 0 where
+  pub record IsSkipping (first : Sifter A × D × B) (bytes : List ℕ) (now : Sifter A × D × B) : Type 0 where
     pub begins : Begins first
     pub ahead : List (List ℕ)
     pub whole : bytes ≡ concat ahead ++ now.0.part.items
@@ -207,7 +207,7 @@ module _ {A D B : Type 0} (takes : drain.Ghosts D) (sets : drain.Ghosts B) where
     pub few : length bytes ≤ most_bytes
 
   -- why the bytes are not read on, and what was written and put aside
-  abbrev pub SkipHalts : StreamFault → Held A × D × B → List ℕ → Bool → Held A × D × B → Type 0
+  abbrev pub SkipHalts : StreamFault → Sifter A × D × B → List ℕ → Bool → Sifter A × D × B → Type 0
   SkipHalts (fault.Refused f) first bytes e now =
       (takes.has_failed now.1 ≡ false) × (sets.has_failed now.2 ≡ false) × (f.reason ≡ DocumentTooLong) × IsTooLong bytes (place_of f)
       × SkipsSome Appends (job_of first.0.sieve) bytes (takes.contents first.1) (takes.contents now.1) (sets.contents first.2) (sets.contents now.2)
@@ -220,7 +220,7 @@ module _ {A D B : Type 0} (takes : drain.Ghosts D) (sets : drain.Ghosts B) where
       × SkipsSome Appends (job_of first.0.sieve) bytes (takes.contents first.1) (takes.contents now.1) (sets.contents first.2) (sets.contents now.2)
 
   -- all bytes were read, and what was written was sent on
-  pub record SkipEnds (s : SkipSummary) (first : Held A × D × B) (bytes : List ℕ) (now : Held A × D × B) : Type 0 where
+  pub record SkipEnds (s : SkipSummary) (first : Sifter A × D × B) (bytes : List ℕ) (now : Sifter A × D × B) : Type 0 where
     pub skips : Skips (job_of first.0.sieve) bytes (takes.contents first.1) (takes.contents now.1) (sets.contents first.2) (sets.contents now.2) s
     pub sent : takes.is_flushed now.1 ≡ true
     pub bad_sent : sets.is_flushed now.2 ≡ true

@@ -1,6 +1,6 @@
 // From a document to the lines of its quads.
 
-ghost use Rattle.std.specs.Prelude.{◌≡◌, ◌++◌, true, false, OnOk, IfOk, IfErr, IfSome};
+ghost use Rattle.std.specs.Prelude.{◌≡◌, true, false, OnOk, IfOk, IfErr};
 ghost use Rattle.rdf_stream.specs.Converting.{Begins, ConversionStops, Converts, ConvertsWhole, IsConverting};
 ghost use Rattle.rdf_stream.specs.Converting.{IsPutting, KeepsPrompt, RunEnds, RunHalts, Starts, WholeStops};
 ghost use Rattle.rdf_stream.specs.Converts.{AcceptsAll, IsPrompt, StopsFor};

@@ -1,6 +1,6 @@
 // The sink that hands lines on to a drain.
 
-ghost use Rattle.std.specs.Prelude.{◌≡◌, ◌↔◌, [], ◌<◌, ◌≤◌, length, take, true, false, Bool, List, ℕ, Option, is_err};
+ghost use Rattle.std.specs.Prelude.{◌≡◌, ◌↔◌, [], ◌<◌, ◌≤◌, length, take, true, false, ℕ, is_err};
 ghost use Rattle.std.specs.Prelude.{OnOk, OnErr, IfErr, IfOk};
 ghost use Rattle.std.specs.Io.KnownBytes.{Appends};
 ghost use Rattle.rdf_terms.specs.Views.{iris_quad, quad_of};

@@ -1,6 +1,6 @@
 // Puts whole texts into a drain.
 
-ghost use Rattle.std.specs.Prelude.{◌≡◌, true, false, is_err, OnOk, OnErr};
+ghost use Rattle.std.specs.Prelude.{◌≡◌, false, is_err, OnOk, OnErr};
 ghost use Rattle.std.specs.Io.KnownBytes.{Appends};
 ghost use Rattle.rdf_stream.specs.Devices.{AppendsFront};
 

@@ -1,6 +1,6 @@
 // Going on after bad lines.
 
-ghost use Rattle.std.specs.Prelude.{◌≡◌, ◌↔◌, ◌+◌, ◌-◌, ◌<◌, ◌≤◌, ◌++◌, ◌==◌, [], List, ℕ, true, false, length, take};
+ghost use Rattle.std.specs.Prelude.{◌≡◌, ◌+◌, ◌-◌, ◌<◌, ◌≤◌, ◌++◌, ◌==◌, [], true, false, length, take};
 ghost use Rattle.std.specs.Prelude.{drop, count_by, OnOk, IfOk, IfErr};
 ghost use Rattle.rdf_lines.specs.declared.form.Style.{Style};
 ghost use Rattle.rdf_tokens.specs.Scans.{most_bytes};
@@ -73,8 +73,8 @@ pub fn convert_skipping<A: Allocator + Copy, S: Source, D: Drain, B: Drain>(
         Kind::Line(form) => {
             let mut piece = piece_buffer(alloc)?;
             let sieve = Sieve::new(alloc, form, job.limits(), job.output(Style::Kept));
-            let mut held = Held::new(alloc, sieve);
-            skip_pieces(source, piece.as_mut_slice(), &mut held, drain, bad)
+            let mut sifter = Sifter::new(alloc, sieve);
+            skip_pieces(source, piece.as_mut_slice(), &mut sifter, drain, bad)
         }
         Kind::Tree(_) => unreachable!(),
     }
@@ -84,21 +84,21 @@ pub fn convert_skipping<A: Allocator + Copy, S: Source, D: Drain, B: Drain>(
 fn skip_pieces<'a, A: Allocator + Copy, S: Source, D: Drain, B: Drain>(
     source: &mut S,
     piece: &mut [u8],
-    held: &mut Held<'a, A>,
+    sifter: &mut Sifter<'a, A>,
     drain: &mut D,
     bad: &mut B,
 ) -> Result<SkipSummary, StreamFault>
     requires more { S.has_ended source.old ≡ false }
     requires source { S.has_failed source.old ≡ false }
     requires room { 0 < length piece.old }
-    requires styled { held.old.sieve.output.lines.style ≡ Style.Kept }
-    requires begun { IsSkipping D.Drain B.Drain (held.old, drain.old, bad.old) [] (held.old, drain.old, bad.old) }
+    requires styled { sifter.old.sieve.output.lines.style ≡ Style.Kept }
+    requires begun { IsSkipping D.Drain B.Drain (sifter.old, drain.old, bad.old) [] (sifter.old, drain.old, bad.old) }
     ensures read { IfOk result (λ summary.
         ReadsAll (SkipEnds D.Drain B.Drain) (S.remaining source.old) (told S.Source source.new) summary
-        (held.old, drain.old, bad.old) (held.new, drain.new, bad.new)) }
+        (sifter.old, drain.old, bad.old) (sifter.new, drain.new, bad.new)) }
     ensures stops { IfErr result (λ f. ReadStops (IsSkipping D.Drain B.Drain) (SkipHalts D.Drain B.Drain) f
         (S.remaining source.old) (told S.Source source.new)
-        (held.old, drain.old, bad.old) (held.new, drain.new, bad.new)) }
+        (sifter.old, drain.old, bad.old) (sifter.new, drain.new, bad.new)) }
 {
     loop {
         let count = match source.fill(piece) {
@@ -106,9 +106,9 @@ fn skip_pieces<'a, A: Allocator + Copy, S: Source, D: Drain, B: Drain>(
             Err(Failed) => return Err(StreamFault::Read),
         };
         if count == 0 {
-            return held.end(drain, bad);
+            return sifter.end(drain, bad);
         }
-        match held.take(&piece[..count], drain, bad) {
+        match sifter.take(&piece[..count], drain, bad) {
             Ok(()) => {}
             Err(fault) => return Err(fault),
         }
@@ -117,7 +117,7 @@ fn skip_pieces<'a, A: Allocator + Copy, S: Source, D: Drain, B: Drain>(
 
 /// The part of a line after the last line end, and what sifts the lines before it.
 #[derive(Drop)]
-struct Held<'a, A: Allocator + Copy = Global> {
+struct Sifter<'a, A: Allocator + Copy = Global> {
     sieve: Sieve<'a, A>,
     part: Vec<u8, A>,
     // the bytes so far, and one more than the line feeds in them
@@ -125,15 +125,15 @@ struct Held<'a, A: Allocator + Copy = Global> {
     line: u64,
 }
 
-impl<'a, A: Allocator + Copy> Held<'a, A> {
+impl<'a, A: Allocator + Copy> Sifter<'a, A> {
     // Nothing was read.
-    fn new(alloc: A, sieve: Sieve<'a, A>) -> Held<'a, A>
+    fn new(alloc: A, sieve: Sieve<'a, A>) -> Sifter<'a, A>
         ensures sieve { result.sieve ≡ sieve.entry }
         ensures part { result.part.items ≡ [] }
         ensures bytes { result.bytes ≡ 0 }
         ensures line { result.line ≡ 1 }
     {
-        Held {
+        Sifter {
             sieve,
             part: Vec::new(alloc),
             bytes: 0,

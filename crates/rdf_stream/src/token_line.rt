@@ -1,7 +1,6 @@
 // The line of a token.
 
-ghost use Rattle.std.specs.Prelude.{◌≡◌, ◌++◌, codes, decimal, length, OnErr, OnOk};
-ghost use Rattle.std.specs.Str.{chars};
+ghost use Rattle.std.specs.Prelude.{◌≡◌, ◌++◌, codes, decimal, OnErr, OnOk};
 ghost use Rattle.rdf_tokens.specs.Scans.{token_of};
 ghost use Rattle.rdf_lines.specs.WrittenBytes.{BeginsWith};
 ghost use Rattle.rdf_stream.specs.Shows.{kind_name, token_line};

@@ -1,7 +1,7 @@
 // Which kind of token the readers find to be unexpected, and which they name in its place, and runs beside their
 // faults.
 
-ghost use Rattle.std.specs.Prelude.{◌≡◌, ◌≤◌, false, length};
+ghost use Rattle.std.specs.Prelude.{◌≤◌, false, length};
 
 use rdf_driver::Kinds;
 use rdf_iri::Limits;

@@ -1,6 +1,6 @@
 // Bytes that are placed in a buffer that has room for them. A short text is two copies of a fixed size that overlap.
 
-ghost use Rattle.std.specs.Prelude.{◌≡◌, [], ◌∷◌, ◌+◌, ◌<◌, ◌≤◌, length, take};
+ghost use Rattle.std.specs.Prelude.{[], ◌∷◌, ◌+◌, ◌<◌, ◌≤◌, length, take};
 ghost use Rattle.rdf_terms.specs.Placing.{Placed};
 
 use std::simd::Simd;

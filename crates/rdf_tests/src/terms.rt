@@ -1,5 +1,6 @@
 // Outside values: the examples of the Recommendations, and characters at the ends of their classes.
 
+use rdf_terms::escapes::uchar;
 use rdf_terms::*;
 use read_pieces::{has_lines, put_copy};
 use std::alloc::Global;
@@ -58,6 +59,28 @@ fn a_character_is_in_its_classes(rt: HostRuntime) {
 fn a_digit_has_its_value(rt: HostRuntime) {
     assert!(rt; hex_value('F') == Some(15) && hex_value('f') == Some(15));
     assert!(rt; hex_value('7') == Some(7) && hex_value('g').is_none());
+}
+
+/// What stands at the beginning of some bytes: the character that a UCHAR there means, and where it ends.
+static ESCAPED: [(&str, Option<(char, usize)>); 6] = [
+    ("\\u00e9x", Some(('é', 6))),
+    ("\\U0001F600", Some(('\u{1F600}', 10))),
+    ("\\u00E", None),
+    ("\\U00110000", None),
+    ("\\uD800", None),
+    ("u00E9", None),
+];
+
+#[test]
+fn an_escape_means_its_character(rt: HostRuntime) {
+    for (text, wanted) in ESCAPED.as_slice() {
+        let found = match (uchar(text.as_bytes(), 0), *wanted) {
+            (Some((c, end)), Some((meant, after))) => c == meant && end == after,
+            (None, None) => true,
+            _ => false,
+        };
+        assert!(rt; found, "{text}");
+    }
 }
 
 /// What is asked of a text.

@@ -9,7 +9,7 @@ ghost use mathlib.Core.Option.{none};
 ghost use Rattle.std.specs.Borrow.{sem, follows_so};
 ghost use Rattle.rdf_tokens.specs.Tokens.{Token as Read, step, is_empty};
 ghost use Rattle.rdf_tokens.specs.Scans.{PassesBlank, SameButHeld, HasScanned, Pushes, Gives, KnowsColon, left};
-ghost use Rattle.rdf_tokens.specs.Scans.{most_bytes, token_of, place_of, unread_bytes, IsWaiting, most_unread, fitting};
+ghost use Rattle.rdf_tokens.specs.Scans.{most_bytes, place_of, unread_bytes, IsWaiting, most_unread, fitting};
 ghost use Rattle.rdf_tokens.specs.Scans.{at_once};
 ghost use Rattle.rdf_tokens.specs.Look.{tail_after, IsLook};
 ghost use Rattle.rdf_tokens.specs.contracts.scanner.Scanner.{the_row};

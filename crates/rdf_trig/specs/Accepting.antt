@@ -43,7 +43,7 @@ HoldsOpen g = mode_size g.state.mode + bytes_held g.state.setting.scope ≤ g.he
 abbrev pub StepsFrom : Type 0 → TreeAt → Kind → StepAt → Type 0
 StepsFrom A g k x =
     (s : InForce) × (r : Code A) × (state_of g.form s r ≡ g.state)
-    × (x.level ≡ r.level) × (x.mode ≡ r.mode) × (x.held ≡ r.held) × Decides g.form r r.mode k x.turn
+    × (x.level ≡ r.level) × (x.mode ≡ r.mode) × (x.ready ≡ r.ready) × Decides g.form r r.mode k x.turn
 
 -- the documents from a scope on, and what the machine has accepted of one
 abbrev pub tree_words : Words TreeAt Chosen Quad

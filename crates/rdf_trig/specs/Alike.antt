@@ -12,7 +12,7 @@ pub record SameState (s t : State) : Type 0 where
   pub scope : SameNames s.setting.scope t.setting.scope
   pub graph : s.setting.graph ≡ t.setting.graph
   pub mode : s.mode ≡ t.mode
-  pub held : s.held ≡ t.held
+  pub ready : s.ready ≡ t.ready
 
 -- The machine accepts the tokens, gives out these quads, and stands where the state does.
 pub record RunsTo (form : DocForm) (start : InForce) (ts : List Token) (qs : List Quad) (state : State) : Type 0 where

@@ -475,7 +475,7 @@ depth m = 0
 pub record State : Type 0 where
   pub setting : Setting
   pub mode : Mode
-  pub held : List Quad
+  pub ready : List Quad
 
 -- what a token does: it is refused, for a reason; or accepted, with the quads that are given out
 pub data Answer : Type 0 where
@@ -514,19 +514,19 @@ abbrev pub kept : Option Quad → List Quad → List Quad
 kept None qs = qs
 kept (Some q) qs = q ∷ qs
 
--- the quads that were held are given out, and the one that was waiting
+-- the quads that were ready are given out, and the one that was waiting
 abbrev pub answer : Sizes → State → Kind → Option Quad → Reply → Answer
 answer sizes s k w No = refuses Unexpected
 answer sizes s k w (Go u early now c m) =
-    by_depth sizes (depth s.mode) k (by_use sizes k u (accepts (s.held ++ kept w []) (record { setting = c; mode = m; held = kept early (kept now []) })))
+    by_depth sizes (depth s.mode) k (by_use sizes k u (accepts (s.ready ++ kept w []) (record { setting = c; mode = m; ready = kept early (kept now []) })))
 
--- the machine's answer to a token, with the limits and with what has been held back
+-- the machine's answer to a token, with the limits and with what is ready
 abbrev pub accept : DocForm → State → Kind → Leaf → Answer
 accept form s k l = answer s.setting.scope.limits s k (waiting s.setting s.mode k l) (step form s.setting s.mode k l)
 
 -- before the first token, in the scope that was handed in
 abbrev pub at_start : InForce → State
-at_start scope = record { setting = in_default scope; mode = Start; held = [] }
+at_start scope = record { setting = in_default scope; mode = Start; ready = [] }
 
 -- some tokens: the state after them and the quads that were given out, or the first refusal
 pub data Run : Type 0 where

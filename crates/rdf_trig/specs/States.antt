@@ -30,8 +30,8 @@ use Rattle.rdf_trig.specs.declared.state.Outer.{Outer}
 use Rattle.rdf_trig.specs.declared.state.Outer.TheVariants as outer
 use Rattle.rdf_trig.specs.declared.state.Mode.{Mode}
 use Rattle.rdf_trig.specs.declared.state.Mode.TheVariants as mode
-use Rattle.rdf_trig.specs.declared.state.Held.{Held}
-use Rattle.rdf_trig.specs.declared.state.Held.TheVariants as held
+use Rattle.rdf_trig.specs.declared.state.Ready.{Ready}
+use Rattle.rdf_trig.specs.declared.state.Ready.TheVariants as ready
 use Rattle.rdf_trig.specs.declared.state.State.{State}
 use Rattle.rdf_trig.specs.Owed.{iri_size}
 use Rattle.rdf_trig.specs.Names.{reference_in, name_in, with_base, with_binding, is_full}
@@ -184,12 +184,12 @@ graph_in r = graph_at r r.mode
 abbrev pub setting : InForce → Option term.Subject → Setting
 setting s g = record { scope = s; graph = Some g }
 
--- the term of an object that is held: an IRI or node, a string with its type or tag, a number or boolean with the datatype of its form
-abbrev pub object_of : {A : Type 0} → State A → Held → Option Term
-object_of r held.Resource = option_map Resource r.object.term
-object_of r held.WithType = Some (Literal (text_in r) (Typed (datatype_of r.datatype)))
-object_of r held.WithTag = option_map (λ t. Literal (text_in r) (Lang t)) r.tag
-object_of r (held.OfKnown k) = Some (Literal (text_in r) (Typed (known_chars k)))
+-- the term of an object whose quad is ready: an IRI or node, a string with its type or tag, a number or boolean with the datatype of its form
+abbrev pub object_of : {A : Type 0} → State A → Ready → Option Term
+object_of r ready.Resource = option_map Resource r.object.term
+object_of r ready.WithType = Some (Literal (text_in r) (Typed (datatype_of r.datatype)))
+object_of r ready.WithTag = option_map (λ t. Literal (text_in r) (Lang t)) r.tag
+object_of r (ready.OfKnown k) = Some (Literal (text_in r) (Typed (known_chars k)))
 object_of r h = None
 
 -- the quad of an object that has come at a place, and that of a mode whose object has come
@@ -208,16 +208,16 @@ IsSettled m = ⊤
 abbrev pub cells_quad : Option term.Subject → ℕ → term.Subject → Option Quad
 cells_quad g cell next = Some (record { subject = Blank (Cell cell); predicate = known_chars RdfRest; object = Resource next; graph = g })
 
--- the quads that are held
+-- the quads that are ready
 abbrev pub rest_of : Option term.Subject → Option (ℕ × ℕ) → Option Quad
 rest_of g None = None
 rest_of g (Some p) = cells_quad g p.0 (Blank (Cell p.1))
 
 -- the quad whose head ended with the last token: of an object at its place, or the last rdf:rest of a collection
-abbrev pub held_of : {A : Type 0} → Option term.Subject → M.Mode → State A → Held → Option Quad
-held_of g m r held.Nothing = None
-held_of g m r (held.Nil cell) = cells_quad g cell nil
-held_of g m r h = object_quad g m (object_of r h)
+abbrev pub ready_of : {A : Type 0} → Option term.Subject → M.Mode → State A → Ready → Option Quad
+ready_of g m r ready.Nothing = None
+ready_of g m r (ready.Nil cell) = cells_quad g cell nil
+ready_of g m r h = object_quad g m (object_of r h)
 
 -- where a statement's dot leads
 abbrev pub mode_after_dot : M.Level → M.Mode
@@ -282,7 +282,7 @@ NameIn s m k l i = name_at s k l ≡ i
 abbrev pub moved : {A : Type 0} → DocForm → InForce → Use → State A → Reply
 moved form s u r =
     let g = graph_in r in
-    Go u (rest_of g r.rest) (held_of g (mode_in form r) r r.held) (setting s g) (mode_in form r)
+    Go u (rest_of g r.rest) (ready_of g (mode_in form r) r r.ready) (setting s g) (mode_in form r)
 
 -- the token is allowed by the grammar alone
 abbrev pub is_go : Reply → Bool

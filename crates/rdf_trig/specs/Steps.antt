@@ -14,8 +14,8 @@ use Rattle.rdf_trig.specs.declared.state.Container.{Container}
 use Rattle.rdf_trig.specs.declared.state.Container.TheVariants as container
 use Rattle.rdf_trig.specs.declared.state.Mode.{Mode}
 use Rattle.rdf_trig.specs.declared.state.Mode.TheVariants as mode
-use Rattle.rdf_trig.specs.declared.state.Held.{Held}
-use Rattle.rdf_trig.specs.declared.state.Held.TheVariants as held
+use Rattle.rdf_trig.specs.declared.state.Ready.{Ready}
+use Rattle.rdf_trig.specs.declared.state.Ready.TheVariants as ready
 use Rattle.rdf_trig.specs.declared.state.State.{State}
 use Rattle.rdf_trig.specs.Quads.{stated, plain_literal}
 use Rattle.rdf_trig.specs.Machine as M
@@ -25,7 +25,7 @@ use Rattle.rdf_terms.specs.declared.reason.Reason.{Reason}
 use Rattle.rdf_terms.specs.declared.reason.Reason.TheVariants as reason
 use Rattle.rdf_tokens.specs.Leaves.{Leaf}
 use Rattle.rdf_trig.specs.Machine.{nil, subject_at, verb_at, kept}
-use Rattle.rdf_trig.specs.States.{leaf, text_in, place_of, object_of, object_quad, cells_quad, mode_in, graph_in, setting, rest_of, held_of, is_go, PrefixFits}
+use Rattle.rdf_trig.specs.States.{leaf, text_in, place_of, object_of, object_quad, cells_quad, mode_in, graph_in, setting, rest_of, ready_of, is_go, PrefixFits}
 use Rattle.rdf_trig.specs.Scopes.{SameScope}
 use Rattle.rdf_trig.specs.Holding.{most_text, Fits}
 
@@ -55,8 +55,8 @@ abbrev pub IsQuadAt : {A : Type 0} → Frame A → Option term.Subject → Term 
 IsQuadAt f g o q = (v : M.Level) (u : M.Up) → let p = place_of v f u in q ≡ stated (Some g) (subject_at p) (verb_at p) (Some o)
 
 -- the last rdf:rest of a collection that has ended
-abbrev pub last_of : Option term.Subject → Held → Option Quad
-last_of g (held.Nil cell) = cells_quad g cell nil
+abbrev pub last_of : Option term.Subject → Ready → Option Quad
+last_of g (ready.Nil cell) = cells_quad g cell nil
 last_of g h = None
 
 -- what a string is by the token after it: no term yet where a tag or a type follows
@@ -72,10 +72,10 @@ abbrev pub collection_term : Kind → ℕ → Term
 collection_term CloseParen n = Resource nil
 collection_term k n = Resource (Blank (Cell n))
 
--- the object that is held, or that the token decides, in a mode
+-- the object whose quad is ready, or that the token decides, in a mode
 abbrev pub due_term : {A : Type 0} → State A → Mode → Given → Option Term
-due_term r mode.After t = object_of r r.held
-due_term r mode.PropertyListStart t = object_of r r.held
+due_term r mode.After t = object_of r r.ready
+due_term r mode.PropertyListStart t = object_of r r.ready
 due_term r mode.AfterText t = plain_term (text_in r) t.kind
 due_term r mode.CollectionStart t = Some (collection_term t.kind t.offset)
 due_term r m t = None
@@ -92,27 +92,27 @@ IsListed (container.List a) = ⊤
 IsListed (container.Cells first cell) = ⊥
 
 -- an object has come and no collection has ended, or it is a string, of which the token decides
-abbrev pub HasCome : Mode → Held → Type 0
-HasCome mode.After (held.Nil cell) = ⊥
+abbrev pub HasCome : Mode → Ready → Type 0
+HasCome mode.After (ready.Nil cell) = ⊥
 HasCome mode.After h = ⊤
-HasCome mode.AfterText held.Nothing = ⊤
+HasCome mode.AfterText ready.Nothing = ⊤
 HasCome m h = ⊥
 
 -- after an object of a predicate list, where no rdf:rest is owed
 abbrev pub IsAfterObject : {A : Type 0} → State A → Type 0
-IsAfterObject r = (r.rest ≡ None) × IsListed r.frame.container × HasCome r.mode r.held
+IsAfterObject r = (r.rest ≡ None) × IsListed r.frame.container × HasCome r.mode r.ready
 
--- the quads that are held, and those with the one that waits to know the token
-abbrev pub held_quads : {A : Type 0} → DocForm → State A → List Quad
-held_quads form r = let g = graph_in r in kept (rest_of g r.rest) (kept (held_of g (mode_in form r) r r.held) [])
+-- the quads that are ready, and those with the one that waits to know the token
+abbrev pub ready_quads : {A : Type 0} → DocForm → State A → List Quad
+ready_quads form r = let g = graph_in r in kept (rest_of g r.rest) (kept (ready_of g (mode_in form r) r r.ready) [])
 
--- the quads that go to the sink when the token is accepted: those held, and one whose object the token decides
+-- the quads that go to the sink when the token is accepted: those ready, and one whose object the token decides
 abbrev pub given : {A : Type 0} → DocForm → InForce → State A → Given → List Quad
-given form s r t = held_quads form r ++ kept (M.waiting (setting s (graph_in r)) (mode_in form r) t.kind (leaf t)) []
+given form s r t = ready_quads form r ++ kept (M.waiting (setting s (graph_in r)) (mode_in form r) t.kind (leaf t)) []
 
 -- the state of the machine that a state of the reader is, in a scope
 abbrev pub state_of : {A : Type 0} → DocForm → InForce → State A → M.State
-state_of form s r = record { setting = setting s (graph_in r); mode = mode_in form r; held = held_quads form r }
+state_of form s r = record { setting = setting s (graph_in r); mode = mode_in form r; ready = ready_quads form r }
 
 -- the token is allowed by the grammar and by the limit of open brackets
 abbrev pub May : DocForm → M.State → Kind → Leaf → Type 0

@@ -11,8 +11,8 @@ use Rattle.rdf_tokens.specs.Leaves.{Leaf}
 use Rattle.rdf_trig.specs.declared.form.DocForm.{DocForm}
 use Rattle.rdf_trig.specs.declared.state.Around.{Around}
 use Rattle.rdf_trig.specs.declared.state.Container.TheVariants as container
-use Rattle.rdf_trig.specs.declared.state.Held.{Held}
-use Rattle.rdf_trig.specs.declared.state.Held.TheVariants as held
+use Rattle.rdf_trig.specs.declared.state.Ready.{Ready}
+use Rattle.rdf_trig.specs.declared.state.Ready.TheVariants as ready
 use Rattle.rdf_trig.specs.declared.state.Level.{Level}
 use Rattle.rdf_trig.specs.declared.state.Level.TheVariants as level
 use Rattle.rdf_trig.specs.declared.state.Mode.{Mode}
@@ -249,15 +249,15 @@ Begins old rest b l new =
 abbrev pub StillFits : {A : Type 0} → State A → State A → Type 0
 StillFits old new = (n : ℕ) → Fits n old → Fits n new
 
--- the state stands outside of statements, with no frame in hand and nothing held
+-- the state stands outside of statements, with no frame in hand and no quad ready
 abbrev pub Leads : {A : Type 0} → State A → Outer → State A → Type 0
 Leads old o new =
     let empty = record old.frame { container = container.Cells 0 0 } in
-    new ≡ record old { level = level.Top; frame = empty; rest = None; held = held.Nothing; mode = mode.Outer o }
+    new ≡ record old { level = level.Top; frame = empty; rest = None; ready = ready.Nothing; mode = mode.Outer o }
 
 -- what is printed of a kind of token: where a state stands, what it holds, and the turn
 pub record StepAt : Type 0 where
   pub level : Level
   pub mode : Mode
-  pub held : Held
+  pub ready : Ready
   pub turn : Option Turn

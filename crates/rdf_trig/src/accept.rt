@@ -1,6 +1,6 @@
 // A token is accepted: the checks, then the quads that are due, then the move.
 
-ghost use Rattle.std.specs.Prelude.{◌≡◌, ℕ, ◌≤◌, ◌<◌, ◌+◌, ◌^◌, ◌&&◌, length, nat_le, true, false, None, OnOk, IfOk};
+ghost use Rattle.std.specs.Prelude.{◌≡◌, ◌≤◌, ◌<◌, ◌+◌, ◌^◌, ◌&&◌, length, nat_le, true, false, None, OnOk, IfOk};
 ghost use Rattle.std.specs.Prelude.{IfErr};
 ghost use Rattle.rdf_iri.specs.Limits.{Sizes};
 ghost use Rattle.rdf_iri.specs.Scope.{InForce};
@@ -19,7 +19,7 @@ use crate::rest::Rest;
 use crate::rules::Rules;
 use crate::slots::{TagText, Topic};
 use crate::spares::Spares;
-use crate::state::{Frame, Held, Level, Mode, Outer, State};
+use crate::state::{Frame, Level, Mode, Outer, Ready, State};
 use crate::turn::Turn;
 use rdf_driver::Hint;
 use rdf_iri::Scope;
@@ -70,7 +70,7 @@ impl<A: Allocator + Copy> State<A> {
             frames: Vec::new(alloc),
             spares: Spares::new(alloc),
             rest: Rest::none(),
-            held: Held::Nothing,
+            ready: Ready::Nothing,
             object: Topic::new(alloc),
             text: String::new(alloc),
             datatype: Name::new(alloc),

@@ -1,6 +1,6 @@
-// The quads that a token determines are put: those that were held for it, and the one that waited to know it.
+// The quads that a token determines are put: those that were ready before it, and the one that waited to know it.
 
-ghost use Rattle.std.specs.Prelude.{◌≡◌, ◌∷◌, ◌+◌, ◌≤◌, length, ◌++◌, true, false, [], Option, Some, None, OnOk, IfOk};
+ghost use Rattle.std.specs.Prelude.{◌≡◌, ◌∷◌, ◌+◌, ◌≤◌, length, true, false, [], Option, Some, None, OnOk, IfOk};
 ghost use Rattle.std.specs.Prelude.{IfErr, option_map};
 ghost use Rattle.std.specs.Str.{chars};
 ghost use Rattle.std.specs.String.{string_bytes};
@@ -8,17 +8,17 @@ ghost use Rattle.rdf_terms.specs.Terms as term;
 ghost use Rattle.rdf_terms.specs.Sinks.{Appends};
 ghost use Rattle.rdf_terms.specs.Views.{iri_chars, iris_quad, subject_by, term_by, tail_by, quad_of};
 ghost use Rattle.rdf_iri.specs.Scope.{InForce};
-ghost use Rattle.rdf_trig.specs.Quads.{stated, plain_literal};
+ghost use Rattle.rdf_trig.specs.Quads.{plain_literal};
 ghost use Rattle.rdf_trig.specs.declared.form.DocForm.{DocForm};
 ghost use Rattle.rdf_trig.specs.Machine as M;
-ghost use Rattle.rdf_trig.specs.Machine.{subject_at, verb_at, kept};
+ghost use Rattle.rdf_trig.specs.Machine.{kept};
 ghost use Rattle.rdf_tokens.specs.declared.token.Token.{Token as Given};
 ghost use Rattle.rdf_trig.specs.States.{object_of, IsSettled, mode_in, graph_of, graph_in, cells_quad, rest_of};
 ghost use Rattle.rdf_trig.specs.Steps.{GaveUp, given, IsQuadAt, last_of, due_term, due_quad, IsListed, IsAfterObject};
 
 use crate::fault::StepFault;
 use crate::rest::Rest;
-use crate::state::{Block, Container, Frame, Held, Level, Mode, Outer, State};
+use crate::state::{Block, Container, Frame, Level, Mode, Outer, Ready, State};
 use rdf_terms::{
     IriView, Kind, Known, LiteralRef, NodeRef, PutFault, QuadRef, QuadSink, SubjectRef, TailRef,
     TermRef, known,
@@ -56,9 +56,9 @@ pub fn give<A: Allocator, S: QuadSink>(
 fn is_after_object<A: Allocator>(state: &State<A>) -> bool
     ensures { result ≡ true → IsAfterObject state.now }
 {
-    match (state.mode, state.held, state.frame.container) {
-        (Mode::AfterText, Held::Nothing, Container::List(_)) => !state.rest.is_owed(),
-        (Mode::After, Held::Nil(_), _) => false,
+    match (state.mode, state.ready, state.frame.container) {
+        (Mode::AfterText, Ready::Nothing, Container::List(_)) => !state.rest.is_owed(),
+        (Mode::After, Ready::Nil(_), _) => false,
         (Mode::After, _, Container::List(_)) => !state.rest.is_owed(),
         _ => false,
     }
@@ -81,7 +81,7 @@ fn give_listed<A: Allocator, S: QuadSink>(
     ensures err { IfErr result (λ r. (form : DocForm) (s : InForce) →
         GaveUp S.takes S.leaves S.has_failed r (given form s state.now token.now) sink.old sink.new) }
 {
-    if let Held::Resource = state.held {
+    if let Ready::Resource = state.ready {
         if let Some(object) = state.object.iri() {
             return give_iri(state, object, sink);
         }
@@ -101,7 +101,7 @@ fn give_iri<A: Allocator, S: QuadSink>(
     sink: &mut S,
 ) -> Result<u64, StepFault>
     requires after { IsAfterObject state.now }
-    requires held { state.now.held ≡ Held.Resource }
+    requires ready { state.now.ready ≡ Ready.Resource }
     requires object { Some (term.Iri (iri_chars object)) ≡ state.now.object.term }
     requires live { S.has_failed sink.old ≡ false }
     ensures ok { OnOk result ((form : DocForm) (s : InForce) (t : Given) →
@@ -130,15 +130,15 @@ fn is_in_named_graph<A: Allocator>(state: &State<A>) -> bool
     matches!(state.level, Level::Block(Block::Named))
 }
 
-/// Whether no quad is held, and none waits to know the token.
+/// Whether no quad is ready, and none waits to know the token.
 #[inline(always)]
 pub fn is_idle<A: Allocator>(state: &State<A>) -> bool
     ensures given { result ≡ true → (form : DocForm) (s : InForce) (t : Given) → given form s state.now t ≡ [] }
-    ensures held { result ≡ true → state.now.held ≡ Held.Nothing }
+    ensures ready { result ≡ true → state.now.ready ≡ Ready.Nothing }
     ensures rest { result ≡ true → state.now.rest ≡ None }
 {
-    match state.held {
-        Held::Nothing => !state.rest.is_owed() && !waits(state.mode),
+    match state.ready {
+        Ready::Nothing => !state.rest.is_owed() && !waits(state.mode),
         _ => false,
     }
 }
@@ -151,7 +151,7 @@ fn waits(mode: Mode) -> bool
     matches!(mode, Mode::AfterText | Mode::CollectionStart)
 }
 
-// Puts what is held and what waits.
+// Puts what is ready and what waits.
 #[inline(always)]
 fn give_all<A: Allocator, S: QuadSink>(
     state: &State<A>,
@@ -168,7 +168,7 @@ fn give_all<A: Allocator, S: QuadSink>(
 {
     let graph = graph(state);
     let rest = put(rest_quad(&state.rest, graph), sink)?;
-    let last = put(last_quad(state.held, graph), sink)?;
+    let last = put(last_quad(state.ready, graph), sink)?;
     let due = put(due_quad(state, graph, token), sink)?;
     Ok(rest + last + due)
 }
@@ -204,11 +204,11 @@ fn rest_quad<'a>(rest: &Rest, graph: Option<SubjectRef<'a>>) -> Option<QuadRef<'
 
 // The last rdf:rest of a collection that ended with the last token.
 #[inline(always)]
-fn last_quad<'a>(held: Held, graph: Option<SubjectRef<'a>>) -> Option<QuadRef<'a>>
-    ensures { option_map quad_of result ≡ last_of (option_map (subject_by chars) graph.entry) held }
+fn last_quad<'a>(ready: Ready, graph: Option<SubjectRef<'a>>) -> Option<QuadRef<'a>>
+    ensures { option_map quad_of result ≡ last_of (option_map (subject_by chars) graph.entry) ready }
 {
-    match held {
-        Held::Nil(cell) => Some(cells(cell, nil(), graph)),
+    match ready {
+        Ready::Nil(cell) => Some(cells(cell, nil(), graph)),
         _ => None,
     }
 }
@@ -257,24 +257,24 @@ fn due_object<'a, A: Allocator>(state: &'a State<A>, token: &Token<'_>) -> Optio
     }
 }
 
-// The object that is held.
+// The object whose quad is ready.
 #[inline(always)]
 fn object<A: Allocator>(state: &State<A>) -> Option<TermRef<'_>>
-    ensures { option_map (term_by chars) result ≡ object_of state.now state.now.held }
+    ensures { option_map (term_by chars) result ≡ object_of state.now state.now.ready }
 {
     let text = state.text.as_str();
-    match state.held {
-        Held::Resource => Some(resource(state.object.view())),
-        Held::WithType => {
+    match state.ready {
+        Ready::Resource => Some(resource(state.object.view())),
+        Ready::WithType => {
             let datatype = state.datatype.view_or(Known::XsdString);
             Some(literal(text, TailRef::Typed(datatype)))
         }
-        Held::WithTag => match state.tag.view() {
+        Ready::WithTag => match state.tag.view() {
             Some(tag) => Some(literal(text, TailRef::Lang(tag))),
             None => None,
         },
-        Held::OfKnown(datatype) => Some(literal(text, TailRef::Typed(known(datatype)))),
-        Held::Nothing | Held::Nil(_) => None,
+        Ready::OfKnown(datatype) => Some(literal(text, TailRef::Typed(known(datatype)))),
+        Ready::Nothing | Ready::Nil(_) => None,
     }
 }
 

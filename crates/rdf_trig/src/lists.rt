@@ -9,7 +9,7 @@ ghost use Rattle.rdf_trig.specs.States.{graph_of, graph_at, mode_at, up_in};
 ghost use Rattle.rdf_trig.specs.Turns.{SuitsVerb, Takes, TurnFits, FramesTaken, StillFits};
 
 use crate::rest::Rest;
-use crate::state::{Around, Container, Held, Mode, State};
+use crate::state::{Around, Container, Mode, Ready, State};
 use crate::turn::Verb;
 use std::alloc::Allocator;
 use std::mem;
@@ -77,7 +77,7 @@ impl<A: Allocator + Copy> State<A> {
         self.frame.subject.set_cell(first);
         self.mode = self.collection_closed();
         self.rest = Rest::none();
-        self.held = Held::Nil(cell);
+        self.ready = Ready::Nil(cell);
     }
 
     // The mode after a collection, whose first cell is the subject of the frame in hand.

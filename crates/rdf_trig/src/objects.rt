@@ -15,7 +15,7 @@ ghost use Rattle.rdf_trig.specs.Turns.{FramesTaken};
 use crate::fault::StepFault;
 use crate::rest::Rest;
 use crate::spelled::{set_long_string, tag_of};
-use crate::state::{Container, Held, Mode, State};
+use crate::state::{Container, Mode, Ready, State};
 use crate::turn::ObjectStart;
 use rdf_terms::{Known, label_of, put_string, put_text};
 use rdf_tokens::Token;
@@ -143,7 +143,7 @@ impl<A: Allocator + Copy> State<A> {
     {
         self.datatype.clear();
         self.tag.set(tag_of(token))?;
-        self.hold(Rest::none(), Held::WithTag);
+        self.end_object(Rest::none(), Ready::WithTag);
         Ok(())
     }
 
@@ -157,7 +157,7 @@ impl<A: Allocator + Copy> State<A> {
     {
         self.tag.clear();
         mem::swap(&mut self.datatype, &mut self.name);
-        self.hold(Rest::none(), Held::WithType);
+        self.end_object(Rest::none(), Ready::WithType);
     }
 
     // A number or a boolean.
@@ -167,7 +167,7 @@ impl<A: Allocator + Copy> State<A> {
           object = self.new.object;
           text = self.new.text;
           rest = rest;
-          held = Held.OfKnown datatype;
+          ready = Ready.OfKnown datatype;
           mode = Mode.After;
         }) }
         ensures object { OnOk result (self.new.object.size ≡ 0) }
@@ -178,32 +178,32 @@ impl<A: Allocator + Copy> State<A> {
     {
         self.object.set_nil();
         put_text(&mut self.text, lexical)?;
-        self.hold(rest, Held::OfKnown(datatype));
+        self.end_object(rest, Ready::OfKnown(datatype));
         Ok(())
     }
 
-    // The reader stands after an IRI or a node, whose quad is held. The text is in no use, and emptied.
+    // The reader stands after an IRI or a node, whose quad is ready. The text is in no use, and emptied.
     #[inline(always)]
     fn hold_object(&mut self, rest: Rest)
         ensures same { self.new ≡ record self.old {
           text = self.new.text;
           rest = rest;
-          held = Held.Resource;
+          ready = Ready.Resource;
           mode = Mode.After;
         } }
         ensures text { string_bytes self.new.text ≡ [] }
     {
         self.text.clear();
-        self.hold(rest, Held::Resource);
+        self.end_object(rest, Ready::Resource);
     }
 
-    // The reader stands after an object, whose quad is held.
+    // The reader stands after an object, whose quad is ready.
     #[inline(always)]
-    fn hold(&mut self, rest: Rest, held: Held)
-        ensures { self.new ≡ record self.old { rest = rest; held = held; mode = Mode.After } }
+    fn end_object(&mut self, rest: Rest, ready: Ready)
+        ensures { self.new ≡ record self.old { rest = rest; ready = ready; mode = Mode.After } }
     {
         self.rest = rest;
-        self.held = held;
+        self.ready = ready;
         self.mode = Mode::After;
     }
 }

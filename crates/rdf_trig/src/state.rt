@@ -108,7 +108,7 @@ pub enum Mode {
 
 /// The quad whose head ended with the last token.
 #[derive(Clone, Copy, Debug)]
-pub enum Held {
+pub enum Ready {
     Nothing,
     /// That of the object, an IRI or a blank node, where the mode says.
     Resource,
@@ -143,7 +143,7 @@ pub struct State<A: Allocator = Global> {
     /// The cell before the one that the last token opened, and that cell.
     pub rest: Rest,
     /// The quad whose head ended with the last token.
-    pub held: Held,
+    pub ready: Ready,
     /// The object, where it is an IRI or a blank node.
     pub object: Topic<A>,
     /// A lexical form, or the prefix of a directive.

@@ -4,7 +4,7 @@ ghost use Rattle.std.specs.Prelude.{◌≡◌, is_some};
 ghost use Rattle.rdf_trig.specs.Turns.{Decides};
 
 use crate::form::DocForm;
-use crate::state::{Held, Level, Mode, State};
+use crate::state::{Level, Mode, Ready, State};
 use crate::turn::Turn;
 use rdf_terms::Kind;
 use std::alloc::Allocator;
@@ -16,7 +16,7 @@ use std::marker::Model;
 pub struct Step {
     level: Level,
     mode: Mode,
-    held: Held,
+    ready: Ready,
     turn: Option<Turn>,
 }
 
@@ -25,7 +25,7 @@ impl Model for Step {
 
     ghost Value = { StepAt };
 
-    ghost view = { λ s. record { level = s.level; mode = s.mode; held = s.held; turn = s.turn } };
+    ghost view = { λ s. record { level = s.level; mode = s.mode; ready = s.ready; turn = s.turn } };
 }
 
 impl Step {
@@ -42,13 +42,13 @@ impl<A: Allocator> State<A> {
     pub fn step(&self, form: DocForm, kind: Kind) -> Step
         ensures level { result.level ≡ self.now.level }
         ensures mode { result.mode ≡ self.now.mode }
-        ensures held { result.held ≡ self.now.held }
+        ensures ready { result.ready ≡ self.now.ready }
         ensures turn { Decides form self.now self.now.mode kind result.turn }
     {
         Step {
             level: self.level,
             mode: self.mode,
-            held: self.held,
+            ready: self.ready,
             turn: self.turn(form, kind),
         }
     }

@@ -12,7 +12,7 @@ ghost use Rattle.rdf_trig.specs.Straight.{Fills, slot_turn};
 
 use crate::fault::StepFault;
 use crate::give::is_idle;
-use crate::state::{Around, Container, Held, Level, Mode, State};
+use crate::state::{Around, Container, Level, Mode, Ready, State};
 use crate::turn::{ObjectStart, SubjectStart, Turn, Verb};
 use rdf_iri::Scope;
 use rdf_terms::Kind;
@@ -33,13 +33,13 @@ pub enum Slot {
 }
 
 impl<A: Allocator + Copy> State<A> {
-    /// Where the IRI of the token goes, if no quad is given out before. Elsewhere what is held has to stay until the
+    /// Where the IRI of the token goes, if no quad is given out before. Elsewhere the quad that is ready has to stay until the
     /// quads are put, so that the IRI goes into a text of its own first (`State::look_up`).
     #[inline(always)]
     pub fn slot(&self, turn: Turn, kind: Kind) -> Option<Slot>
         ensures turn { IfSome result (λ p. slot_turn p ≡ turn) }
         ensures kind { IfSome result (λ p. StandsForIri kind) }
-        ensures held { IfSome result (λ p. self.now.held ≡ Held.Nothing) }
+        ensures ready { IfSome result (λ p. self.now.ready ≡ Ready.Nothing) }
         ensures rest { IfSome result (λ p. self.now.rest ≡ None) }
         ensures idle { IfSome result (λ p. (form : DocForm) (s : InForce) (t : Given) → given form s self.now t ≡ []) }
     {
@@ -55,11 +55,11 @@ impl<A: Allocator + Copy> State<A> {
         }
     }
 
-    /// Takes a token whose IRI goes there. Nothing is held, and no rdf:rest is owed, so that these stay as they are.
+    /// Takes a token whose IRI goes there. No quad is ready, and no rdf:rest is owed, so that these stay as they are.
     /// After an error nothing is known of the state.
     #[inline(always)]
     pub fn fill(&mut self, slot: Slot, scope: &Scope<A>, token: &Token<'_>) -> Result<(), StepFault>
-        requires held { self.old.held ≡ Held.Nothing }
+        requires ready { self.old.ready ≡ Ready.Nothing }
         requires rest { self.old.rest ≡ None }
         requires token { IsTurtleToken token.now }
         requires kind { StandsForIri token.now.kind }
@@ -81,13 +81,13 @@ impl<A: Allocator + Copy> State<A> {
             Slot::Object => {
                 self.object.set_name(self.alloc, scope, token)?;
                 self.text.clear();
-                self.held = Held::Resource;
+                self.ready = Ready::Resource;
                 self.mode = Mode::After;
             }
             Slot::Datatype => {
                 self.tag.clear();
                 self.datatype.set(self.alloc, scope, token)?;
-                self.held = Held::WithType;
+                self.ready = Ready::WithType;
                 self.mode = Mode::After;
             }
         }

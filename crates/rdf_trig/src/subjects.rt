@@ -1,6 +1,6 @@
 // Turns where a subject stands.
 
-ghost use Rattle.std.specs.Prelude.{◌≡◌, ℕ, ◌-◌, ◌≤◌, [], length, OnOk, IfErr};
+ghost use Rattle.std.specs.Prelude.{◌≡◌, ◌-◌, ◌≤◌, [], length, OnOk, IfErr};
 ghost use Rattle.rdf_tokens.specs.Leaves.{Leaf};
 ghost use Rattle.rdf_trig.specs.declared.form.DocForm.{DocForm};
 ghost use Rattle.rdf_trig.specs.declared.turn.Turn.TheVariants as Turn;

@@ -6,7 +6,7 @@ ghost use Rattle.rdf_trig.specs.Turns.{Suits, Takes, TakesFit, FramesTaken};
 
 use crate::fault::StepFault;
 use crate::rest::Rest;
-use crate::state::{Held, Mode, State};
+use crate::state::{Mode, Ready, State};
 use crate::turn::Turn;
 use rdf_tokens::Token;
 use std::alloc::Allocator;
@@ -60,21 +60,21 @@ impl<A: Allocator + Copy> State<A> {
         Ok(())
     }
 
-    // The reader stands here, and nothing is held.
+    // The reader stands here, and no quad is ready.
     #[inline(always)]
     pub fn stand(&mut self, mode: Mode)
-        ensures { self.new ≡ record self.old { rest = None; held = Held.Nothing; mode = mode } }
+        ensures { self.new ≡ record self.old { rest = None; ready = Ready.Nothing; mode = mode } }
     {
         self.wait(Rest::none(), mode);
     }
 
-    // The reader stands here, and no more than the rdf:rest between two cells is held.
+    // The reader stands here, and no more than the rdf:rest between two cells is ready.
     #[inline(always)]
     pub fn wait(&mut self, rest: Rest, mode: Mode)
-        ensures { self.new ≡ record self.old { rest = rest; held = Held.Nothing; mode = mode } }
+        ensures { self.new ≡ record self.old { rest = rest; ready = Ready.Nothing; mode = mode } }
     {
         self.rest = rest;
-        self.held = Held::Nothing;
+        self.ready = Ready::Nothing;
         self.mode = mode;
     }
 }

@@ -1,6 +1,6 @@
 // The characters of a string with their escapes, placed in a buffer that has room for them.
 
-ghost use Rattle.std.specs.Prelude.{◌≡◌, ◌+◌, ◌*◌, ◌≤◌, flat_map, length};
+ghost use Rattle.std.specs.Prelude.{◌+◌, ◌*◌, ◌≤◌, flat_map, length};
 ghost use Rattle.rdf_lines.specs.declared.form.Escapes.TheVariants.{Plain};
 ghost use Rattle.rdf_terms.specs.Placing.{Placed};
 ghost use Rattle.rdf_lines.specs.Writing.{escaped};

@@ -1,6 +1,6 @@
 // A number in decimal, placed from its first digit on.
 
-ghost use Rattle.std.specs.Prelude.{◌≡◌, ◌++◌, ◌+◌, ◌/◌, ◌%◌, ◌<◌, ◌≤◌, decimal, length};
+ghost use Rattle.std.specs.Prelude.{◌++◌, ◌+◌, ◌/◌, ◌%◌, ◌<◌, ◌≤◌, decimal, length};
 ghost use Rattle.rdf_terms.specs.Placing.{Placed};
 ghost use Rattle.rdf_lines.specs.Placing.{two_digits};
 

@@ -13,16 +13,16 @@ const DOCUMENT: &[u8] = b"<g:> { [] a <s:>, \"x\"@en }";
 
 /// Of each token its kind, where the reader stands before it, and what it does there.
 const STEPS: &str = "\
-IriRef Step { level: Top, mode: Outer(Start), held: Nothing, turn: Some(Subject(Top, Name)) }
-OpenBrace Step { level: Top, mode: AfterSubject, held: Nothing, turn: Some(SubjectBlock) }
-OpenBracket Step { level: Top, mode: Outer(Inside(Named)), held: Nothing, turn: Some(Subject(Block(Named), Brackets)) }
-CloseBracket Step { level: Block(Named), mode: PropertyListStart, held: Nothing, turn: Some(EndNode) }
-A Step { level: Block(Named), mode: AfterSubject, held: Nothing, turn: Some(Verb(Statement, Type)) }
-IriRef Step { level: Block(Named), mode: Want, held: Nothing, turn: Some(Object(Name)) }
-Comma Step { level: Block(Named), mode: After, held: Resource, turn: Some(NextObject) }
-ShortString Step { level: Block(Named), mode: Want, held: Nothing, turn: Some(Object(ShortString)) }
-LangTag Step { level: Block(Named), mode: AfterText, held: Nothing, turn: Some(Tag) }
-CloseBrace Step { level: Block(Named), mode: After, held: WithTag, turn: Some(Lead(Start)) }
+IriRef Step { level: Top, mode: Outer(Start), ready: Nothing, turn: Some(Subject(Top, Name)) }
+OpenBrace Step { level: Top, mode: AfterSubject, ready: Nothing, turn: Some(SubjectBlock) }
+OpenBracket Step { level: Top, mode: Outer(Inside(Named)), ready: Nothing, turn: Some(Subject(Block(Named), Brackets)) }
+CloseBracket Step { level: Block(Named), mode: PropertyListStart, ready: Nothing, turn: Some(EndNode) }
+A Step { level: Block(Named), mode: AfterSubject, ready: Nothing, turn: Some(Verb(Statement, Type)) }
+IriRef Step { level: Block(Named), mode: Want, ready: Nothing, turn: Some(Object(Name)) }
+Comma Step { level: Block(Named), mode: After, ready: Resource, turn: Some(NextObject) }
+ShortString Step { level: Block(Named), mode: Want, ready: Nothing, turn: Some(Object(ShortString)) }
+LangTag Step { level: Block(Named), mode: AfterText, ready: Nothing, turn: Some(Tag) }
+CloseBrace Step { level: Block(Named), mode: After, ready: WithTag, turn: Some(Lead(Start)) }
 ";
 
 /// The most tokens that are looked at.

@@ -71,11 +71,11 @@ depth_stays k old new h e = absurd h
 
 -- the answer, once the token is allowed and not too deep
 abbrev quads_out : M.State → Kind → Leaf → List Quad
-quads_out n k l = n.held ++ kept (M.waiting n.setting n.mode k l) []
+quads_out n k l = n.ready ++ kept (M.waiting n.setting n.mode k l) []
 
 -- the machine's state after a reply, with the quads that it holds back
 abbrev after : Option Quad → Option Quad → Setting → M.Mode → M.State
-after early now c m = record { setting = c; mode = m; held = kept early (kept now []) }
+after early now c m = record { setting = c; mode = m; ready = kept early (kept now []) }
 
 -- a bracket that the grammar allows is refused where as many are open as may be
 pub deep_refused : (form : DocForm) (n : M.State) (k : Kind) (l : Leaf) → is_go (M.step form n.setting n.mode k l) ≡ true →

@@ -1,4 +1,4 @@
--- The quad that is due at a token: of the object that is held, or that the token decides.
+-- The quad that is due at a token: of the object whose quad is ready, or that the token decides.
 use Rattle.std.proofs.Common.{◌≡◌, ℕ, List, [], ◌++◌, Option, Some, None, length, ◌-◌, ◌⊎◌, inl, inr, refl, sym, ap, subst, ◌∙◌}
 use Rattle.std.specs.Prelude.{⊤, is_some, option_map, slice_get}
 use Rattle.std.proofs.lemmas.Bool.{false≢true}
@@ -16,8 +16,8 @@ use Rattle.rdf_trig.specs.declared.state.Mode.{Mode}
 use Rattle.rdf_trig.specs.declared.state.Mode.TheVariants as mode
 use Rattle.rdf_trig.specs.declared.state.Outer.{Outer}
 use Rattle.rdf_trig.specs.declared.state.Outer.TheVariants as outer
-use Rattle.rdf_trig.specs.declared.state.Held.{Held}
-use Rattle.rdf_trig.specs.declared.state.Held.TheVariants as held
+use Rattle.rdf_trig.specs.declared.state.Ready.{Ready}
+use Rattle.rdf_trig.specs.declared.state.Ready.TheVariants as ready
 use Rattle.rdf_trig.specs.declared.state.Container.{Container}
 use Rattle.rdf_trig.specs.declared.state.Container.TheVariants as container
 use Rattle.rdf_trig.specs.declared.state.Frame.{Frame}
@@ -25,7 +25,7 @@ use Rattle.rdf_trig.specs.declared.state.State.{State}
 use Rattle.rdf_trig.specs.Quads.{stated}
 use Rattle.rdf_trig.specs.Machine as M
 use Rattle.rdf_trig.specs.Machine.{kept}
-use Rattle.rdf_trig.specs.States.{leaf, mode_at, level_of, place_at, place_in, verb_of, up_in, outer_of, after_semicolon_at, setting, graph_of, graph_at, graph_in, mode_in, text_in, object_of, object_quad, rest_of, held_of}
+use Rattle.rdf_trig.specs.States.{leaf, mode_at, level_of, place_at, place_in, verb_of, up_in, outer_of, after_semicolon_at, setting, graph_of, graph_at, graph_in, mode_in, text_in, object_of, object_quad, rest_of, ready_of}
 use Rattle.rdf_trig.specs.Steps.{given, last_of, plain_term, collection_term, due_term, due_quad, IsQuadAt, IsListed, HasCome, IsAfterObject}
 use Rattle.rdf_trig.proofs.code.FrameStack.{up_last}
 
@@ -40,20 +40,20 @@ object_none g (M.After p) = stated_none (Some g) (M.subject_at p) (M.verb_at p)
 object_none g (M.PropertyListStart n (M.At p)) = stated_none (Some g) (M.subject_at p) (M.verb_at p)
 object_none g m = refl
 
--- what is held is the end of a collection, or the quad of an object
-held_apart : {A : Type 0} (g : Option term.Subject) (m : M.Mode) (n : State A) (h : Held) →
-    kept (held_of g m n h) [] ≡ kept (last_of g h) [] ++ kept (object_quad g m (object_of n h)) []
-held_apart g m n held.Nothing = sym (ap (λ x. kept x []) (object_none g m))
-held_apart g m n (held.Nil cell) = sym (ap (λ x. kept (last_of g (held.Nil cell)) [] ++ kept x []) (object_none g m))
-held_apart g m n held.Resource = refl
-held_apart g m n held.WithType = refl
-held_apart g m n held.WithTag = refl
-held_apart g m n (held.OfKnown k) = refl
+-- what is ready is the end of a collection, or the quad of an object
+ready_apart : {A : Type 0} (g : Option term.Subject) (m : M.Mode) (n : State A) (h : Ready) →
+    kept (ready_of g m n h) [] ≡ kept (last_of g h) [] ++ kept (object_quad g m (object_of n h)) []
+ready_apart g m n ready.Nothing = sym (ap (λ x. kept x []) (object_none g m))
+ready_apart g m n (ready.Nil cell) = sym (ap (λ x. kept (last_of g (ready.Nil cell)) [] ++ kept x []) (object_none g m))
+ready_apart g m n ready.Resource = refl
+ready_apart g m n ready.WithType = refl
+ready_apart g m n ready.WithTag = refl
+ready_apart g m n (ready.OfKnown k) = refl
 
--- in a mode without an object the last rdf:rest is all that is held
-held_last : {A : Type 0} (g : Option term.Subject) (m : M.Mode) (n : State A) (h : Held) → object_quad g m (object_of n h) ≡ None →
-    kept (held_of g m n h) [] ≡ kept (last_of g h) []
-held_last g m n h e = held_apart g m n h ∙ (ap (λ x. kept (last_of g h) [] ++ kept x []) e ∙ append-nil (kept (last_of g h) []))
+-- in a mode without an object the last rdf:rest is all that is ready
+ready_last : {A : Type 0} (g : Option term.Subject) (m : M.Mode) (n : State A) (h : Ready) → object_quad g m (object_of n h) ≡ None →
+    kept (ready_of g m n h) [] ≡ kept (last_of g h) []
+ready_last g m n h e = ready_apart g m n h ∙ (ap (λ x. kept (last_of g h) [] ++ kept x []) e ∙ append-nil (kept (last_of g h) []))
 
 -- a string that the token ends
 text_due : (s : InForce) (g : Option term.Subject) (w : List ℕ) (p : M.Place) (k : Kind) (l : Leaf) →
@@ -80,14 +80,14 @@ HasNone (M.PropertyListStart n u) = ⊥
 HasNone (M.CollectionStart u) = ⊥
 HasNone m = ⊤
 
--- what is held and what waits, where the object that waits is known
-joined : {A : Type 0} (g : Option term.Subject) (m : M.Mode) (n : State A) (h : Held) (a b : Option Quad) → object_quad g m (object_of n h) ≡ None → a ≡ b →
-    kept (held_of g m n h) [] ++ kept a [] ≡ kept (last_of g h) [] ++ kept b []
-joined g m n h a b e f = ap (λ x. x ++ kept a []) (held_last g m n h e) ∙ ap (λ x. kept (last_of g h) [] ++ kept x []) f
+-- what is ready and what waits, where the object that waits is known
+joined : {A : Type 0} (g : Option term.Subject) (m : M.Mode) (n : State A) (h : Ready) (a b : Option Quad) → object_quad g m (object_of n h) ≡ None → a ≡ b →
+    kept (ready_of g m n h) [] ++ kept a [] ≡ kept (last_of g h) [] ++ kept b []
+joined g m n h a b e f = ap (λ x. x ++ kept a []) (ready_last g m n h e) ∙ ap (λ x. kept (last_of g h) [] ++ kept x []) f
 
 -- so in such a mode the last rdf:rest is all
-none_due : {A : Type 0} (s : InForce) (g : Option term.Subject) (m : M.Mode) (n : State A) (h : Held) (k : Kind) (l : Leaf) → HasNone m →
-    kept (held_of g m n h) [] ++ kept (M.waiting (setting s g) m k l) [] ≡ kept (last_of g h) [] ++ kept (due_quad g m None) []
+none_due : {A : Type 0} (s : InForce) (g : Option term.Subject) (m : M.Mode) (n : State A) (h : Ready) (k : Kind) (l : Leaf) → HasNone m →
+    kept (ready_of g m n h) [] ++ kept (M.waiting (setting s g) m k l) [] ≡ kept (last_of g h) [] ++ kept (due_quad g m None) []
 none_due s g (M.After p) n h k l e = absurd e
 none_due s g (M.AfterText w p) n h k l e = absurd e
 none_due s g (M.PropertyListStart b u) n h k l e = absurd e
@@ -110,23 +110,23 @@ semicolon_none : (p : M.Place) → HasNone (after_semicolon_at p)
 semicolon_none (M.Listed s p a) = tt
 semicolon_none (M.InCollection first cell u) = tt
 
--- what is held and what waits is the end of a collection and the quad that is due
+-- what is ready and what waits is the end of a collection and the quad that is due
 due_apart : {A : Type 0} (form : DocForm) (s : InForce) (g : Option term.Subject) (n : State A) (m : Mode) (t : Given) →
-    kept (held_of g (mode_at form n m) n n.held) [] ++ kept (M.waiting (setting s g) (mode_at form n m) t.kind (leaf t)) []
-    ≡ kept (last_of g n.held) [] ++ kept (due_quad g (mode_at form n m) (due_term n m t)) []
-due_apart form s g n mode.After t = append-nil _ ∙ held_apart g (M.After (place_in n)) n n.held
-due_apart form s g n mode.PropertyListStart t = append-nil _ ∙ held_apart g (M.PropertyListStart n.bracket (up_in n)) n n.held
+    kept (ready_of g (mode_at form n m) n n.ready) [] ++ kept (M.waiting (setting s g) (mode_at form n m) t.kind (leaf t)) []
+    ≡ kept (last_of g n.ready) [] ++ kept (due_quad g (mode_at form n m) (due_term n m t)) []
+due_apart form s g n mode.After t = append-nil _ ∙ ready_apart g (M.After (place_in n)) n n.ready
+due_apart form s g n mode.PropertyListStart t = append-nil _ ∙ ready_apart g (M.PropertyListStart n.bracket (up_in n)) n n.ready
 due_apart form s g n mode.AfterText t =
-    let m = M.AfterText (text_in n) (place_in n) in joined g m n n.held _ _ refl (text_due s g (text_in n) (place_in n) t.kind (leaf t))
+    let m = M.AfterText (text_in n) (place_in n) in joined g m n n.ready _ _ refl (text_due s g (text_in n) (place_in n) t.kind (leaf t))
 due_apart form s g n mode.CollectionStart t =
-    let m = M.CollectionStart (up_in n) in joined g m n n.held _ _ refl (collection_due s g (up_in n) t.kind (leaf t))
+    let m = M.CollectionStart (up_in n) in joined g m n n.ready _ _ refl (collection_due s g (up_in n) t.kind (leaf t))
 due_apart form s g n (mode.Outer o) t =
-    let m = outer_of o n.bracket (text_in n) n.graph in none_due s g m n n.held t.kind (leaf t) (outer_none o n.bracket (text_in n) n.graph)
+    let m = outer_of o n.bracket (text_in n) n.graph in none_due s g m n n.ready t.kind (leaf t) (outer_none o n.bracket (text_in n) n.graph)
 due_apart form s g n mode.AfterSubject t =
     let v = level_of n.level in
-    none_due s g (M.after_subject form v n.frame.subject) n n.held t.kind (leaf t) (subject_none form v n.frame.subject)
-due_apart form s g n mode.AfterSemicolon t = none_due s g (after_semicolon_at (place_in n)) n n.held t.kind (leaf t) (semicolon_none (place_in n))
-due_apart form s g n m t = none_due s g (mode_at form n m) n n.held t.kind (leaf t) tt
+    none_due s g (M.after_subject form v n.frame.subject) n n.ready t.kind (leaf t) (subject_none form v n.frame.subject)
+due_apart form s g n mode.AfterSemicolon t = none_due s g (after_semicolon_at (place_in n)) n n.ready t.kind (leaf t) (semicolon_none (place_in n))
+due_apart form s g n m t = none_due s g (mode_at form n m) n n.ready t.kind (leaf t) tt
 
 -- the quads that a token determines, one by one
 kept_apart : (q r w : Option Quad) → kept q (kept r []) ++ kept w [] ≡ kept q [] ++ (kept r [] ++ kept w [])
@@ -137,10 +137,10 @@ kept_apart (Some q) (Some r) w = refl
 
 -- the three quads that a token may give out, in the words of the reader's state
 given_apart : {A : Type 0} (form : DocForm) (s : InForce) (n : State A) (t : Given) → let g = graph_in n in
-    given form s n t ≡ kept (rest_of g n.rest) [] ++ (kept (last_of g n.held) [] ++ kept (due_quad g (mode_in form n) (due_term n n.mode t)) [])
+    given form s n t ≡ kept (rest_of g n.rest) [] ++ (kept (last_of g n.ready) [] ++ kept (due_quad g (mode_in form n) (due_term n n.mode t)) [])
 given_apart form s n t =
     let g = graph_in n in
-    kept_apart (rest_of g n.rest) (held_of g (mode_in form n) n n.held) _ ∙ ap (λ x. kept (rest_of g n.rest) [] ++ x) (due_apart form s g n n.mode t)
+    kept_apart (rest_of g n.rest) (ready_of g (mode_in form n) n n.ready) _ ∙ ap (λ x. kept (rest_of g n.rest) [] ++ x) (due_apart form s g n n.mode t)
 
 -- for equal quads
 in_row : (q a r b w c : Option Quad) → q ≡ a → r ≡ b → w ≡ c → kept a [] ++ (kept b [] ++ kept c []) ≡ kept q [] ++ (kept r [] ++ kept w [])
@@ -150,13 +150,13 @@ in_row q a r b w c e f g =
 
 -- so the quads that the code makes are what the token gives out
 pub given_in : {A : Type 0} (form : DocForm) (s : InForce) (n : State A) (t : Given) (g : Option term.Subject) (q r w : Option Quad) →
-    g ≡ graph_in n → q ≡ rest_of g n.rest → r ≡ last_of g n.held → w ≡ due_quad g (mode_in form n) (due_term n n.mode t) →
+    g ≡ graph_in n → q ≡ rest_of g n.rest → r ≡ last_of g n.ready → w ≡ due_quad g (mode_in form n) (due_term n n.mode t) →
     given form s n t ≡ kept q [] ++ (kept r [] ++ kept w [])
 given_in form s n t g q r w e a b c =
     given_apart form s n t
     ∙ in_row q _ r _ w _
     (a ∙ ap (λ x. rest_of x n.rest) e)
-    (b ∙ ap (λ x. last_of x n.held) e)
+    (b ∙ ap (λ x. last_of x n.ready) e)
     (c ∙ ap (λ x. due_quad x (mode_in form n) (due_term n n.mode t)) e)
 
 -- the quad that is due at the place in hand
@@ -184,25 +184,25 @@ due_above form n mode.CollectionStart t g o f q a b d l at =
 due_above form n m t g o f q a b d l at = absurd (false≢true (sym (ap is_some d)))
 
 -- after an object no collection has ended
-last_none : (g : Option term.Subject) (m : Mode) (h : Held) → HasCome m h → last_of g h ≡ None
-last_none g mode.After (held.Nil cell) e = absurd e
-last_none g mode.AfterText (held.Nil cell) e = absurd e
-last_none g m (held.Nil cell) e = absurd e
+last_none : (g : Option term.Subject) (m : Mode) (h : Ready) → HasCome m h → last_of g h ≡ None
+last_none g mode.After (ready.Nil cell) e = absurd e
+last_none g mode.AfterText (ready.Nil cell) e = absurd e
+last_none g m (ready.Nil cell) e = absurd e
 last_none g m h e = refl
 
 -- after an object of a predicate list its quad is given out alone
 given_alone : {A : Type 0} (form : DocForm) (s : InForce) (n : State A) (t : Given) (q : Option Quad) → IsAfterObject n →
     q ≡ due_quad (graph_in n) (mode_in form n) (due_term n n.mode t) → given form s n t ≡ kept q []
 given_alone form s n t q after e =
-    let g = graph_in n in given_in form s n t g None None q refl (sym (ap (rest_of g) after.0)) (sym (last_none g n.mode n.held after.2)) e
+    let g = graph_in n in given_in form s n t g None None q refl (sym (ap (rest_of g) after.0)) (sym (last_none g n.mode n.ready after.2)) e
 
 -- where an object has come its place is that in hand, in the graph of the statement
-come_here : (m : Mode) (h : Held) → HasCome m h → (m ≡ mode.After) ⊎ (m ≡ mode.AfterText)
+come_here : (m : Mode) (h : Ready) → HasCome m h → (m ≡ mode.After) ⊎ (m ≡ mode.AfterText)
 come_here mode.After h e = inl refl
 come_here mode.AfterText h e = inr refl
 come_here m h e = absurd e
 
-come_graph : {A : Type 0} (n : State A) (m : Mode) (h : Held) → HasCome m h → graph_of n.level n.graph ≡ graph_at n m
+come_graph : {A : Type 0} (n : State A) (m : Mode) (h : Ready) → HasCome m h → graph_of n.level n.graph ≡ graph_at n m
 come_graph n mode.After h e = refl
 come_graph n mode.AfterText h e = refl
 come_graph n m h e = absurd e
@@ -212,8 +212,8 @@ pub given_listed : {A : Type 0} (form : DocForm) (s : InForce) (n : State A) (t 
     Some o ≡ due_term n n.mode t → IsQuadAt n.frame (graph_of n.level n.graph) o q → given form s n t ≡ kept q []
 given_listed form s n t o q after d at =
     given_alone form s n t q after
-    (due_here form n n.mode t (graph_in n) o q (come_here n.mode n.held after.2) d
-    (subst (λ g. IsQuadAt n.frame g o q) (come_graph n n.mode n.held after.2) at))
+    (due_here form n n.mode t (graph_in n) o q (come_here n.mode n.ready after.2) d
+    (subst (λ g. IsQuadAt n.frame g o q) (come_graph n n.mode n.ready after.2) at))
 
 -- without an object there is no quad, whatever the mode is
 due_none : (g : Option term.Subject) (m : M.Mode) → due_quad g m None ≡ None
@@ -227,15 +227,15 @@ given_none form s n t after d =
     let g = graph_in n in
     given_alone form s n t None after (sym (due_none g (mode_in form n)) ∙ ap (due_quad g (mode_in form n)) d)
 
--- an object that is held is the one that is due
-come_due : {A : Type 0} (n : State A) (m : Mode) (t : Given) → HasCome m n.held → n.held ≡ held.Resource → object_of n n.held ≡ due_term n m t
+-- an object whose quad is ready is the one that is due
+come_due : {A : Type 0} (n : State A) (m : Mode) (t : Given) → HasCome m n.ready → n.ready ≡ ready.Resource → object_of n n.ready ≡ due_term n m t
 come_due n mode.After t h e = refl
 come_due n mode.AfterText t h e = absurd (subst (HasCome mode.AfterText) e h)
 come_due n m t h e = absurd h
 
 -- where it is an IRI its quad is given out, whatever the token is
 pub given_iri : {A : Type 0} (form : DocForm) (s : InForce) (n : State A) (t : Given) (i : List ℕ) (q : Option Quad) → IsAfterObject n →
-    n.held ≡ held.Resource → Some (term.Iri i) ≡ n.object.term → IsQuadAt n.frame (graph_of n.level n.graph) (term.Resource (term.Iri i)) q →
+    n.ready ≡ ready.Resource → Some (term.Iri i) ≡ n.object.term → IsQuadAt n.frame (graph_of n.level n.graph) (term.Resource (term.Iri i)) q →
     given form s n t ≡ kept q []
 given_iri form s n t i q after e o at =
     let due = ap (option_map term.Resource) o ∙ (sym (ap (object_of n) e) ∙ come_due n n.mode t after.2 e) in

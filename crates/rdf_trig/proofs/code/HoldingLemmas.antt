@@ -17,8 +17,8 @@ use Rattle.rdf_trig.specs.declared.form.DocForm.{DocForm}
 use Rattle.rdf_trig.specs.declared.state.Frame.{Frame}
 use Rattle.rdf_trig.specs.declared.state.Mode.{Mode}
 use Rattle.rdf_trig.specs.declared.state.Mode.TheVariants as mode
-use Rattle.rdf_trig.specs.declared.state.Held.{Held}
-use Rattle.rdf_trig.specs.declared.state.Held.TheVariants as held
+use Rattle.rdf_trig.specs.declared.state.Ready.{Ready}
+use Rattle.rdf_trig.specs.declared.state.Ready.TheVariants as ready
 use Rattle.rdf_trig.specs.declared.state.State.{State}
 use Rattle.rdf_tokens.specs.declared.token.Token.{Token as Given}
 use Rattle.rdf_tokens.specs.Good.{most_bytes}
@@ -58,16 +58,16 @@ before_shorter c w =
     omega (arith, all, cut)
 
 -- a state fits as one that it differs from only in where it stands and in what waits
-pub stands_fits : {A : Type 0} (n : ℕ) (old new : State A) (m : Mode) (h : Held) (x : Option (ℕ × ℕ)) →
-    new ≡ record old { rest = x; held = h; mode = m } → Fits n old → Fits n new
+pub stands_fits : {A : Type 0} (n : ℕ) (old new : State A) (m : Mode) (h : Ready) (x : Option (ℕ × ℕ)) →
+    new ≡ record old { rest = x; ready = h; mode = m } → Fits n old → Fits n new
 stands_fits n old new m h x e f =
     subst (Fits n) (sym e) (record { graph = f.graph; object = f.object; tail = f.tail; frame = f.frame; frames = f.frames; spares = f.spares })
 
 -- so too with another object, where the text is emptied
-pub held_fits : {A : Type 0} (n : ℕ) (old new : State A) (o : Topic) (x : Option (ℕ × ℕ)) →
-    new ≡ record old { object = o; text = new.text; rest = x; held = held.Resource; mode = mode.After } → string_bytes new.text ≡ [] →
+pub ready_fits : {A : Type 0} (n : ℕ) (old new : State A) (o : Topic) (x : Option (ℕ × ℕ)) →
+    new ≡ record old { object = o; text = new.text; rest = x; ready = ready.Resource; mode = mode.After } → string_bytes new.text ≡ [] →
     Fits n old → o.size ≤ n → Fits n new
-held_fits n old new o x e t f h =
+ready_fits n old new o x e t f h =
     let empty = ap length t in
     subst (Fits n) (sym e) (record { graph = f.graph; object = omega (arith, h, empty); tail = f.tail; frame = f.frame; frames = f.frames; spares = f.spares })
 

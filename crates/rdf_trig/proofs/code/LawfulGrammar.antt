@@ -76,7 +76,7 @@ module _ {S : Type 0} (takes : S → Quad → S → Type 0) (g : TreeAt) (t : To
       by (refuses y) e h = absurd h
       by (accepts quads m) e h =
           let now = state_of g.form scope r in
-          let same : SameState m now = subst (λ y. SameState y now) (sym h.1.2) (record { scope = h.1.1; graph = refl; mode = refl; held = refl }) in
+          let same : SameState m now = subst (λ y. SameState y now) (sym h.1.2) (record { scope = h.1.1; graph = refl; mode = refl; ready = refl }) in
           record {
             more = quads;
             count = count quads m e;

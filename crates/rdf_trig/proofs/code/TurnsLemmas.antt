@@ -16,7 +16,7 @@ use Rattle.rdf_trig.specs.declared.state.Level.{Level}
 use Rattle.rdf_trig.specs.declared.state.Level.TheVariants as level
 use Rattle.rdf_trig.specs.declared.state.State.{State}
 use Rattle.rdf_trig.specs.declared.state.Mode.{Mode}
-use Rattle.rdf_trig.specs.declared.state.Held.TheVariants as held
+use Rattle.rdf_trig.specs.declared.state.Ready.TheVariants as ready
 use Rattle.rdf_trig.specs.declared.turn.ObjectStart.{ObjectStart}
 use Rattle.rdf_trig.specs.declared.turn.ObjectStart.TheVariants as object
 use Rattle.rdf_trig.specs.declared.turn.Turn.{Turn}
@@ -57,7 +57,7 @@ decides_at form r k x m e h = subst (λ m. Decides form r m k x) (sym e) h
 
 -- the reply of a state that holds nothing
 pub stands_at : {A : Type 0} (form : DocForm) (s : InForce) (u : Use) (old new : State A) (m : Mode) (g : Option term.Subject) (x : M.Mode) →
-    new ≡ record old { rest = None; held = held.Nothing; mode = m } → graph_at old m ≡ g →
+    new ≡ record old { rest = None; ready = ready.Nothing; mode = m } → graph_at old m ≡ g →
     mode_at form old m ≡ x → Go u None None (setting s g) x ≡ moved form s u new
 stands_at form s u old new m g x is e f =
     subst (λ n. Go u None None (setting s g) x ≡ moved form s u n) (sym is)
@@ -77,9 +77,9 @@ has_term kind.Nil w = refl
 pub ended_at : {A : Type 0} (form : DocForm) (s : InForce) (u : Use) (old : State A) (m : Mode) (g : Option term.Subject) (x : M.Mode)
     (n : ℕ) (y : Option (ℕ × ℕ)) →
     y ≡ None → graph_at old m ≡ g → mode_at form old m ≡ x →
-    Go u None (cells_quad g n M.nil) (setting s g) x ≡ moved form s u (record old { rest = y; held = held.Nil n; mode = m })
+    Go u None (cells_quad g n M.nil) (setting s g) x ≡ moved form s u (record old { rest = y; ready = ready.Nil n; mode = m })
 ended_at form s u old m g x n y none e f =
-    subst (λ z. Go u None (cells_quad g n M.nil) (setting s g) x ≡ moved form s u (record old { rest = z; held = held.Nil n; mode = m })) (sym none)
+    subst (λ z. Go u None (cells_quad g n M.nil) (setting s g) x ≡ moved form s u (record old { rest = z; ready = ready.Nil n; mode = m })) (sym none)
     (let h = graph_at old m in
     subst (λ z. Go u None (cells_quad z n M.nil) (setting s z) x ≡ Go u None (cells_quad h n M.nil) (setting s h) (mode_at form old m)) e
     (ap (λ z. Go u None (cells_quad h n M.nil) (setting s h) z) (sym f)))

@@ -44,10 +44,10 @@ abbrev in_turtle : Language
 in_turtle = language Turtle bound
 
 abbrev at_rest : State
-at_rest = record { setting = in_default bound; mode = Start; held = [] }
+at_rest = record { setting = in_default bound; mode = Start; ready = [] }
 
 abbrev over : State
-over = record { setting = in_default bound; mode = Over; held = [] }
+over = record { setting = in_default bound; mode = Over; ready = [] }
 
 -- No directive stands before these names.
 abbrev named : List ℕ
@@ -120,7 +120,7 @@ abbrev anew_quads : List Quad
 anew_quads = quad (term.Iri (codes "c:/a")) (codes "c:/a") (Resource (term.Iri (codes "c:/a"))) None ∷ []
 
 abbrev anew_over : State
-anew_over = record { setting = in_default (record bound { bindings = (codes "x", codes "c:/") ∷ [] }); mode = Over; held = [] }
+anew_over = record { setting = in_default (record bound { bindings = (codes "x", codes "c:/") ∷ [] }); mode = Over; ready = [] }
 
 anew_ran : accept_all Turtle (at_start bound) anew_tokens ≡ ran anew_over anew_quads
 unfolding reference_in name_in resolved is_full has encode
@@ -137,7 +137,7 @@ abbrev second_token : Token
 second_token = token IriRef (leaf (codes "<c:/>") 10 1)
 
 abbrev second_state : State
-second_state = record { setting = in_default bound; mode = WantPrefixIri Sparql (codes "y"); held = [] }
+second_state = record { setting = in_default bound; mode = WantPrefixIri Sparql (codes "y"); ready = [] }
 
 second_ran : accept_all Turtle (at_start bound) second_tokens ≡ ran second_state []
 unfolding reference_in name_in resolved is_full has encode

@@ -42,7 +42,7 @@ abbrev brace : Token
 brace = token OpenBrace (leaf (codes "{") 30 1)
 
 abbrev brackets_state : State
-brackets_state = record { setting = in_default start; mode = AfterPropertyList (sized (Some (Blank (Anon 0)))) Top; held = [] }
+brackets_state = record { setting = in_default start; mode = AfterPropertyList (sized (Some (Blank (Anon 0)))) Top; ready = [] }
 
 brackets_ran : accept_all TriG (at_start start) brackets_tokens ≡ ran brackets_state
     (quad (Blank (Anon 0)) (codes "http://a/p") (Resource (term.Iri (codes "http://a/s"))) None ∷ [])
@@ -67,7 +67,7 @@ unbound_state =
     record {
       setting = in_default start;
       mode = Want (Listed (sized (Some (term.Iri (codes "http://a/s")))) (spelt (Some (codes "http://a/q"))) (Statement Top));
-      held = [];
+      ready = [];
     }
 
 unbound_ran : accept_all TriG (at_start start) unbound_tokens ≡ ran unbound_state
@@ -88,7 +88,7 @@ abbrev baseless_token : Token
 baseless_token = token IriRef (leaf (codes "<s>") 0 1)
 
 abbrev baseless_state : State
-baseless_state = record { setting = in_default start; mode = Start; held = [] }
+baseless_state = record { setting = in_default start; mode = Start; ready = [] }
 
 baseless_ran : accept_all TriG (at_start start) baseless_tokens ≡ ran baseless_state []
 unfolding reference_in name_in resolved is_full has encode
@@ -120,7 +120,7 @@ deep_state =
       setting = in_default tight;
       mode = Want (Listed (sized (Some (Blank (Anon 12)))) (spelt (Some (codes "a:q")))
           (InPropertyList (At (Listed (sized (Some (term.Iri (codes "a:s")))) (spelt (Some (codes "a:p"))) (Statement Top)))));
-      held = [];
+      ready = [];
     }
 
 deep_ran : accept_all TriG (at_start tight) deep_tokens ≡ ran deep_state (quad (term.Iri (codes "a:s")) (codes "a:p") (Resource (Blank (Anon 12))) None ∷ [])
@@ -140,7 +140,7 @@ abbrev long_token : Token
 long_token = token IriRef (leaf (codes "<http://a/ss>") 0 1)
 
 abbrev long_state : State
-long_state = record { setting = in_default tight; mode = Start; held = [] }
+long_state = record { setting = in_default tight; mode = Start; ready = [] }
 
 long_ran : accept_all TriG (at_start tight) long_tokens ≡ ran long_state []
 unfolding reference_in name_in resolved is_full has encode
@@ -161,7 +161,7 @@ abbrev many_token : Token
 many_token = token IriRef (leaf (codes "<b:/>") 42 1)
 
 abbrev many_state : State
-many_state = record { setting = in_default tight_bound; mode = WantPrefixIri Sparql (codes "b"); held = [] }
+many_state = record { setting = in_default tight_bound; mode = WantPrefixIri Sparql (codes "b"); ready = [] }
 
 many_ran : accept_all TriG (at_start tight) many_tokens ≡ ran many_state []
 unfolding reference_in name_in resolved is_full has encode
@@ -184,7 +184,7 @@ ended_state =
     record {
       setting = in_default start;
       mode = After (Listed (sized (Some (term.Iri (codes "http://a/s")))) (spelt (Some (codes "http://a/p"))) (Statement Top));
-      held =
+      ready =
           (quad (term.Iri (codes "http://a/s")) (codes "http://a/p") (Resource (term.Iri (codes "http://a/s"))) None ∷ []);
     }
 
@@ -259,7 +259,7 @@ prefix_bound = Binds.bound (binds_prefix start (codes "x") (codes "http://x/")) 
 
 -- The machine gives out the quads of the vector of one label.
 abbrev over : State
-over = record { setting = in_default start; mode = Over; held = [] }
+over = record { setting = in_default start; mode = Over; ready = [] }
 
 label_ran : accept_all TriG (at_start start) one_label_tokens ≡ ran over (unmarked one_label_quads)
 unfolding reference_in name_in resolved is_full has encode

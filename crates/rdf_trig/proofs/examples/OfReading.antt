@@ -44,10 +44,10 @@ abbrev in_turtle : Language
 in_turtle = language Turtle small
 
 abbrev at_rest : State
-at_rest = record { setting = in_default small; mode = Start; held = [] }
+at_rest = record { setting = in_default small; mode = Start; ready = [] }
 
 abbrev over : State
-over = record { setting = in_default small; mode = Over; held = [] }
+over = record { setting = in_default small; mode = Over; ready = [] }
 
 abbrev triple : List ℕ
 triple = codes "<a:> <a:> <a:>.\n"
@@ -129,7 +129,7 @@ unfolding tokens_of tokens read step kind_of is_live shape has chars utf8_valid_
 subject_tokens = refl
 
 abbrev state_after_subject : State
-state_after_subject = record { setting = in_default small; mode = WantVerb (sized (Some (term.Iri (codes "a:")))) (Statement Top); held = [] }
+state_after_subject = record { setting = in_default small; mode = WantVerb (sized (Some (term.Iri (codes "a:")))) (Statement Top); ready = [] }
 
 subject_ran : accept_all Turtle (at_start small) (subject_token ∷ []) ≡ ran state_after_subject []
 unfolding reference_in name_in resolved is_full has encode

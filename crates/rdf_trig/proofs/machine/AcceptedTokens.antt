@@ -39,7 +39,7 @@ fits_iri sizes (binds full (Some i)) f = refl
 
 -- the state after a reply
 abbrev pub moved : Option Quad → Option Quad → Setting → Mode → State
-moved early now c m = record { setting = c; mode = m; held = kept early (kept now []) }
+moved early now c m = record { setting = c; mode = m; ready = kept early (kept now []) }
 
 -- a token was accepted: no limit was passed, and these quads are given out
 pub record Accepted (sizes : Sizes) (s : State) (k : Kind) (w : Option Quad) (r : Reply) (qs : List Quad) (n : State) : Type 0 where
@@ -51,7 +51,7 @@ pub record Accepted (sizes : Sizes) (s : State) (k : Kind) (w : Option Quad) (r 
   pub reply : r ≡ Go sense early now setting mode
   pub shallow : (deepens k && nat_le sizes.depth (depth s.mode)) ≡ false
   pub fits : Fits sizes sense
-  pub given : qs ≡ s.held ++ kept w []
+  pub given : qs ≡ s.ready ++ kept w []
   pub state : n ≡ moved early now setting mode
 
 -- an accepted token stands for something that is allowed
@@ -70,10 +70,10 @@ pub accepted : (sizes : Sizes) (s : State) (k : Kind) (w : Option Quad) (r : Rep
     Accepted sizes s k w r qs n
 accepted sizes s k w No qs n e = absurd (let z : refuses Unexpected ≡ accepts qs n = e in cc)
 accepted sizes s k w (Go u early now c m) qs n e =
-    let a : Answer = accepts (s.held ++ kept w []) (moved early now c m) in
+    let a : Answer = accepts (s.ready ++ kept w []) (moved early now c m) in
     let d = second (deepens k && nat_le sizes.depth (depth s.mode)) (refuses TooDeep) (by_use sizes k u a) (accepts qs n) e (λ z. cc) in
     let f = fitted sizes k u a qs n d.1 in
-    let same : accepts (s.held ++ kept w []) (moved early now c m) ≡ accepts qs n = f.1 in
+    let same : accepts (s.ready ++ kept w []) (moved early now c m) ≡ accepts qs n = f.1 in
     record { sense = u; early = early; now = now; setting = c; mode = m; reply = refl; shallow = d.0; fits = f.0; given = cc; state = cc }
 
 -- a run that succeeds does so after its first token
@@ -85,14 +85,14 @@ first_ran qs (refused r) n all e = absurd (let z : refused r ≡ ran n all = e i
 -- what is known of a run that takes some tokens: where it stands, and what it gave out
 pub record Ran (form : DocForm) (s : State) (ts : List Token) (n : State) (qs : List Quad) : Type 0 where
   pub reached : reach true form s.setting s.mode ts ≡ Some (stand n.setting n.mode)
-  pub given : qs ≡ emits form s.setting s.mode s.held ts
+  pub given : qs ≡ emits form s.setting s.mode s.ready ts
 
 -- what is given out for one token and those after it, as the model of the run has it
-emits_one : (form : DocForm) (w : Option Quad) (early now : Option Quad) (c : Setting) (m : Mode) (u : Use) (held rest : List Quad) (ts : List Token) →
-    rest ≡ emits form c m (kept early (kept now [])) ts → (held ++ kept w []) ++ rest ≡ held ++ on_emits w (Go u early now c m)
+emits_one : (form : DocForm) (w : Option Quad) (early now : Option Quad) (c : Setting) (m : Mode) (u : Use) (ready rest : List Quad) (ts : List Token) →
+    rest ≡ emits form c m (kept early (kept now [])) ts → (ready ++ kept w []) ++ rest ≡ ready ++ on_emits w (Go u early now c m)
     (λ c' m' h. emits form c' m' h ts)
-emits_one form None early now c m u held rest ts e = append_assoc held [] rest ∙ ap (λ x. held ++ x) e
-emits_one form (Some q) early now c m u held rest ts e = append_assoc held (q ∷ []) rest ∙ ap (λ x. held ++ (q ∷ x)) e
+emits_one form None early now c m u ready rest ts e = append_assoc ready [] rest ∙ ap (λ x. ready ++ x) e
+emits_one form (Some q) early now c m u ready rest ts e = append_assoc ready (q ∷ []) rest ∙ ap (λ x. ready ++ (q ∷ x)) e
 
 -- a run of the machine is a walk through its grammar that gives out what the grammar does
 pub ran_tokens : (form : DocForm) (ts : List Token) (s n : State) (qs : List Quad) → accept_all form s ts ≡ ran n qs → Ran form s ts n qs
@@ -113,12 +113,12 @@ ran_tokens form (t ∷ ts) s n qs e =
         let f = first_ran gs (accept_all form m ts) n qs x in
         let i = ih m f.0 f.1 in
         let at_state = ap (λ y. reach true form (State.setting y) (State.mode y) ts) a.state in
-        let emitted = ap (λ y. emits form (State.setting y) (State.mode y) (State.held y) ts) a.state in
+        let emitted = ap (λ y. emits form (State.setting y) (State.mode y) (State.ready y) ts) a.state in
         record {
           reached =
               ap (λ y. on_reply true y (λ c' m'. reach true form c' m' ts)) a.reply ∙ ap (λ b. if_true b
               (reach true form a.setting a.mode ts)) (fits_iri s.setting.scope.limits a.sense a.fits) ∙ sym at_state ∙ i.reached;
           given =
-              f.2 ∙ ap (λ y. y ++ f.0) a.given ∙ emits_one form w a.early a.now a.setting a.mode a.sense s.held f.0 ts (i.given ∙ emitted)
-              ∙ sym (ap (λ y. s.held ++ on_emits w y (λ c' m' h'. emits form c' m' h' ts)) a.reply);
+              f.2 ∙ ap (λ y. y ++ f.0) a.given ∙ emits_one form w a.early a.now a.setting a.mode a.sense s.ready f.0 ts (i.given ∙ emitted)
+              ∙ sym (ap (λ y. s.ready ++ on_emits w y (λ c' m' h'. emits form c' m' h' ts)) a.reply);
         }

@@ -23,7 +23,7 @@ use Rattle.rdf_trig.proofs.trees.ScopeCalls.{same_itself, same_reference, same_n
 
 -- a state agrees with itself
 pub state_self : (s : State) → SameState s s
-state_self s = record { scope = same_itself s.setting.scope; graph = refl; mode = refl; held = refl }
+state_self s = record { scope = same_itself s.setting.scope; graph = refl; mode = refl; ready = refl }
 
 -- scopes that agree with a third agree
 scope_trans : (a b c : InForce) → SameNames a b → SameNames b c → SameNames a c
@@ -35,7 +35,7 @@ state_trans a b c f g = record {
   scope = scope_trans a.setting.scope b.setting.scope c.setting.scope f.scope g.scope;
   graph = f.graph ∙ g.graph;
   mode = f.mode ∙ g.mode;
-  held = f.held ∙ g.held;
+  ready = f.ready ∙ g.ready;
 }
 
 -- the same graph, and scopes that agree
@@ -302,7 +302,7 @@ reply_same sizes s k w (Go u e n c m) (Go v f o d j) h =
     (cond_same (deepens k && nat_le sizes.depth (depth s.mode)) TooDeep _ _
     (use_same sizes k u _ _ (
       refl,
-      record { scope = h.3.0; graph = h.3.1; mode = h.4; held = ap (λ a. kept a (kept n [])) h.1 ∙ ap (λ a. kept f (kept a [])) h.2 },
+      record { scope = h.3.0; graph = h.3.1; mode = h.4; ready = ap (λ a. kept a (kept n [])) h.1 ∙ ap (λ a. kept f (kept a [])) h.2 },
     )))
 reply_same sizes s k w No (Go v f o d j) h = absurd h
 reply_same sizes s k w (Go u e n c m) No h = absurd h
@@ -313,17 +313,17 @@ with_scope t s = record { scope = t; graph = s.setting.graph }
 
 -- a state with another scope
 abbrev in_scope : InForce → State → State
-in_scope t s = record { setting = with_scope t s; mode = s.mode; held = s.held }
+in_scope t s = record { setting = with_scope t s; mode = s.mode; ready = s.ready }
 
 -- states are equal where their parts are
 state_by : {a b : InForce} {g h : Option (Option term.Subject)} {m n : Mode} {x y : List Quad} → a ≡ b → g ≡ h → m ≡ n → x ≡ y →
-    (let z : State = record { setting = record { scope = a; graph = g }; mode = m; held = x } in z)
-    ≡ record { setting = record { scope = b; graph = h }; mode = n; held = y }
+    (let z : State = record { setting = record { scope = a; graph = g }; mode = m; ready = x } in z)
+    ≡ record { setting = record { scope = b; graph = h }; mode = n; ready = y }
 state_by a b c d = cc
 
 -- states that agree differ by their scopes alone
 scoped : (s t : State) → SameState s t → in_scope t.setting.scope s ≡ t
-scoped s t h = state_by refl h.graph h.mode h.held
+scoped s t h = state_by refl h.graph h.mode h.ready
 
 -- states that agree answer each token alike, so the reader may keep its bindings in any order
 pub accept_same : (form : DocForm) (s t : State) (k : Kind) (l : Leaf) → SameState s t → SameAnswer (accept form s k l) (accept form t k l)

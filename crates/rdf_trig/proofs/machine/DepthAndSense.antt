@@ -47,23 +47,23 @@ pub with_binding_limits : (s : InForce) (p : List ℕ) (i : Option (List ℕ)) �
 with_binding_limits s p None = refl
 with_binding_limits s p (Some i) = refl
 
--- after a property list nothing is held that would be lost at the end of the input
+-- after a property list no quad is ready that would be lost at the end of the input
 brackets_quiet : (u : Up) (s : Topic) → Quiet (property_list_closed u s) None None
 brackets_quiet (Subject v) s = tt
 brackets_quiet (At p) s = tt
 
--- after a collection nothing is held that would be lost at the end of the input
+-- after a collection no quad is ready that would be lost at the end of the input
 list_quiet : (u : Up) (s : Topic) (early now : Option Quad) → Quiet (collection_closed u s) early now
 list_quiet (Subject v) s early now = tt
 list_quiet (At p) s early now = tt
 
--- after a subject nothing is held that would be lost at the end of the input
+-- after a subject no quad is ready that would be lost at the end of the input
 subject_quiet : (form : DocForm) (v : Level) (s : Topic) → Quiet (after_subject form v s) None None
 subject_quiet form InBlock s = tt
 subject_quiet Turtle Top s = tt
 subject_quiet TriG Top s = tt
 
--- after `[]` nothing is held that would be lost at the end of the input
+-- after `[]` no quad is ready that would be lost at the end of the input
 node_quiet : (form : DocForm) (u : Up) (s : Topic) → Quiet (node_closed form u s) None None
 node_quiet form (Subject v) s = subject_quiet form v s
 node_quiet form (At p) s = tt

@@ -48,17 +48,17 @@ abbrev pub on_emits : Option Quad → Reply → (Setting → Mode → List Quad 
 on_emits w No next = kept w []
 on_emits w (Go u early now c m) next = kept w (next c m (kept early (kept now [])))
 
--- what the machine gives out for some tokens, where some quads are held already
+-- what the machine gives out for some tokens, where some quads are ready already
 abbrev pub emits : DocForm → Setting → Mode → List Quad → List Token → List Quad
-emits form c m held [] = []
-emits form c m held (t ∷ ts) = held ++ on_emits (waiting c m t.kind (leaf_of t)) (step form c m t.kind (leaf_of t)) (λ c' m' held'. emits form c' m' held' ts)
+emits form c m ready [] = []
+emits form c m ready (t ∷ ts) = ready ++ on_emits (waiting c m t.kind (leaf_of t)) (step form c m t.kind (leaf_of t)) (λ c' m' ready'. emits form c' m' ready' ts)
 
 -- a quad that is given out is due with the next token
 due_give : (q : Option Quad) (n : ℕ) (es : List Event) → due (suc n) (give q es) ≡ kept q (due (suc n) es)
 due_give None n es = refl
 due_give (Some q) n es = refl
 
--- two quads that are held come before the others
+-- two quads that are ready come before the others
 kept_all : (a b : Option Quad) (qs : List Quad) → kept a (kept b []) ++ qs ≡ kept a (kept b qs)
 kept_all None None qs = refl
 kept_all None (Some b) qs = refl
@@ -67,10 +67,10 @@ kept_all (Some a) (Some b) qs = refl
 
 module _ (form : DocForm) where
   on_due : (t u : Token) (ts us : List Token) (w : Option Quad) (r : Reply) →
-      ((c : Setting) (m : Mode) (held : List Quad) (es : List Event) → run form c m ((u ∷ ts) ++ us) ≡ Some es →
-      emits form c m held (u ∷ ts) ≡ held ++ due (suc (length ts)) es) →
+      ((c : Setting) (m : Mode) (ready : List Quad) (es : List Event) → run form c m ((u ∷ ts) ++ us) ≡ Some es →
+      emits form c m ready (u ∷ ts) ≡ ready ++ due (suc (length ts)) es) →
       (es : List Event) → fronted w (go_on t r (λ c m. run form c m ((u ∷ ts) ++ us))) ≡ Some es →
-      on_emits w r (λ c m held. emits form c m held (u ∷ ts)) ≡ due (suc (suc (length ts))) es
+      on_emits w r (λ c m ready. emits form c m ready (u ∷ ts)) ≡ due (suc (suc (length ts))) es
   on_due t u ts us w No ih es e = absurd (let z : None ≡ Some es = e in cc)
   on_due t u ts us w (Go v early now c m) ih es e =
       let x = unput w t v early now _ es e in
@@ -79,16 +79,16 @@ module _ (form : DocForm) where
       ∙ sym (ap (due (suc (suc (length ts)))) x.2 ∙ due_give w (suc (length ts)) _)
 
   on_due_last : (t : Token) (us : List Token) (w : Option Quad) (r : Reply) (es : List Event) → fronted w (go_on t r (λ c m. run form c m us)) ≡ Some es →
-      on_emits w r (λ c m held. emits form c m held []) ≡ due (suc zero) es
+      on_emits w r (λ c m ready. emits form c m ready []) ≡ due (suc zero) es
   on_due_last t us w No es e = absurd (let z : None ≡ Some es = e in cc)
   on_due_last t us w (Go u early now c m) es e = let x = unput w t u early now _ es e in sym (ap (due (suc zero)) x.2 ∙ due_give w zero _)
 
-  emits_due : (t : Token) (ts us : List Token) (c : Setting) (m : Mode) (held : List Quad) (es : List Event) → run form c m ((t ∷ ts) ++ us) ≡ Some es →
-      emits form c m held (t ∷ ts) ≡ held ++ due (suc (length ts)) es
-  emits_due t [] us c m held es e = ap (λ qs. held ++ qs) (on_due_last t us (waiting c m t.kind (leaf_of t)) (step form c m t.kind (leaf_of t)) es e)
-  emits_due t (u ∷ ts) us c m held es e =
-      ap (λ qs. held ++ qs) (on_due t u ts us (waiting c m t.kind (leaf_of t)) (step form c m t.kind (leaf_of t))
-      (λ c' m' held' fs h. emits_due u ts us c' m' held' fs h) es e)
+  emits_due : (t : Token) (ts us : List Token) (c : Setting) (m : Mode) (ready : List Quad) (es : List Event) → run form c m ((t ∷ ts) ++ us) ≡ Some es →
+      emits form c m ready (t ∷ ts) ≡ ready ++ due (suc (length ts)) es
+  emits_due t [] us c m ready es e = ap (λ qs. ready ++ qs) (on_due_last t us (waiting c m t.kind (leaf_of t)) (step form c m t.kind (leaf_of t)) es e)
+  emits_due t (u ∷ ts) us c m ready es e =
+      ap (λ qs. ready ++ qs) (on_due t u ts us (waiting c m t.kind (leaf_of t)) (step form c m t.kind (leaf_of t))
+      (λ c' m' ready' fs h. emits_due u ts us c' m' ready' fs h) es e)
 
   -- in each tree that begins with the tokens
   pub lag : (ts us : List Token) (start : InForce) (d : Document form) → tokens (document_events start d) ≡ ts ++ us →

@@ -196,12 +196,12 @@ use_why sizes s k r (binds full (Some i)) gs n x w e =
 why : (sizes : Sizes) (s : State) (k : Kind) (w : Option Quad) (r : Reply) (x : Reason) → answer sizes s k w r ≡ refuses x → Why sizes s k r x
 why sizes s k w No x e = because sizes s k No Unexpected x e refl
 why sizes s k w (Go u early now c m) x e =
-    let n : State = record { setting = c; mode = m; held = kept early (kept now []) } in
+    let n : State = record { setting = c; mode = m; ready = kept early (kept now []) } in
     let went : Went (Go u early now c m) u = (early, now, c, m, refl) in
     ⊎_elim
     (λ h. because sizes s k (Go u early now c m) TooDeep x h.1 (h.0, (u, went)))
-    (λ h. use_why sizes s k (Go u early now c m) u (s.held ++ kept w []) n x went h.1)
-    (either (deepens k && nat_le sizes.depth (depth s.mode)) (refuses TooDeep) (by_use sizes k u (accepts (s.held ++ kept w []) n)) (refuses x) e)
+    (λ h. use_why sizes s k (Go u early now c m) u (s.ready ++ kept w []) n x went h.1)
+    (either (deepens k && nat_le sizes.depth (depth s.mode)) (refuses TooDeep) (by_use sizes k u (accepts (s.ready ++ kept w []) n)) (refuses x) e)
 
 -- the kinds of tokens that may stand for nothing
 name_kind : (s : InForce) (k : Kind) (l : Leaf) → k ≢ IriRef → IsUse s k l (stands None) → (k ≡ PnameLn) ⊎ (k ≡ PnameNs)

@@ -231,9 +231,9 @@ waiting_few c (AfterText w p) k l = size_le (waiting c (AfterText w p) k l)
 waiting_few c (CollectionStart u) k l = size_le (waiting c (CollectionStart u) k l)
 waiting_few c m k l = omega arith
 
--- what one token gives out, and what is held after it
+-- what one token gives out, and what is ready after it
 accept_few : (form : DocForm) (s n : State) (t : Token) (qs : List Quad) → accept form s t.kind (leaf_of t) ≡ accepts qs n →
-    length qs + length n.held + owes n.mode ≤ length s.held + owes s.mode + 2 * cond (is_end t.kind) 0 1
+    length qs + length n.ready + owes n.mode ≤ length s.ready + owes s.mode + 2 * cond (is_end t.kind) 0 1
 accept_few form s n t qs e =
     let w = waiting s.setting s.mode t.kind (leaf_of t) in
     let a = accepted s.setting.scope.limits s t.kind w (step form s.setting s.mode t.kind (leaf_of t)) qs n e in
@@ -242,12 +242,12 @@ accept_few form s n t qs e =
     let few = few.most in
     let twice = by (is_end t.kind) in
     let wait = waiting_few s.setting s.mode t.kind (leaf_of t) in
-    let given : length qs ≡ length s.held + size w =
-    ap length a.given ∙ (length-append s.held (kept w []) ∙ ap (λ n. length s.held + n) (kept_length w [] ∙ omega arith)) in
-    let held : length n.held ≡ size a.early + size a.now =
-    ap (λ (x : State). length x.held) a.state ∙ (kept_length a.early (kept a.now []) ∙ ap (λ n. size a.early + n) (kept_length a.now [] ∙ omega arith)) in
+    let given : length qs ≡ length s.ready + size w =
+    ap length a.given ∙ (length-append s.ready (kept w []) ∙ ap (λ n. length s.ready + n) (kept_length w [] ∙ omega arith)) in
+    let ready : length n.ready ≡ size a.early + size a.now =
+    ap (λ (x : State). length x.ready) a.state ∙ (kept_length a.early (kept a.now []) ∙ ap (λ n. size a.early + n) (kept_length a.now [] ∙ omega arith)) in
     let mode : owes n.mode ≡ owes a.mode = ap (λ (x : State). owes x.mode) a.state in
-    omega (arith, few, twice, wait, given, held, mode)
+    omega (arith, few, twice, wait, given, ready, mode)
   where
     by : (b : Bool) → ◌≡◌ {A = ℕ} (cond b 0 2) (2 * cond b 0 1)
     by true = refl
@@ -255,21 +255,21 @@ accept_few form s n t qs e =
 
 -- a run gives at most two quads for each token but the end, so counts of quads do not overflow
 run_few : (form : DocForm) (ts : List Token) (s n : State) (qs : List Quad) → accept_all form s ts ≡ ran n qs →
-    length qs + length n.held + owes n.mode ≤ length s.held + owes s.mode + 2 * counted ts
+    length qs + length n.ready + owes n.mode ≤ length s.ready + owes s.mode + 2 * counted ts
 run_few form [] s n qs e =
     let z : ran s [] ≡ ran n qs = e in
     let same : s ≡ n = cc in
     let none : [] ≡ qs = cc in
     let size : 0 ≡ length qs = ap length none in
-    let held = ap (λ (x : State). length x.held) same in
+    let ready = ap (λ (x : State). length x.ready) same in
     let mode = ap (λ (x : State). owes x.mode) same in
-    omega (arith, size, held, mode)
+    omega (arith, size, ready, mode)
 run_few form (t ∷ ts) s n qs e = by (λ m rest x. run_few form ts m n rest x) (accept form s t.kind (leaf_of t)) refl e
   where
     by : ((m : State) (rest : List Quad) → accept_all form m ts ≡ ran n rest →
-        length rest + length n.held + owes n.mode ≤ length m.held + owes m.mode + 2 * counted ts) →
+        length rest + length n.ready + owes n.mode ≤ length m.ready + owes m.mode + 2 * counted ts) →
         (a : Answer) → accept form s t.kind (leaf_of t) ≡ a → go a (λ x. accept_all form x ts) ≡ ran n qs →
-        length qs + length n.held + owes n.mode ≤ length s.held + owes s.mode + 2 * counted (t ∷ ts)
+        length qs + length n.ready + owes n.mode ≤ length s.ready + owes s.mode + 2 * counted (t ∷ ts)
     by ih (refuses r) h x = absurd (let z : refused r ≡ ran n qs = x in cc)
     by ih (accepts gs m) h x =
         let f = first_ran gs (accept_all form m ts) n qs x in

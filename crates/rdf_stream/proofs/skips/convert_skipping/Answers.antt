@@ -16,11 +16,11 @@ pub skip_pieces-requires-clause-begun : goal.skip_pieces-requires-clause-begun
 skip_pieces-requires-clause-begun g c =
     skipping_start g.D.Drain g.B.Drain _
     (record {
-      fresh = ap (λ s. s.is_first) c.new-held.ensures.sieve ∙ c.new-sieve.ensures.fresh;
-      no_quads = ap (λ s. s.quads) c.new-held.ensures.sieve ∙ c.new-sieve.ensures.no_quads;
-      no_bad_lines = ap (λ s. s.bad_lines) c.new-held.ensures.sieve ∙ c.new-sieve.ensures.no_bad_lines;
+      fresh = ap (λ s. s.is_first) c.new-sifter.ensures.sieve ∙ c.new-sieve.ensures.fresh;
+      no_quads = ap (λ s. s.quads) c.new-sifter.ensures.sieve ∙ c.new-sieve.ensures.no_quads;
+      no_bad_lines = ap (λ s. s.bad_lines) c.new-sifter.ensures.sieve ∙ c.new-sieve.ensures.no_bad_lines;
     })
-    c.new-held.ensures.part c.new-held.ensures.bytes c.new-held.ensures.line c.requires.drain c.requires.bad
+    c.new-sifter.ensures.part c.new-sifter.ensures.bytes c.new-sifter.ensures.line c.requires.drain c.requires.bad
 
 pub returns-clause-skipped : goal.returns-clause-skipped
 returns-clause-skipped g c =
@@ -29,9 +29,9 @@ returns-clause-skipped g c =
     by_job (λ j. SkipsAll j (g.S.Source.remaining c.args.source.now) (g.D.Drain.contents c.args.drain.now)
     (g.D.Drain.contents c.skip_pieces.new.drain) (g.B.Drain.contents c.args.bad.now) (g.B.Drain.contents c.skip_pieces.new.bad) s)
     c.args.job c.in-Line.form (search rules)
-    c.new-held.result.sieve (ap (λ s. s.form) c.new-held.ensures.sieve ∙ c.new-sieve.ensures.form)
-    (ap (λ s. s.limits) c.new-held.ensures.sieve ∙ (c.new-sieve.ensures.limits ∙ c.limits.ensures))
-    (ap (λ s. output_of s.output) c.new-held.ensures.sieve ∙ (ap output_of c.new-sieve.ensures.output ∙ c.output.ensures))
+    c.new-sifter.result.sieve (ap (λ s. s.form) c.new-sifter.ensures.sieve ∙ c.new-sieve.ensures.form)
+    (ap (λ s. s.limits) c.new-sifter.ensures.sieve ∙ (c.new-sieve.ensures.limits ∙ c.limits.ensures))
+    (ap (λ s. output_of s.output) c.new-sifter.ensures.sieve ∙ (ap output_of c.new-sieve.ensures.output ∙ c.output.ensures))
     (skipped_all g.D.Drain g.B.Drain _ _ _ _ s a))
     c.skip_pieces.ensures.read
 
@@ -43,8 +43,8 @@ returns-clause-stops g c =
     (g.D.Drain.contents c.args.drain.now) (g.D.Drain.contents c.skip_pieces.new.drain) (g.B.Drain.contents c.args.bad.now)
     (g.B.Drain.contents c.skip_pieces.new.bad) (g.D.Drain.has_failed c.skip_pieces.new.drain)
     (g.B.Drain.has_failed c.skip_pieces.new.bad)) c.args.job c.in-Line.form (search rules)
-    c.new-held.result.sieve (ap (λ s. s.form) c.new-held.ensures.sieve ∙ c.new-sieve.ensures.form)
-    (ap (λ s. s.limits) c.new-held.ensures.sieve ∙ (c.new-sieve.ensures.limits ∙ c.limits.ensures))
-    (ap (λ s. output_of s.output) c.new-held.ensures.sieve ∙ (ap output_of c.new-sieve.ensures.output ∙ c.output.ensures))
+    c.new-sifter.result.sieve (ap (λ s. s.form) c.new-sifter.ensures.sieve ∙ c.new-sieve.ensures.form)
+    (ap (λ s. s.limits) c.new-sifter.ensures.sieve ∙ (c.new-sieve.ensures.limits ∙ c.limits.ensures))
+    (ap (λ s. output_of s.output) c.new-sifter.ensures.sieve ∙ (ap output_of c.new-sieve.ensures.output ∙ c.output.ensures))
     (skip_stopped g.D.Drain g.B.Drain f _ _ _ _ a))
     c.skip_pieces.ensures.stops

@@ -9,7 +9,7 @@ abbrev pub invariant-loop-count : goal.invariant-loop-count
 invariant-loop-count g l =
     IsReading (IsSkipping g.D.Drain g.B.Drain) (λ a b. Unit) (g.S.Source.remaining l.initial.source)
     (reading g.S.Source.remaining g.S.Source.last g.S.Source.has_ended g.S.Source.has_failed l.source)
-    (l.initial.held, l.initial.drain, l.initial.bad) (l.held, l.drain, l.bad) (length l.piece)
+    (l.initial.sifter, l.initial.drain, l.initial.bad) (l.sifter, l.drain, l.bad) (length l.piece)
 
 abbrev pub decreases-loop-count : goal.decreases-loop-count
-decreases-loop-count g l = 2 ^ 63 - l.held.bytes
+decreases-loop-count g l = 2 ^ 63 - l.sifter.bytes

@@ -16,13 +16,13 @@ iris : (g : Over) (c : goal.After-put_iris g) (form : DocForm) (s : InForce) (t 
     given form s c.args.state.now t ≡ quad_of (iris_quad c.in-Some.subject c.view_or-predicate.result c.args.object) ∷ []
 iris g c form s t =
     let n = c.args.state.now in
-    given_iri form s n t (iri_chars c.args.object) _ c.requires.after c.requires.held c.requires.object
+    given_iri form s n t (iri_chars c.args.object) _ c.requires.after c.requires.ready c.requires.object
     (iris_at n.frame (graph_of n.level n.graph) _ _ _ c.requires.after.1 (c.is_in_named_graph.ensures c.if-not-is_in_named_graph.true)
     c.in-Some.ensures c.view_or-predicate.ensures)
 
 listed : (g : Over) (c : goal.After-put g) (form : DocForm) (s : InForce) (t : Given) → given form s c.args.state.now t ≡ quad_of c.quad_listed.result ∷ []
 listed g c form s t =
-    given_iri form s c.args.state.now t (iri_chars c.args.object) _ c.requires.after c.requires.held c.requires.object c.quad_listed.ensures
+    given_iri form s c.args.state.now t (iri_chars c.args.object) _ c.requires.after c.requires.ready c.requires.object c.quad_listed.ensures
 
 pub put_iris-requires : goal.put_iris-requires
 put_iris-requires g c = record { live = c.requires.live }

@@ -20,8 +20,8 @@ listed g c form s =
 pub give_iri-requires-clause-after : goal.give_iri-requires-clause-after
 give_iri-requires-clause-after g c = c.requires.after
 
-pub give_iri-requires-clause-held : goal.give_iri-requires-clause-held
-give_iri-requires-clause-held g c = c.in-Resource.is
+pub give_iri-requires-clause-ready : goal.give_iri-requires-clause-ready
+give_iri-requires-clause-ready g c = c.in-Resource.is
 
 pub give_iri-requires-clause-object : goal.give_iri-requires-clause-object
 give_iri-requires-clause-object g c = c.in-Some.ensures

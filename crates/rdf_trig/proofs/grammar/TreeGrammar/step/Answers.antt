@@ -27,4 +27,4 @@ returns-clause-stands g c =
     let r = c.self.inside in
     let z = c.step.ensures in
     subst (λ (y : TreeAt). StepsFrom _ y c.args.kind c.step.result) c.self.view_is
-    (r.scope, r.state, refl, z.level, z.mode, z.held, z.turn)
+    (r.scope, r.state, refl, z.level, z.mode, z.ready, z.turn)

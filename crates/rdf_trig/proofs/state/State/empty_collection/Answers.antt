@@ -2,7 +2,7 @@ use Rattle.std.proofs.Common.{◌∙◌, None, ap}
 use Rattle.rdf_trig.specs.States.{up_in}
 use Rattle.rdf_trig.specs.Machine as M
 use Rattle.rdf_trig.specs.declared.slots.SubjectKind.TheVariants as kind
-use Rattle.rdf_trig.specs.declared.state.Held.TheVariants as held
+use Rattle.rdf_trig.specs.declared.state.Ready.TheVariants as ready
 use Rattle.rdf_trig.proofs.code.HoldingLemmas.{stands_fits, empty_fits}
 use Rattle.rdf_trig.proofs.code.TurnsLemmas.{stands_at}
 use Rattle.rdf_trig.proofs.state.State.empty_collection.Goals as goal
@@ -16,7 +16,7 @@ returns-clause-takes g c = λ l form s u.
 pub returns-clause-fits : goal.returns-clause-fits
 returns-clause-fits g c = λ n h f.
     let closed = c.collection_closed-mode in
-    stands_fits n closed.new.self c.stand.new.self closed.result held.Nothing None c.stand.ensures
+    stands_fits n closed.new.self c.stand.new.self closed.result ready.Nothing None c.stand.ensures
     (closed.ensures.fits n (record {
       graph = f.graph;
       object = f.object;

@@ -1,6 +1,6 @@
 use Rattle.std.proofs.Common.{◌≡◌, ◌∙◌, None, ap, subst}
 use Rattle.rdf_trig.specs.declared.slots.SubjectKind.TheVariants as kind
-use Rattle.rdf_trig.specs.declared.state.Held.TheVariants as held
+use Rattle.rdf_trig.specs.declared.state.Ready.TheVariants as ready
 use Rattle.rdf_trig.specs.Machine as M
 use Rattle.rdf_trig.specs.Machine.{Go}
 use Rattle.rdf_trig.specs.States.{graph_of, cells_quad, setting_in, up_in, moved}
@@ -12,7 +12,7 @@ pub returns-clause-takes : goal.returns-clause-takes
 returns-clause-takes g c = λ l form s u.
     let self = c.args.self.now in
     let closed = c.collection_closed-self in
-    let ended = record closed.new.self { mode = closed.result; rest = c.none-self.result; held = held.Nil c.cells-first.result.1 } in
+    let ended = record closed.new.self { mode = closed.result; rest = c.none-self.result; ready = ready.Nil c.cells-first.result.1 } in
     subst (λ p. Go u None (cells_quad (graph_of self.level self.graph) p.1 M.nil) (setting_in s self)
     (M.collection_closed (up_in self) (M.unsized (M.cell p.0))) ≡ moved form s u ended)
     c.cells-first.ensures

@@ -1,5 +1,5 @@
 use Rattle.std.proofs.Common.{None}
-use Rattle.rdf_trig.specs.declared.state.Held.TheVariants as held
+use Rattle.rdf_trig.specs.declared.state.Ready.TheVariants as ready
 use Rattle.rdf_trig.proofs.code.HoldingLemmas.{stands_fits}
 use Rattle.rdf_trig.proofs.code.TurnsLemmas.{stands_at}
 use Rattle.rdf_trig.proofs.state.State.end_property_list.Goals as goal
@@ -12,5 +12,5 @@ returns-clause-takes g c = λ l form s u.
 pub returns-clause-fits : goal.returns-clause-fits
 returns-clause-fits g c = λ n h f.
     let closed = c.brackets_closed-mode in
-    stands_fits n closed.new.self c.stand.new.self closed.result held.Nothing None c.stand.ensures
+    stands_fits n closed.new.self c.stand.new.self closed.result ready.Nothing None c.stand.ensures
     (closed.ensures.fits n f)

@@ -1,5 +1,5 @@
 use Rattle.std.proofs.Common.{None, ap, ◌∙◌}
-use Rattle.rdf_trig.specs.declared.state.Held.TheVariants as held
+use Rattle.rdf_trig.specs.declared.state.Ready.TheVariants as ready
 use Rattle.rdf_trig.specs.declared.state.Level.TheVariants as level
 use Rattle.rdf_trig.specs.declared.state.Mode.TheVariants as mode
 use Rattle.rdf_trig.proofs.code.HoldingLemmas.{stands_fits}
@@ -12,7 +12,7 @@ returns-clause-same g c =
       level = level.Top;
       frame = record self.frame { container = o };
       rest = None;
-      held = held.Nothing;
+      ready = ready.Nothing;
       mode = mode.Outer c.args.outer;
     }) c.none-self.ensures
 
@@ -20,5 +20,5 @@ pub returns-clause-fits : goal.returns-clause-fits
 returns-clause-fits g c = λ n h f.
     let self = c.args.self.now in
     let led = record self { level = level.Top; frame = record self.frame { container = c.none-self.result } } in
-    stands_fits n led c.stand.new.self (mode.Outer c.args.outer) held.Nothing None c.stand.ensures
+    stands_fits n led c.stand.new.self (mode.Outer c.args.outer) ready.Nothing None c.stand.ensures
     (record { graph = f.graph; object = f.object; tail = f.tail; frame = f.frame; frames = f.frames; spares = f.spares })

@@ -6,7 +6,7 @@ use Rattle.rdf_stream.proofs.PiecesLemmas.{if_err, if_ok}
 use Rattle.rdf_stream.proofs.SieveLemmas.{some_bytes}
 use Rattle.rdf_stream.proofs.SkipLemmas.{both_fails, both_sifted, direct_fails, front_direct, front_none, line_stops, no_bytes, room_behind}
 use Rattle.rdf_stream.proofs.WithoutCrsLemmas.{slice_rest}
-use Rattle.rdf_stream.proofs.skips.Held.sift_front.Goals as goal
+use Rattle.rdf_stream.proofs.skips.Sifter.sift_front.Goals as goal
 
 pub returns-then-is_empty-clause-sifts : goal.returns-then-is_empty-clause-sifts
 returns-then-is_empty-clause-sifts g c =

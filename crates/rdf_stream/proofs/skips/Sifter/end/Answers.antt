@@ -3,7 +3,7 @@ use Rattle.std.proofs.lemmas.List.{append-nil}
 use Rattle.rdf_stream.specs.Sieves.{HasRoom}
 use Rattle.std.proofs.KnownBytes.{Keeps-refl}
 use Rattle.rdf_stream.proofs.SkipLemmas.{flush_halts, held_few, held_room, held_start, rest_halts, skip_ends}
-use Rattle.rdf_stream.proofs.skips.Held.end.Goals as goal
+use Rattle.rdf_stream.proofs.skips.Sifter.end.Goals as goal
 
 pub returns-in-Err-clause-halts : goal.returns-in-Err-clause-halts
 returns-in-Err-clause-halts g c =

@@ -4,7 +4,7 @@ use Rattle.rdf_stream.specs.Sieves.{HasRoom}
 use Rattle.rdf_stream.proofs.PiecesLemmas.{if_err, on_ok}
 use Rattle.rdf_stream.proofs.SkipLemmas.{count_halts, front_halts, held_few, held_room, held_start, hold_halts, piece_taken}
 use Rattle.rdf_stream.proofs.WithoutCrsLemmas.{slice_rest}
-use Rattle.rdf_stream.proofs.skips.Held.take.Goals as goal
+use Rattle.rdf_stream.proofs.skips.Sifter.take.Goals as goal
 
 pub returns-in-Err-clause-halts : goal.returns-in-Err-clause-halts
 returns-in-Err-clause-halts g c = λ first bytes i.

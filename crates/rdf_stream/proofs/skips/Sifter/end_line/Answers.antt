@@ -1,7 +1,7 @@
 use Rattle.std.proofs.Common.{[], refl, subst, sym, ◌∙◌}
 use Rattle.rdf_stream.specs.Sieves.{HasRoom}
 use Rattle.rdf_stream.proofs.SieveLemmas.{sifted_none}
-use Rattle.rdf_stream.proofs.skips.Held.end_line.Goals as goal
+use Rattle.rdf_stream.proofs.skips.Sifter.end_line.Goals as goal
 
 pub returns-in-Err-clause-fails : goal.returns-in-Err-clause-fails
 returns-in-Err-clause-fails g c = ([], _, refl, sifted_none g.D.Drain g.B.Drain _ _ _ _ c.requires.live c.requires.bad_live)
