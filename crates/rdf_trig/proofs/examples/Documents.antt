@@ -452,7 +452,7 @@ started = record start { base = Some (codes "http://a/b"); bindings = (codes "x"
 
 pub owed_in_all : OwedInAll TriG started (take 5 open_tokens) 50
 unfolding reference_in name_in resolved is_full has encode
-owed_in_all = record { tree = open_tree; more = drop 5 open_tokens; tokens = refl; bound = named_bound (document_events started open_tree) refl; ready = refl }
+owed_in_all = record { tree = open_tree; more = drop 5 open_tokens; tokens = refl; bound = named_bound (document_events started open_tree) refl; held = refl }
 
 -- a reader holds no less of it
 pub started_within : scope_size started ≤ bytes_held started
