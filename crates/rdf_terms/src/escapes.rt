@@ -57,8 +57,8 @@ pub fn letter_meaning(letter: u8) -> Option<char>
     }
 }
 
-/// The character that the UCHAR at a place of some bytes means, and where it ends (Turtle 6.4). None where none stands
-/// there whole, or its number is no character's.
+/// The character that the UCHAR at a byte offset means, and the offset after it (Turtle 6.4). None where no whole one
+/// stands there, or its number is that of no character.
 #[inline(always)]
 pub fn uchar(bytes: &[u8], at: usize) -> Option<(char, usize)>
     requires { at ≤ length bytes.now }
@@ -70,7 +70,7 @@ pub fn uchar(bytes: &[u8], at: usize) -> Option<(char, usize)>
     }
 }
 
-/// The same of one with four digits.
+/// The character of a UCHAR with four digits at a byte offset, and the offset after it, as `uchar` finds them.
 #[inline(always)]
 pub fn short_uchar(bytes: &[u8], at: usize) -> Option<(char, usize)>
     requires { at ≤ length bytes.now }
@@ -83,7 +83,7 @@ pub fn short_uchar(bytes: &[u8], at: usize) -> Option<(char, usize)>
     with_end(char::from_u32(number), at + 6)
 }
 
-/// The same of one with eight.
+/// The character of a UCHAR with eight digits at a byte offset, and the offset after it, as `uchar` finds them.
 #[inline(always)]
 pub fn long_uchar(bytes: &[u8], at: usize) -> Option<(char, usize)>
     requires { at ≤ length bytes.now }

@@ -254,7 +254,7 @@ fn put_escapes<A: Allocator>(
         IsPut (inside_of inside) text.now (string_bytes out.old) (string_bytes out.new) at r) }
     ensures on { IfOk result (λ r. IfSome r (λ end. at < end)) }
 {
-    match short_number(inside, text.as_bytes(), at) {
+    match short_escape(inside, text.as_bytes(), at) {
         Some((meant, next)) => {
             push_char(out, meant)?;
             Ok(Some(put_row(out, inside, text, next)?))
@@ -277,7 +277,7 @@ fn put_row<A: Allocator>(
         IsPutUpTo (inside_of inside) text.now (string_bytes out.old) (string_bytes out.new) from end) }
 {
     let mut at = from;
-    while let Some((meant, next)) = short_number(inside, text.as_bytes(), at) {
+    while let Some((meant, next)) = short_escape(inside, text.as_bytes(), at) {
         push_char(out, meant)?;
         at = next;
     }
@@ -322,7 +322,7 @@ fn put_escape<A: Allocator>(
 
 /// What a UCHAR of four digits means that stands at a place, and where it ends, if it is not bad.
 #[inline(always)]
-fn short_number(inside: Inside, text: &[u8], at: usize) -> Option<(char, usize)>
+fn short_escape(inside: Inside, text: &[u8], at: usize) -> Option<(char, usize)>
     requires within { at ≤ length text.now }
     requires utf8 { IsUtf8 (drop at text.now) }
     ensures read { IfSome result (λ x. IsRead (inside_of inside) (leads outside) text.now at x.0 x.1) }
@@ -408,7 +408,7 @@ fn letter(inside: Inside, byte: u8) -> Option<char>
     }
 }
 
-/// An escape, where what it means may be meant.
+/// An escape, where its character may be meant.
 #[inline(always)]
 fn allowed(inside: Inside, escape: Option<(char, usize)>) -> Option<(char, usize)>
     ensures { result ≡ allowed_in (inside_of inside) escape }

@@ -10,11 +10,11 @@ use Rattle.rdf_terms.proofs.values.put_row.Goals as goal
 pub loop-meant-init : goal.loop-meant-init
 loop-meant-init g c = record { from = omega arith; within = c.requires.within; utf8 = c.requires.utf8; value = refl }
 
-pub short_number-requires-clause-within : goal.short_number-requires-clause-within
-short_number-requires-clause-within g c = subst (λ w. c.loop-meant.at ≤ length w) (sym c.as_bytes.ensures.value) c.loop-meant.invariant.within
+pub short_escape-requires-clause-within : goal.short_escape-requires-clause-within
+short_escape-requires-clause-within g c = subst (λ w. c.loop-meant.at ≤ length w) (sym c.as_bytes.ensures.value) c.loop-meant.invariant.within
 
-pub short_number-requires-clause-utf8 : goal.short_number-requires-clause-utf8
-short_number-requires-clause-utf8 g c = subst (λ w. IsUtf8 (drop c.loop-meant.at w)) (sym c.as_bytes.ensures.value) c.loop-meant.invariant.utf8
+pub short_escape-requires-clause-utf8 : goal.short_escape-requires-clause-utf8
+short_escape-requires-clause-utf8 g c = subst (λ w. IsUtf8 (drop c.loop-meant.at w)) (sym c.as_bytes.ensures.value) c.loop-meant.invariant.utf8
 
 pub loop-meant-smaller : goal.loop-meant-smaller
 loop-meant-smaller g c =

@@ -3,7 +3,7 @@ use Rattle.std.specs.Option.{IfSome}
 use Rattle.rdf_terms.specs.Escapes.{inside_of, IsRead}
 use Rattle.rdf_terms.specs.Values.{leads, outside}
 use Rattle.rdf_terms.proofs.UcharLemmas.{short_reads}
-use Rattle.rdf_terms.proofs.values.short_number.Goals as goal
+use Rattle.rdf_terms.proofs.values.short_escape.Goals as goal
 
 pub returns-clause-read : goal.returns-clause-read
 returns-clause-read c =
