@@ -55,7 +55,7 @@ unfolding tokens_of tokens read step kind_of is_live shape has chars utf8_valid_
 nameless_read = refl
 
 abbrev over : State
-over = record { setting = in_default small; mode = Over; held = [] }
+over = record { setting = in_default small; mode = Over; ready = [] }
 
 nameless_ran : accept_all Turtle (at_start small) nameless_tokens ≡ ran over nameless_quads
 unfolding reference_in name_in resolved is_full has encode

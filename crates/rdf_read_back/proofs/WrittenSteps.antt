@@ -68,7 +68,7 @@ module _ (r : Room) where
   FitMode (AfterPropertyList s v) = IsSubject s.term
   FitMode m = Unit {0}
 
-  -- where the IRI of the token is within the limit, the quads can be written, and what is held after it
+  -- where the IRI of the token is within the limit, the quads can be written, and what is ready after it
   abbrev FitReply : Reply → Type 0
   FitReply No = Unit {0}
   FitReply (Go u early now c m) = Within r u → IsQuad early × IsQuad now × FitSetting c × FitMode m
