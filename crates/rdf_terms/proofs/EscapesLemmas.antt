@@ -1,5 +1,5 @@
 -- The way from escape to escape in a token's inside: steps over its bytes, and the runs between them.
-use Rattle.std.proofs.Common.{◌≡◌, ℕ, zero, suc, ◌+◌, ◌-◌, ◌*◌, ◌^◌, ◌<◌, ◌≤◌, Bool, true, false, ◌&&◌, List, [], ◌∷◌, ◌++◌, ◌==◌, Option, Some, None, is_some, option_map, encode_utf8, refl, sym, ap, ◌∙◌, subst, ⊎_elim, append_assoc, length, length-drop, get_or, drop, take, arith}
+use Rattle.std.proofs.Common.{◌≡◌, ℕ, zero, suc, ◌+◌, ◌-◌, ◌*◌, ◌<◌, ◌≤◌, Bool, true, false, ◌&&◌, List, [], ◌∷◌, ◌++◌, ◌==◌, Option, Some, None, is_some, option_map, encode_utf8, refl, sym, ap, ◌∙◌, subst, ⊎_elim, append_assoc, length, length-drop, get_or, drop, take, arith}
 use Rattle.std.specs.Prelude.{encode_utf8_all, slice_range, nat_le}
 use Rattle.std.specs.Option.{IfSome}
 use Rattle.std.specs.Str.{chars, IsUtf8, IsCharBoundary}

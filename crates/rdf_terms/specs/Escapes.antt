@@ -1,5 +1,5 @@
 -- What the code's way from escape to escape in a token's inside means.
-use Rattle.std.specs.Prelude.{◌≡◌, ℕ, ◌+◌, ◌*◌, ◌≤◌, ◌==◌, ◌&&◌, ◌⊎◌, nat_le, Bool, true, cond, List, ◌++◌, length, get_or, drop, take, Option, Some, None, option_map}
+use Rattle.std.specs.Prelude.{◌≡◌, ℕ, ◌+◌, ◌≤◌, ◌==◌, ◌&&◌, ◌⊎◌, nat_le, Bool, true, cond, List, ◌++◌, length, get_or, drop, slice_range, Option, Some, None, option_map}
 use Rattle.std.specs.Option.{MatchOption}
 use Rattle.std.specs.Str.{chars, IsUtf8}
 use Rattle.rdf_terms.specs.Classes.{has, scalar}
@@ -62,15 +62,6 @@ Reads i m bs at r = MatchOption r (value_after i m bs at ≡ None) (λ x. IsRead
 abbrev pub digit_or_none : ℕ → ℕ
 digit_or_none b = cond (has hex_digit b) (hex_value b) 65536
 
--- four bytes are hex digits
-abbrev pub are_four_digits : List ℕ → ℕ → Bool
-are_four_digits bs at = has hex_digit (get_or bs at 0)
-    && (has hex_digit (get_or bs (at + 1) 0) && (has hex_digit (get_or bs (at + 2) 0) && has hex_digit (get_or bs (at + 3) 0)))
-
--- the number that they write then
-abbrev pub four_number : List ℕ → ℕ → ℕ
-four_number bs at = 16 * (16 * (16 * hex_value (get_or bs at 0) + hex_value (get_or bs (at + 1) 0)) + hex_value (get_or bs (at + 2) 0)) + hex_value (get_or bs (at + 3) 0)
-
 -- a backslash and this letter stand at a place, in so many bytes from there on
 abbrev pub begins : List ℕ → ℕ → ℕ → ℕ → Bool
 begins bs at letter room = nat_le (at + room) (length bs) && (get_or bs at 0 == 92 && get_or bs (at + 1) 0 == letter)
@@ -81,28 +72,20 @@ pub record IsHexes (bs : List ℕ) (from count end : ℕ) : Type 0 where
   pub within : end ≤ length bs
   pub hexes : PassBetween (has hex_digit) bs from end
 
--- and they write the number of a character
-pub record IsNumber (bs : List ℕ) (from count end : ℕ) : Type 0 where
-  pub hexes : IsHexes bs from count end
-  pub character : scalar (hex_number (take count (drop from bs))) ≡ true
-
--- a UCHAR with four digits stands at a place
-pub record IsShortUchar (bs : List ℕ) (at : ℕ) : Type 0 where
+-- a UCHAR with this letter and so many digits does: a backslash, the letter, and the number of a character
+pub record IsUcharOf (u count : ℕ) (bs : List ℕ) (at end : ℕ) : Type 0 where
   pub slash : get_or bs at 0 ≡ 92
-  pub letter : get_or bs (at + 1) 0 ≡ 117
-  pub number : IsNumber bs (at + 2) 4 (at + 6)
+  pub letter : get_or bs (at + 1) 0 ≡ u
+  pub digits : IsHexes bs (at + 2) count end
+  pub character : scalar (hex_number (slice_range bs (at + 2) end)) ≡ true
 
--- one with eight does
-pub record IsLongUchar (bs : List ℕ) (at : ℕ) : Type 0 where
-  pub slash : get_or bs at 0 ≡ 92
-  pub letter : get_or bs (at + 1) 0 ≡ 85
-  pub number : IsNumber bs (at + 2) 8 (at + 10)
+-- one with four digits or with eight does
+abbrev pub IsUchar : List ℕ → ℕ → ℕ → Type 0
+IsUchar bs at end = IsUcharOf 117 4 bs at end ⊎ IsUcharOf 85 8 bs at end
 
--- the character of the UCHAR at a place, and where it ends, or none where no UCHAR is there
-abbrev pub UcharAt : List ℕ → ℕ → Option (ℕ × ℕ) → Type 0
-UcharAt bs at r = MatchOption r ((IsShortUchar bs at → ⊥) × (IsLongUchar bs at → ⊥)) (λ x.
-    (IsShortUchar bs at × (x ≡ (hex_number (take 4 (drop (at + 2) bs)), at + 6)))
-    ⊎ (IsLongUchar bs at × (x ≡ (hex_number (take 8 (drop (at + 2) bs)), at + 10))))
+-- the character of the UCHAR at a place, and where it ends, or none where none of this kind is there
+abbrev pub UcharAt : (List ℕ → ℕ → ℕ → Type 0) → List ℕ → ℕ → Option (ℕ × ℕ) → Type 0
+UcharAt is bs at r = MatchOption r ((end : ℕ) → is bs at end → ⊥) (λ x. is bs at x.1 × (x.0 ≡ hex_number (slice_range bs (at + 2) x.1)))
 
 -- what was built before what is left
 abbrev pub with_front : List ℕ → Option (List ℕ) → Option (List ℕ)

@@ -1,10 +1,11 @@
 // What follows the backslash of an escape: the letters of ECHAR, and UCHAR, its digits four at a time.
 
 ghost use Rattle.std.specs.Prelude.{◌≡◌, ◌≤◌, ◌<◌, ◌+◌, true, IfSome, SomeIff, length, take, drop, option_map};
-ghost use Rattle.rdf_terms.specs.Classes.{scalar};
+ghost use Rattle.rdf_terms.specs.Classes.{has, scalar};
+ghost use Rattle.rdf_terms.specs.Classes.Class.{hex_digit};
 ghost use Rattle.rdf_terms.specs.Pieces.{hex_number};
-ghost use Rattle.rdf_terms.specs.Escapes.{are_four_digits, begins, completes, digit_or_none, four_number};
-ghost use Rattle.rdf_terms.specs.Escapes.{IsLongUchar, IsShortUchar, UcharAt};
+ghost use Rattle.rdf_terms.specs.Runs.{PassBetween};
+ghost use Rattle.rdf_terms.specs.Escapes.{begins, completes, digit_or_none, IsUchar, IsUcharOf, UcharAt};
 ghost use Rattle.rdf_terms.specs.Values.{letter_move};
 
 /// Stands for a byte that is no hex digit: more than four digits write.
@@ -62,7 +63,7 @@ pub fn letter_meaning(letter: u8) -> Option<char>
 #[inline(always)]
 pub fn uchar(bytes: &[u8], at: usize) -> Option<(char, usize)>
     requires { at ≤ length bytes.now }
-    ensures { UcharAt bytes.now at result }
+    ensures { UcharAt IsUchar bytes.now at result }
 {
     match short_uchar(bytes, at) {
         Some(read) => Some(read),
@@ -74,7 +75,7 @@ pub fn uchar(bytes: &[u8], at: usize) -> Option<(char, usize)>
 #[inline(always)]
 pub fn short_uchar(bytes: &[u8], at: usize) -> Option<(char, usize)>
     requires { at ≤ length bytes.now }
-    ensures { SomeIff result (IsShortUchar bytes.now at) (hex_number (take 4 (drop (at + 2) bytes.now)), at + 6) }
+    ensures { UcharAt (IsUcharOf 117 4) bytes.now at result }
 {
     if !begins(bytes, at, b'u', 6) {
         return None;
@@ -87,7 +88,7 @@ pub fn short_uchar(bytes: &[u8], at: usize) -> Option<(char, usize)>
 #[inline(always)]
 pub fn long_uchar(bytes: &[u8], at: usize) -> Option<(char, usize)>
     requires { at ≤ length bytes.now }
-    ensures { SomeIff result (IsLongUchar bytes.now at) (hex_number (take 8 (drop (at + 2) bytes.now)), at + 10) }
+    ensures { UcharAt (IsUcharOf 85 8) bytes.now at result }
 {
     if !begins(bytes, at, b'U', 10) {
         return None;
@@ -122,7 +123,7 @@ fn with_end(meant: Option<char>, end: usize) -> Option<(char, usize)>
 #[inline(always)]
 fn four_digits(bytes: &[u8], at: usize) -> Option<u32>
     requires { at + 4 ≤ length bytes.now }
-    ensures is { SomeIff result (are_four_digits bytes.now at ≡ true) (four_number bytes.now at) }
+    ensures is { SomeIff result (PassBetween (has hex_digit) bytes.now at (at + 4)) (hex_number (take 4 (drop at bytes.now))) }
     ensures small { IfSome result (λ n. n < 0x10000) }
 {
     let front = 16 * digit(bytes[at]) + digit(bytes[at + 1]);

@@ -1,5 +1,5 @@
 -- Plain bytes and whole escapes of a string or an IRI have a meaning, whatever text comes after them.
-use Rattle.std.proofs.Common.{◌≡◌, ℕ, ◌+◌, ◌-◌, ◌<◌, ◌≤◌, ◌==◌, Bool, true, false, not, List, [], ◌∷◌, ◌++◌, Option, Some, None, inl, inr, is_some, get_or, take, drop, refl, sym, ap, ◌∙◌, subst, arith, ⊎_elim, append_assoc, length, length-drop}
+use Rattle.std.proofs.Common.{◌≡◌, ◌⊎◌, ℕ, ◌+◌, ◌-◌, ◌<◌, ◌≤◌, ◌==◌, Bool, true, false, not, List, [], ◌∷◌, ◌++◌, Option, Some, None, inl, inr, is_some, get_or, take, drop, refl, sym, ap, ◌∙◌, subst, arith, ⊎_elim, append_assoc, length, length-drop}
 use Rattle.std.specs.Prelude.{slice_range}
 use Rattle.std.proofs.lemmas.Bool.{agree_below_at, cases_Bool, cases_lt, eqb-true, false≢true}
 use Rattle.std.proofs.lemmas.Bool.Decides.{nat_tests}
@@ -8,7 +8,7 @@ use Rattle.std.proofs.lemmas.List.Folds.{drop_split}
 use Rattle.std.proofs.Math.Seq.{take-append-add}
 use Rattle.rdf_terms.specs.Classes.{has}
 use Rattle.rdf_terms.specs.Classes.Class.{hex_digit, iri_char}
-use Rattle.rdf_terms.specs.Escapes.{completes, stands, IsHexes, IsNumber}
+use Rattle.rdf_terms.specs.Escapes.{completes, stands, IsUchar, IsUcharOf}
 use Rattle.rdf_terms.specs.Pieces.{IsNumberEscape, MayMean, hex_number}
 use Rattle.rdf_terms.specs.declared.runs.Run.{Run}
 use Rattle.rdf_terms.specs.Runs.{IsRun, PassBetween, goes_over, iri_byte, is_unescaped}
@@ -20,8 +20,8 @@ use Rattle.rdf_terms.proofs.ValueBytes.{high_byte_stands}
 use Rattle.rdf_tokens.specs.declared.states.text.Quote.{Quote}
 use Rattle.rdf_tokens.specs.declared.states.text.Quote.TheVariants.{Double, Single}
 use Rattle.rdf_tokens.specs.Quick.{long_run, short_run}
-use Rattle.rdf_tokens.specs.Escapes.{is_letter, IsEchar, IsEscapeThen, IsUchar, IsIriUchar, FitsIn, FitsInString, FitsInIri}
-use Rattle.rdf_tokens.proofs.RestEscapes.{letter_below, implied, uchar_from}
+use Rattle.rdf_tokens.specs.Escapes.{is_letter, IsEchar, IsEscapeThen, IsIriUchar, FitsIn, FitsInString, FitsInIri}
+use Rattle.rdf_tokens.proofs.RestEscapes.{letter_below, implied}
 
 -- the bytes between two places, cut at one between them
 pub slice-split : (bs : List ℕ) (at mid end : ℕ) → at ≤ mid → mid ≤ end → mid ≤ length bs →
@@ -167,63 +167,62 @@ number_value : (i : Inside) (piece : List ℕ) (c : ℕ) (w : List ℕ) → IsNu
     is_some (value i outside (piece ++ w)) ≡ is_some (value i outside w)
 number_value i piece c w h = ap is_some (number_escape-takes i piece c h w) ∙ is_some-map (λ v. c ∷ v) (value i outside w)
 
--- a backslash, a letter, and digits
-escape-at : (bs : List ℕ) (at count end a b : ℕ) → get_or bs at 0 ≡ a → get_or bs (at + 1) 0 ≡ b → IsNumber bs (at + 2) count end →
-    slice_range bs at end ≡ a ∷ b ∷ take count (drop (at + 2) bs)
-escape-at bs at count end a b x y n =
-    let e = n.hexes.ends in
-    let l = n.hexes.within in
-    let count_is : end - (at + 2) ≡ count = omega arith in
-    slice-split bs at (at + 2) end (omega arith) (omega arith) (omega arith)
-    ∙ (ap (λ p. p ++ slice_range bs (at + 2) end) (two-at bs at (at + 2) a b refl (omega arith) x y)
-    ∙ ap (λ k. a ∷ b ∷ take k (drop (at + 2) bs)) count_is)
+-- a UCHAR with one letter and so many digits
+module _ (u count : ℕ) (bs : List ℕ) (at end : ℕ) (h : IsUcharOf u count bs at end) where
+  abbrev hexes : List ℕ
+  hexes = slice_range bs (at + 2) end
 
--- the digits between two places
-module _ (bs : List ℕ) (from count end : ℕ) (h : IsHexes bs from count end) where
+  -- it is the backslash, the letter, and the digits
+  uchar_parts : slice_range bs at end ≡ 92 ∷ u ∷ hexes
+  uchar_parts =
+      let e = h.digits.ends in
+      let l = h.digits.within in
+      slice-split bs at (at + 2) end (omega arith) (omega arith) (omega arith)
+      ∙ ap (λ p. p ++ hexes) (two-at bs at (at + 2) 92 u refl (omega arith) h.slash h.letter)
+
   -- there are so many
-  digits-length : length (take count (drop from bs)) ≡ count
-  digits-length = let w = h.within in let e = h.ends in length-take-le count (drop from bs) (omega (arith, length-drop from bs))
+  digits_count : length hexes ≡ count
+  digits_count =
+      let e = h.digits.ends in
+      let w = h.digits.within in
+      length-take-le (end - (at + 2)) (drop (at + 2) bs) (omega (arith, length-drop (at + 2) bs)) ∙ omega arith
 
   -- they are hex digits
-  digits-hex : all_have (has hex_digit) (take count (drop from bs)) ≡ true
-  digits-hex = let w = h.within in
-      let e = h.ends in
-      slice_passes (has hex_digit) bs from count (omega arith) (subst (PassBetween (has hex_digit) bs from) e h.hexes)
+  digits_hex : all_have (has hex_digit) hexes ≡ true
+  digits_hex =
+      let e = h.digits.ends in
+      let w = h.digits.within in
+      slice_passes (has hex_digit) bs (at + 2) (end - (at + 2)) (omega arith) (λ k a b. h.digits.hexes k a (omega arith))
+
+  -- its character may be meant, so it has a meaning, whatever text comes after it
+  fits_number : (i : Inside) → ((u ≡ 117) × (count ≡ 4)) ⊎ ((u ≡ 85) × (count ≡ 8)) → MayMean i (hex_number hexes) → FitsIn i bs at end
+  fits_number i k m = record {
+    from = let e = h.digits.ends in omega arith;
+    within = h.digits.within;
+    value = λ w.
+        ap (λ p. is_some (value i outside (p ++ w))) uchar_parts
+        ∙ number_value i (92 ∷ u ∷ hexes) (hex_number hexes) w (
+          hexes,
+          ⊎_elim (λ x. inl (ap (λ u. 92 ∷ u ∷ hexes) x.0, digits_count ∙ x.1)) (λ x. inr (ap (λ u. 92 ∷ u ∷ hexes) x.0, digits_count ∙ x.1)) k,
+          digits_hex,
+          refl,
+          h.character,
+          m,
+        );
+  }
 
 -- a UCHAR whose character may be meant
-fits_number : (i : Inside) (bs : List ℕ) (at end : ℕ) (u : IsUchar bs at end) → MayMean i (hex_number (slice_range bs (at + 2) end)) → FitsIn i bs at end
-fits_number i bs at end u m = record {
-  from = let l = (uchar_from bs at end u).0 in omega arith;
-  within = (uchar_from bs at end u).1;
-  value = λ w. ⊎_elim
-      (λ g.
-      let hexes = take 4 (drop (at + 2) bs) in
-      let n = g.1 in
-      ap (λ p. is_some (value i outside (p ++ w))) (escape-at bs at 4 end 92 117 u.slash g.0 n)
-      ∙ number_value i (92 ∷ 117 ∷ hexes) (hex_number hexes) w
-      (hexes, inl (refl, digits-length bs (at + 2) 4 end n.hexes), digits-hex bs (at + 2) 4 end n.hexes, refl, n.character, may 4 n.hexes))
-      (λ g.
-      let hexes = take 8 (drop (at + 2) bs) in
-      let n = g.1 in
-      ap (λ p. is_some (value i outside (p ++ w))) (escape-at bs at 8 end 92 85 u.slash g.0 n)
-      ∙ number_value i (92 ∷ 85 ∷ hexes) (hex_number hexes) w
-      (hexes, inr (refl, digits-length bs (at + 2) 8 end n.hexes), digits-hex bs (at + 2) 8 end n.hexes, refl, n.character, may 8 n.hexes))
-      u.digits;
-}
-  where
-    may : (count : ℕ) → IsHexes bs (at + 2) count end → MayMean i (hex_number (take count (drop (at + 2) bs)))
-    may count h =
-        let e = h.ends in
-        let count_is : end - (at + 2) ≡ count = omega arith in
-        subst (λ k. MayMean i (hex_number (take k (drop (at + 2) bs)))) count_is m
+fits_meant : (i : Inside) (bs : List ℕ) (at end : ℕ) → IsUchar bs at end → MayMean i (hex_number (slice_range bs (at + 2) end)) → FitsIn i bs at end
+fits_meant i bs at end u m =
+    ⊎_elim (λ h. fits_number 117 4 bs at end h i (inl (refl, refl)) m) (λ h. fits_number 85 8 bs at end h i (inr (refl, refl)) m) u
 
 -- in a string each may
 pub fits_uchar : (bs : List ℕ) (at end : ℕ) → IsUchar bs at end → FitsInString bs at end
-fits_uchar bs at end u = fits_number of_string bs at end u tt
+fits_uchar bs at end u = fits_meant of_string bs at end u tt
 
 -- in an IRI those that IRIs have
 pub fits_iri_uchar : (bs : List ℕ) (at end : ℕ) → IsIriUchar bs at end → FitsInIri bs at end
-fits_iri_uchar bs at end u = fits_number of_iri bs at end u.uchar u.allowed
+fits_iri_uchar bs at end u = fits_meant of_iri bs at end u.uchar u.allowed
 
 -- an escape of a string and the run after it
 pub fits_then : (r : Run) (bs : List ℕ) (at end : ℕ) → goes_over r 92 ≡ false → IsEscapeThen r bs at end → FitsInString bs at end

@@ -1,5 +1,5 @@
 -- A whole escape leads from the state within a string or an IRI back to it.
-use Rattle.std.proofs.Common.{◌≡◌, ℕ, zero, suc, ◌+◌, ◌<◌, ◌≤◌, Bool, true, false, not, ◌||◌, ◌⊎◌, inl, inr, List, ◌++◌, get_or, nat_le, ◌&&◌, ◌==◌, refl, sym, ap, ◌∙◌, subst, arith, ⊎_elim, length, drop, Option, None}
+use Rattle.std.proofs.Common.{◌≡◌, ℕ, zero, suc, ◌+◌, ◌<◌, ◌≤◌, Bool, true, false, not, ◌||◌, ◌⊎◌, List, ◌++◌, get_or, nat_le, ◌&&◌, ◌==◌, refl, sym, ap, ◌∙◌, subst, arith, ⊎_elim, length, drop, Option, None}
 use Rattle.std.specs.Str.{chars}
 use Rattle.std.proofs.lemmas.Bool.{agree_below, agree_below_at, and_parts, cases_lt, eqb-true, leb-true, false≢true}
 use Rattle.std.proofs.lemmas.Bool.Decides.{nat_tests}
@@ -10,7 +10,7 @@ use Rattle.rdf_terms.specs.declared.kind.Kind.{Kind}
 use Rattle.rdf_terms.specs.declared.runs.Run.{Run}
 use Rattle.rdf_terms.specs.Classes.{has}
 use Rattle.rdf_terms.specs.Classes.Class.{hex_digit}
-use Rattle.rdf_terms.specs.Escapes.{IsHexes}
+use Rattle.rdf_terms.specs.Escapes.{IsUchar, IsUcharOf}
 use Rattle.rdf_terms.specs.Runs.{PassBetween}
 use Rattle.rdf_tokens.specs.declared.states.machine.State.{State}
 use Rattle.rdf_tokens.specs.declared.states.machine.State.TheVariants as state
@@ -30,7 +30,7 @@ use Rattle.rdf_tokens.specs.Sorts.{sort_by}
 use Rattle.rdf_tokens.specs.Tokens.{with_length, only_long, three_quotes}
 use Rattle.rdf_tokens.specs.Iri as iri
 use Rattle.rdf_tokens.specs.Text as text
-use Rattle.rdf_tokens.specs.Escapes.{is_hex, is_letter, IsEchar, IsEscapeThen, IsUchar, RestsInIri}
+use Rattle.rdf_tokens.specs.Escapes.{is_hex, is_letter, IsEchar, IsEscapeThen, RestsInIri}
 use Rattle.rdf_tokens.proofs.NoNamesLemmas.{no_long}
 use Rattle.rdf_tokens.proofs.RestLemmas.{rests-more}
 use Rattle.rdf_tokens.proofs.RestStates.{rests_short, rests_long}
@@ -89,22 +89,21 @@ hexes_on s e h f d bs b (suc n) at l p r =
 -- over a UCHAR, from a state that takes its backslash as the state within does
 module _ (s e : State) (h : ℕ → State) (f : Numbers s e h) (o : State) (bs : List ℕ) (at end : ℕ) (d : Dialect) (b : Option (ℕ × Kind))
     (slash : step d o 92 ≡ e) where
-  digits_on : (c n : ℕ) → c < 128 → get_or bs at 0 ≡ 92 → get_or bs (at + 1) 0 ≡ c → step d e c ≡ h n → IsHexes bs (at + 2) (suc n) end →
-      Reached d bs at o b → Reached d bs end s b
-  digits_on c n a x y t g r =
-      let w = g.within in
-      let z = g.ends in
+  digits_on : (c n : ℕ) → c < 128 → step d e c ≡ h n → IsUcharOf c (suc n) bs at end → Reached d bs at o b → Reached d bs end s b
+  digits_on c n a t u r =
+      let x = u.slash in
+      let y = u.letter in
+      let w = u.digits.within in
+      let z = u.digits.ends in
       let after = byte_on d bs at o e b (omega arith) (omega (arith, x)) (ap (step d o) x ∙ slash) f.none_after r in
       let begun = byte_on d bs (at + 1) e (h n) b (omega arith) (omega (arith, y)) (ap (step d e) y ∙ t) (f.none_yet n) after in
       let two : at + 1 + 1 ≡ at + 2 = omega arith in
       subst (λ k. Reached d bs k s b) (sym z)
-      (hexes_on s e h f d bs b n (at + 2) (omega arith) (λ k x y. hex_of (get_or bs k 0) (g.hexes k x (omega arith))) (subst (λ k. Reached d bs k (h n) b) two begun))
+      (hexes_on s e h f d bs b n (at + 2) (omega arith) (λ k x y. hex_of (get_or bs k 0) (u.digits.hexes k x (omega arith)))
+      (subst (λ k. Reached d bs k (h n) b) two begun))
 
   uchar_on : IsUchar bs at end → Reached d bs at o b → Reached d bs end s b
-  uchar_on u r = ⊎_elim
-      (λ g. digits_on 117 3 (omega arith) u.slash g.0 (f.small d) g.1.hexes r)
-      (λ g. digits_on 85 7 (omega arith) u.slash g.0 (f.big d) g.1.hexes r)
-      u.digits
+  uchar_on u r = ⊎_elim (λ g. digits_on 117 3 (omega arith) (f.small d) g r) (λ g. digits_on 85 7 (omega arith) (f.big d) g r) u
 
 -- no token ends within it, so none is told
 none_told : (d : Dialect) (bs : List ℕ) (s : State) (at : ℕ) (b : Option (ℕ × Kind)) → kind_at s ≡ None → with_length at (kind_here d bs s) b ≡ b
@@ -121,10 +120,8 @@ rests_by s bs at end n from within f = record {
 
 -- where a UCHAR ends
 pub uchar_from : (bs : List ℕ) (at end : ℕ) → IsUchar bs at end → (at < end) × (end ≤ length bs)
-uchar_from bs at end u = ⊎_elim
-    (λ g. (omega (arith, g.1.hexes.ends), g.1.hexes.within))
-    (λ g. (omega (arith, g.1.hexes.ends), g.1.hexes.within))
-    u.digits
+uchar_from bs at end u =
+    ⊎_elim (λ g. (omega (arith, g.digits.ends), g.digits.within)) (λ g. (omega (arith, g.digits.ends), g.digits.within)) u
 
 -- so a UCHAR leads back to the state before it
 rests_uchar : (s e : State) (h : ℕ → State) → Numbers s e h → (bs : List ℕ) (at end : ℕ) → IsUchar bs at end → Rests s bs at end

@@ -91,7 +91,7 @@ module _ (d : Dialect) (q : Quote) (bs : List ℕ) (u : IsUtf8 bs) (o : opens_wi
       (λ x. (plain_second d q bs u o x.0).2)
       (λ x. ⊎_elim
       (λ y. let l = first_byte y in ne_eqb (get_or bs 1 0) (quote_byte q) (λ e. let b = low_quote q in omega (arith, e)))
-      (λ y. ap (λ b. b == quote_byte q) (⊎_elim (λ z. z.slash) (λ z. z.slash) y) ∙ no_quote q)
+      (λ y. ap (λ b. b == quote_byte q) (⊎_elim (λ z. z.slash) (⊎_elim (λ z. z.slash) (λ z. z.slash)) y) ∙ no_quote q)
       x)
       f
     where

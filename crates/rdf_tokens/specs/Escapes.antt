@@ -1,7 +1,7 @@
 -- Whole escapes within strings and IRIs.
 use Rattle.std.specs.Prelude.{◌≡◌, ◌⊎◌, ℕ, ◌+◌, ◌≤◌, Bool, true, ◌||◌, List, [], ◌∷◌, ◌++◌, length, get_or, slice_range, is_some}
 use Rattle.rdf_terms.specs.Classes.{is_digit, within, one_of}
-use Rattle.rdf_terms.specs.Escapes.{IsNumber}
+use Rattle.rdf_terms.specs.Escapes.{IsUchar}
 use Rattle.rdf_terms.specs.Pieces.{MayMean, hex_number}
 use Rattle.rdf_terms.specs.declared.runs.Run.{Run}
 use Rattle.rdf_terms.specs.Runs.{IsRun, goes_over}
@@ -25,12 +25,7 @@ pub record IsEchar (bs : List ℕ) (at end : ℕ) : Type 0 where
   pub slash : get_or bs at 0 ≡ 92
   pub letter : is_letter (get_or bs (at + 1) 0) ≡ true
 
--- a UCHAR does
-pub record IsUchar (bs : List ℕ) (at end : ℕ) : Type 0 where
-  pub slash : get_or bs at 0 ≡ 92
-  pub digits : ((get_or bs (at + 1) 0 ≡ 117) × IsNumber bs (at + 2) 4 end) ⊎ ((get_or bs (at + 1) 0 ≡ 85) × IsNumber bs (at + 2) 8 end)
-
--- one does, whose character may stand in an IRI
+-- a UCHAR does, whose character may stand in an IRI
 pub record IsIriUchar (bs : List ℕ) (at end : ℕ) : Type 0 where
   pub uchar : IsUchar bs at end
   pub allowed : MayMean of_iri (hex_number (slice_range bs (at + 2) end))

@@ -4,7 +4,8 @@ use Rattle.std.specs.Char.{len_utf8}
 use Rattle.rdf_tokens.specs.declared.states.machine.State.TheVariants as state
 use Rattle.rdf_tokens.specs.declared.states.text.Quote.{Quote}
 use Rattle.rdf_tokens.specs.declared.states.text.Text.TheVariants as text_state
-use Rattle.rdf_tokens.specs.Escapes.{IsEchar, IsUchar}
+use Rattle.rdf_terms.specs.Escapes.{IsUchar}
+use Rattle.rdf_tokens.specs.Escapes.{IsEchar}
 use Rattle.rdf_tokens.specs.Front.{Rests}
 use Rattle.rdf_tokens.specs.Quick.{begins_string}
 

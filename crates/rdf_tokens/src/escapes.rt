@@ -3,8 +3,8 @@
 ghost use Rattle.std.specs.Prelude.{◌≡◌, ◌≤◌, ◌+◌, ◌&&◌, ◌==◌, ◌⊎◌, nat_le, false, length, get_or, option_map};
 ghost use Rattle.std.specs.Prelude.{IfSome};
 ghost use Rattle.rdf_terms.specs.Runs.{IsRun, goes_over};
-ghost use Rattle.rdf_tokens.specs.Escapes.{is_letter, IsEchar, IsUchar, IsIriUchar, FitsInIri, FitsInString};
-ghost use Rattle.rdf_tokens.specs.Escapes.{IsEscapeThen, RestsInIri};
+ghost use Rattle.rdf_terms.specs.Escapes.{IsUchar};
+ghost use Rattle.rdf_tokens.specs.Escapes.{is_letter, IsEchar, IsEscapeThen, IsIriUchar, FitsInIri, FitsInString, RestsInIri};
 ghost use Rattle.rdf_tokens.specs.Quick.{short_run};
 ghost use Rattle.rdf_tokens.specs.Strings.{RestsInQuotes};
 

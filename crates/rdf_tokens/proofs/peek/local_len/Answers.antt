@@ -1,5 +1,5 @@
 -- A name with an empty prefix, by the run after its colon and the byte after it.
-use Rattle.std.proofs.Common.{◌≡◌, ◌==◌, ◌+◌, ◌∙◌, ℕ, List, zero, true, false, inl, refl, sym, ap, subst, cond, get_or, take, arith, IsUtf8}
+use Rattle.std.proofs.Common.{◌≡◌, ◌==◌, ◌∙◌, ℕ, List, true, inl, refl, sym, ap, subst, cond, get_or, take, arith, IsUtf8}
 use Rattle.std.proofs.lemmas.Bool.{cond-false, ne_eqb}
 use Rattle.rdf_terms.specs.declared.kind.Dialect.TheVariants.{Turtle}
 use Rattle.rdf_terms.specs.declared.kind.Kind.TheVariants.{PnameLn, PnameNs}
