@@ -1,14 +1,8 @@
 -- How a run ends that goes on after bad lines: what its steps say of it, taken together.
-use Rattle.std.proofs.Common.{◌≡◌, ℕ, false, List, Option, inl, inr, subst, sym}
+use Rattle.rdf_command.proofs.Prelude.{◌≡◌, ℕ, false, List, Option, inl, inr, subst, sym, Written, Task, AsideBy, AsideEnds, AsideOnto, StopsAside, Told, output_called, told_of, Outputs, output_of, Device, Devices, ReportsStop, broken, device, Ending, FilesRead, StartsWith, job_of, name_of}
 use Rattle.clap.specs.Words.{Text}
-use Rattle.rdf_stream.specs.Devices.{Reading, Written}
+use Rattle.rdf_stream.specs.Devices.{Reading}
 use Rattle.rdf_stream.specs.Jobs.{JobRead}
-use Rattle.rdf_command.specs.declared.task.Task.{Task}
-use Rattle.rdf_command.specs.Asides.{AsideBy, AsideEnds, AsideOnto, StopsAside, Told, output_called, told_of}
-use Rattle.rdf_command.specs.Outputs.{Outputs, output_of}
-use Rattle.rdf_command.specs.Reasons.{Device, Devices, ReportsStop, broken, device}
-use Rattle.rdf_command.specs.Runs.{Ending, FilesRead, StartsWith, job_of}
-use Rattle.rdf_command.specs.Words.{name_of}
 
 module _ (says : Outputs) (devices : Devices) (bad : Text) (t : Task) (prefixes : Option (Option (List ℕ))) (known : Option (List ℕ))
     (before : Option Reading) (source : Reading) (e : Ending) where

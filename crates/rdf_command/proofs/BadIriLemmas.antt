@@ -1,19 +1,12 @@
 -- What is said of a text that is no IRI, step by step.
-use Rattle.std.proofs.Common.{◌≡◌, ◌∙◌, ◌+◌, ℕ, Bool, true, false, true≢false, List, [], ◌∷◌, Option, Some, None, IfSome, is_some, Result, Ok, Err, IfOk, ap, codes, cond, encode_utf8, encode_utf8_all, inr, length, length-append, option_map, refl, subst, sym}
+use Rattle.rdf_command.proofs.Prelude.{◌≡◌, ◌∙◌, ◌+◌, ℕ, Bool, true, false, true≢false, List, [], ◌∷◌, Option, Some, None, IfSome, is_some, Result, Ok, Err, IfOk, ap, codes, cond, encode_utf8, encode_utf8_all, inr, length, length-append, option_map, refl, subst, sym, ValueParser, byte_len, rdfconv, RefusesWith, bad_char, iri_front, lines_about, lines_by, lines_for, lines_of, IsOfIri, IsNoTaskOf, IsToldBy, GoesTo, TakesFormats, base_by, number_of}
 use Rattle.std.specs.Result.{result_ok}
 use Rattle.clap.specs.Words.{Row, Text, first_of}
-use Rattle.clap.specs.declared.builder.value_parser.ValueParser.{ValueParser}
 use Rattle.rdf_terms.specs.Classes.{has}
 use Rattle.rdf_terms.specs.Classes.Class.{iri_char}
-use Rattle.rdf_iri.specs.Texts.{byte_len}
-use Rattle.rdf_options.specs.Options.{rdfconv}
 use Rattle.rdf_command.specs.declared.task.WordsFault.{WordsFault}
 use Rattle.rdf_command.specs.declared.task.WordsFault.TheVariants.{Usage, BadBase, BadNodePrefix, BadGraph, BadSkip, NoFormat, Memory}
-use Rattle.rdf_command.specs.BadIris.{RefusesWith, bad_char, iri_front, lines_about, lines_by, lines_for, lines_of}
-use Rattle.rdf_command.specs.RunSteps.{IsOfIri}
-use Rattle.rdf_command.specs.Programs.{IsNoTaskOf, IsToldBy}
-use Rattle.rdf_command.specs.Statuses.{GoesTo}
-use Rattle.rdf_command.specs.Words.{TakesFormats, base_by, is_given, number_of}
+use Rattle.rdf_command.specs.Words.{is_given}
 use Rattle.rdf_command.proofs.GivenLemmas.{same_some}
 
 -- a text that begins with a character that may stand in an IRI

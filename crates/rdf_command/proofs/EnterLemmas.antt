@@ -1,22 +1,12 @@
 -- A parse of the program's words that finds no fault enters a subcommand with all that a task needs.
-use Rattle.std.proofs.Common.{◌≡◌, ◌∙◌, ◌||◌, ◌⊎◌, Bool, true, false, true≢false, refl, sym, ap, subst, arith, inl, inr, List, [], ◌∷◌, ◌++◌, map, Option, Some, option_map, bytes_eq, codes}
-use Rattle.std.specs.List.{list_any}
-use Rattle.std.specs.Borrow.{Bor}
-use Rattle.clap.specs.Words.{App, Row, Rule, HasMatchesOf, Text, fault_of, first_of, found_of, is_simple, is_simple_and_free, rows_of, subcommand_name_of, subcommand_of, subcommand_rows_of}
+use Rattle.rdf_command.proofs.Prelude.{◌≡◌, ◌∙◌, ◌||◌, ◌⊎◌, Bool, true, false, true≢false, refl, sym, ap, subst, arith, inl, inr, List, [], ◌∷◌, ◌++◌, map, Option, Some, option_map, bytes_eq, codes, list_any, Bor, HasMatchesOf, fault_of, found_of, is_simple, is_simple_and_free, rows_of, subcommand_name_of, subcommand_of, subcommand_rows_of, rows_after, texts, Shape, argument_words, built, filled_from, help_rule, ValueParser, Unsigned, list_any-map, Form, action_app, ascii_rule, file_rule, files_rule, graph_rule, node_prefix_rule, output_rule, prefixes_rule, rdfconv, skip_rule, Entered, action_name, by_name, form_name, format_names, forms, HasLimits, IsEntered, IsFormatWord}
+use Rattle.clap.specs.Words.{App, Row, Rule, Text, first_of}
 use Rattle.clap.specs.declared.parser.matches.ArgMatches.{ArgMatches}
-use Rattle.clap.specs.Walk.{rows_after, texts}
-use Rattle.clap.specs.Simple.{Shape, argument_words, built, filled_from, help_rule}
-use Rattle.clap.specs.declared.builder.value_parser.ValueParser.{ValueParser}
-use Rattle.clap.specs.declared.builder.value_parser.ValueParser.TheVariants.{Names, Unsigned}
+use Rattle.clap.specs.declared.builder.value_parser.ValueParser.TheVariants.{Names}
 use Rattle.clap.proofs.OnLiterals.{clap_on_literals}
 use Rattle.clap.proofs.ValueTestLemmas.{accepts-Accepts}
-use Rattle.clap.proofs.WalkLemmas.{list_any-map}
-use Rattle.rdf_stream.specs.declared.form.Form.{Form}
 use Rattle.rdf_command.specs.declared.task.Action.{Action}
 use Rattle.rdf_command.specs.declared.task.Action.TheVariants.{Check, Show, Convert}
-use Rattle.rdf_options.specs.Options.{action_app, ascii_rule, file_rule, files_rule, graph_rule, node_prefix_rule, output_rule, prefixes_rule, rdfconv, skip_rule}
-use Rattle.rdf_command.specs.Words.{Entered, action_name, by_name, form_name, format_names, forms}
-use Rattle.rdf_command.specs.WordSteps.{HasLimits, IsEntered, IsFormatWord}
 use Rattle.rdf_command.proofs.RowLemmas.{Each, IsRead, same_text, value-of}
 use Rattle.rdf_command.proofs.GivenLemmas.{pair_is, same_some}
 use Rattle.rdf_command.proofs.LevelLemmas.{IsHelp, LevelHolds, enters}

@@ -1,21 +1,12 @@
 -- What clap's getters hand out, against what its definition says of the words.
-use Rattle.std.proofs.Common.{◌≡◌, ◌∙◌, true≢false, refl, sym, subst, ap, ap₂, inl, inr, List, [], ◌∷◌, ◌++◌, ℕ, codes, Bool, true, false, Option, Some, None, option_map, drop, is_some, map, string_bytes, take, unwrap_or, ⊎_elim}
-use Rattle.std.proofs.lemmas.List.{append_assoc, map-append, take-append-drop}
-use Rattle.std.specs.Prelude.{◌≢◌}
-use Rattle.std.specs.Borrow.{Bor}
-use Rattle.clap.specs.Words.{App, Text, all_of, fault_of, first_of, first_value, kind_of, rows_of, subcommand_of}
-use Rattle.clap.specs.Kinds.{HasKind, IsAmong}
+use Rattle.rdf_command.proofs.Prelude.{◌≡◌, ◌∙◌, true≢false, refl, sym, subst, ap, ap₂, inl, inr, List, [], ◌∷◌, ◌++◌, ℕ, codes, Bool, true, false, Option, Some, None, option_map, drop, is_some, map, string_bytes, take, unwrap_or, ⊎_elim, append_assoc, map-append, take-append-drop, ◌≢◌, Bor, all_of, fault_of, first_value, kind_of, rows_of, subcommand_of, HasKind, IsAmong, OutOfMemory, first_value-rows, Form, AreDocuments, CanSkip, Entered, GivesNone, IsFormBy, IsFormless, base_by, further_by, further_of, name_by, number_of, NoBaseOf, NoFormOf, NoFormsOf, NoGraphOf, NoSkipOf, NoTaskBy, NoWordOf, fault_by}
+use Rattle.clap.specs.Words.{App, Text, first_of}
 use Rattle.clap.specs.declared.error.Error.{Error}
 use Rattle.clap.specs.declared.error.kind.ErrorKind.{ErrorKind}
-use Rattle.clap.specs.declared.error.kind.ErrorKind.TheVariants.{OutOfMemory}
 use Rattle.clap.specs.declared.parser.matches.Found.{Found}
-use Rattle.clap.proofs.WalkLemmas.{first_value-rows}
-use Rattle.rdf_stream.specs.declared.form.Form.{Form}
 use Rattle.rdf_command.specs.declared.task.Document.{Document}
 use Rattle.rdf_command.specs.declared.task.WordsFault.{WordsFault}
 use Rattle.rdf_command.specs.declared.task.WordsFault.TheVariants.{Usage, BadBase, BadNodePrefix, BadGraph, BadSkip, NoFormat, Memory}
-use Rattle.rdf_command.specs.Words.{AreDocuments, CanSkip, Entered, GivesNone, IsFormBy, IsFormless, base_by, further_by, further_of, name_by, number_of}
-use Rattle.rdf_command.specs.WordSteps.{NoBaseOf, NoFormOf, NoFormsOf, NoGraphOf, NoSkipOf, NoTaskBy, NoWordOf, fault_by}
 
 -- what is there is not none
 some≢none : {X : Type 0} (x : X) → None ≡ Some x → ⊥

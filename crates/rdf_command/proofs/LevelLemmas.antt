@@ -1,15 +1,10 @@
 -- What a parse without a fault leaves at a level: the rows pass, and each argument that has a default or is required has a row.
-use Rattle.std.proofs.Common.{◌≡◌, ◌∙◌, ◌<◌, ◌&&◌, ◌||◌, ◌⊎◌, Bool, true, false, not, true≢false, refl, sym, subst, arith, inl, inr, eqb-true, List, [], ◌∷◌, ◌++◌, length, Option, Some, None, is_some, find, fold, cond, bytes_eq, codes, option_map, IfSome}
-use Rattle.std.specs.List.{list_any}
-use Rattle.std.specs.Option.{option_map_or}
-use Rattle.std.proofs.lemmas.Slice.Eq.{bytes_eq-Decides}
+use Rattle.rdf_command.proofs.Prelude.{◌≡◌, ◌∙◌, ◌<◌, ◌&&◌, ◌||◌, ◌⊎◌, Bool, true, false, not, true≢false, refl, sym, subst, arith, inl, inr, eqb-true, List, [], ◌∷◌, ◌++◌, length, Option, Some, None, is_some, find, fold, cond, bytes_eq, codes, option_map, IfSome, list_any, option_map_or, bytes_eq-Decides, action_of, answers_to, arg_by_id, finished, has_row, is_empty, nothing_held, reading_by, default_rows, rows_after, settled, stronger, walk, walk_from, with_default, with_values, Shape, entered, label_of, names_of, rows_at, check_kinds, request_kinds, built_fault, check_fault, default_fault, defaults_fault, entered_fault, given_default_fault, level_fault, settle_fault, values_fault, walk_fault}
 use Rattle.std.proofs.lemmas.Bool.{or_right}
 use Rattle.clap.specs.Facts.{explicit_source}
-use Rattle.clap.specs.Walk.{Row, Rule, Text, action_of, answers_to, arg_by_id, finished, has_row, is_empty, nothing_held, reading_by, default_rows, rows_after, settled, stronger, walk, walk_from, with_default, with_values}
-use Rattle.clap.specs.Simple.{App, Shape, entered, label_of, names_of, rows_at}
+use Rattle.clap.specs.Walk.{Row, Rule, Text}
+use Rattle.clap.specs.Simple.{App}
 use Rattle.clap.specs.Takes.{is_given}
-use Rattle.clap.specs.Kinds.{check_kinds, request_kinds}
-use Rattle.clap.specs.Faults.{built_fault, check_fault, default_fault, defaults_fault, entered_fault, given_default_fault, level_fault, settle_fault, values_fault, walk_fault}
 use Rattle.clap.specs.declared.builder.value_parser.Reading.{Reading}
 use Rattle.clap.specs.declared.parser.matches.ValueSource.{ValueSource}
 use Rattle.clap.specs.declared.parser.matches.ValueSource.TheVariants.{DefaultValue}

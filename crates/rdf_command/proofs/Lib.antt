@@ -1,3 +1,4 @@
+mod Prelude
 pub mod ReportLemmas
 pub mod RowLemmas
 pub mod WalkLemmas

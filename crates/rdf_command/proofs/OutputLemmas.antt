@@ -1,16 +1,8 @@
 -- How a task ends whose lines go to a file: what its steps say of it, taken together.
-use Rattle.std.proofs.Common.{◌≡◌, ◌≢◌, ◌∙◌, ℕ, zero, suc, true, List, Option, Some, None, arith, inl, inr, refl, sym, subst}
+use Rattle.rdf_command.proofs.Prelude.{◌≡◌, ◌≢◌, ◌∙◌, ℕ, zero, suc, true, List, Option, Some, None, arith, inl, inr, refl, sym, subst, Written, report_text, LoadFault, Bad, Write, Task, EndsInto, EndsTo, IsEmpty, IsFiled, Outputs, RunsInto, into, output_of, Devices, ReportsFailed, device, standard_output, Ending, FilesRead, RunEnds, RunStops, ending, load_status}
 use Rattle.clap.specs.Words.{Text}
-use Rattle.rdf_stream.specs.Devices.{Reading, Written}
-use Rattle.rdf_stream.specs.Messages.{report_text}
-use Rattle.rdf_stream.specs.declared.fault.LoadFault.{LoadFault}
-use Rattle.rdf_stream.specs.declared.fault.LoadFault.TheVariants.{Bad, Memory, Read}
-use Rattle.rdf_stream.specs.declared.fault.StreamFault.TheVariants.{Write}
-use Rattle.rdf_command.specs.declared.task.Task.{Task}
-use Rattle.rdf_command.specs.Outputs.{EndsInto, EndsTo, IsEmpty, IsFiled, Outputs, RunsInto, into, output_of}
-use Rattle.rdf_command.specs.Reasons.{Devices, ReportsFailed, device, standard_output}
-use Rattle.rdf_command.specs.Runs.{Ending, FilesRead, RunEnds, RunStops, ending}
-use Rattle.rdf_command.specs.Statuses.{load_status}
+use Rattle.rdf_stream.specs.Devices.{Reading}
+use Rattle.rdf_stream.specs.declared.fault.LoadFault.TheVariants.{Memory, Read}
 
 module _ (says : Outputs) (source : Reading → Option Text → Type 0) (name : Text) (t : Task) (prefixes : Option (Option (List ℕ)))
     (known : Option (List ℕ)) (left : FilesRead) (first : Option (List ℕ)) (output : Written)

@@ -1,19 +1,10 @@
 -- A device's reason is among those that such a device in its state tells.
-use Rattle.std.proofs.Common.{◌≡◌, ℕ, Bool, true, false, List, Option, None, Some, option_map, refl, subst, sym}
+use Rattle.rdf_command.proofs.Prelude.{◌≡◌, ℕ, Bool, true, false, List, Option, None, Some, option_map, refl, subst, sym, report_text, told, Evidence, NearRead, LoadFault, Bad, StreamFault, Refused, Write, Device, OneTells, ReportsBindings, ReportsFailed, ReportsStop, ReportsStopOf, broken, device, source_tells, ReportsExplained, ReportsExplainedOf}
 use Rattle.clap.specs.Words.{Text}
-use Rattle.rdf_stream.specs.Messages.{report_text}
-use Rattle.rdf_stream.specs.Told.{told}
 use Rattle.rdf_stream.specs.declared.devices.Source as source
-use Rattle.rdf_stream.specs.declared.explains.Evidence.{Evidence}
-use Rattle.rdf_stream.specs.Places.{NearRead}
-use Rattle.rdf_stream.specs.declared.fault.LoadFault.{LoadFault}
 use Rattle.rdf_stream.specs.declared.fault.LoadFault.TheVariants as load
-use Rattle.rdf_stream.specs.declared.fault.LoadFault.TheVariants.{Bad}
-use Rattle.rdf_stream.specs.declared.fault.StreamFault.{StreamFault}
-use Rattle.rdf_stream.specs.declared.fault.StreamFault.TheVariants.{Refused, Read, Write, Memory}
+use Rattle.rdf_stream.specs.declared.fault.StreamFault.TheVariants.{Read, Memory}
 use Rattle.rdf_command.specs.declared.explains.Explains as explains
-use Rattle.rdf_command.specs.Reasons.{Device, OneTells, ReportsBindings, ReportsFailed, ReportsStop, ReportsStopOf, broken, device, source_tells}
-use Rattle.rdf_command.specs.Statuses.{ReportsExplained, ReportsExplainedOf}
 
 -- one relation holds of all reasons of which another holds
 abbrev pub Among : (Option Text → Type 0) → (Option Text → Type 0) → Type 0

@@ -1,11 +1,5 @@
 -- The line of one of several documents has its name in front where the line of a run has the program's.
-use Rattle.std.proofs.Common.{◌≡◌, ◌⊎◌, ◌∙◌, ◌++◌, ◌-◌, ℕ, Bool, List, Option, ap, arith, drop, inl, inr, length, subst, take}
-use Rattle.std.proofs.lemmas.List.{length-drop, take_all}
-use Rattle.rdf_stream.specs.Messages.{report_text}
-use Rattle.rdf_stream.specs.declared.explains.Evidence.{Evidence}
-use Rattle.rdf_stream.specs.Places.{NearRead}
-use Rattle.rdf_stream.specs.declared.fault.StreamFault.{StreamFault}
-use Rattle.rdf_command.specs.Statuses.{ReportsExplainedOf, ReportsOf, explanation}
+use Rattle.rdf_command.proofs.Prelude.{◌≡◌, ◌⊎◌, ◌∙◌, ◌++◌, ◌-◌, ℕ, Bool, List, Option, ap, arith, drop, inl, inr, length, subst, take, length-drop, take_all, report_text, Evidence, NearRead, StreamFault, ReportsExplainedOf, ReportsOf, explanation}
 
 module _ (asked : Bool) (name : List ℕ) (fault : StreamFault) (evidence : Evidence NearRead) (old new : Option (List ℕ)) (failed : Bool)
     (line text : List ℕ) (same : line ≡ text) where

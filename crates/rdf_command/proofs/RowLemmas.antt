@@ -1,23 +1,16 @@
 -- Where clap finds no fault with a use of an argument, the values that it keeps passed the argument's test.
-use Rattle.std.proofs.Common.{◌≡◌, ◌∙◌, ◌<◌, ◌||◌, ◌⊎◌, ℕ, Bool, true, false, true≢false, refl, sym, ap, subst, arith, List, [], ◌∷◌, ◌++◌, length, Some, find, cond, bytes_eq, eqb-true, length-append, inl, inr, unwrap_or, ◌+◌, ◌==◌, option_and_then, slice_get, IfSome}
-use Rattle.std.specs.List.{list_all}
+use Rattle.rdf_command.proofs.Prelude.{◌≡◌, ◌∙◌, ◌<◌, ◌||◌, ◌⊎◌, ℕ, Bool, true, false, true≢false, refl, sym, ap, subst, arith, List, [], ◌∷◌, ◌++◌, length, Some, find, cond, bytes_eq, eqb-true, length-append, inl, inr, unwrap_or, ◌+◌, ◌==◌, option_and_then, slice_get, IfSome, list_all, bytes_eq-Decides, action_of, arg_by_id, at_row, has_row, more_values, most_values, reading_by, used, used_as, values_or_missing, with_values, without, Kinds, or_else, range_kinds, values_kinds, value_kinds, action_fault, use_fault, values_fault, ValueParser, InvalidValue, WrongNumberOfValues, both}
 use Rattle.std.proofs.lemmas.List.Folds.{list_all-append}
-use Rattle.std.proofs.lemmas.Slice.Eq.{bytes_eq-Decides}
-use Rattle.clap.specs.Walk.{Row, Rule, Text, action_of, arg_by_id, at_row, first_of, has_row, more_values, most_values, reading_by, used, used_as, values_or_missing, with_values, without}
+use Rattle.clap.specs.Walk.{Row, Rule, Text, first_of}
 use Rattle.clap.specs.Facts.{unwrap_or_range, parser_of_value}
-use Rattle.clap.specs.Kinds.{Kinds, or_else, range_kinds, values_kinds, value_kinds}
-use Rattle.clap.specs.Faults.{action_fault, use_fault, values_fault}
 use Rattle.clap.specs.Takes.{value_passes, values_pass}
 use Rattle.clap.specs.Values.{refused_kind}
 use Rattle.clap.specs.ValueTests.{accepts}
 use Rattle.clap.specs.declared.builder.action.ArgAction.TheVariants.{Append, Set, SetTrue, Help}
-use Rattle.clap.specs.declared.builder.value_parser.ValueParser.{ValueParser}
 use Rattle.clap.specs.declared.parser.matches.ValueSource.{ValueSource}
 use Rattle.clap.specs.declared.parser.matches.ValueSource.TheVariants.{CommandLine}
 use Rattle.clap.specs.declared.builder.value_parser.Reading.{Reading}
 use Rattle.clap.specs.declared.error.kind.ErrorKind.{ErrorKind}
-use Rattle.clap.specs.declared.error.kind.ErrorKind.TheVariants.{InvalidValue, WrongNumberOfValues}
-use Rattle.clap.proofs.WalkLemmas.{both}
 
 -- ---- each element of a list
 

@@ -1,20 +1,12 @@
 -- How a run over a document ends, by the job that it was read with.
-use Rattle.std.proofs.Common.{◌≡◌, ℕ, true, List, ◌++◌, Option, Some, None, IfSome, refl, sym, subst, inl, ◌∙◌, arith}
+use Rattle.rdf_command.proofs.Prelude.{◌≡◌, ℕ, true, List, ◌++◌, Option, Some, None, IfSome, refl, sym, subst, inl, ◌∙◌, arith, AppendsFront, Written, Evidence, NearRead, StreamFault, Refused, Write, Task, Devices, ReportsStop, device, Does, HandsOver, RunEnds, SendsOn, StartsWith, StopsAction, TellsEvidence, accepted_text, ending, job_of, status_of, name_of}
 use Rattle.clap.specs.Words.{Text}
 use Rattle.rdf_driver.specs.declared.summary.Summary.{Summary}
 use Rattle.rdf_stream.specs.Checks.{IsAccepted}
-use Rattle.rdf_stream.specs.Devices.{AppendsFront, Reading, Written}
+use Rattle.rdf_stream.specs.Devices.{Reading}
 use Rattle.rdf_stream.specs.Jobs.{JobRead}
 use Rattle.rdf_stream.specs.Languages.{language_of}
-use Rattle.rdf_stream.specs.declared.explains.Evidence.{Evidence}
-use Rattle.rdf_stream.specs.Places.{NearRead}
-use Rattle.rdf_stream.specs.declared.fault.StreamFault.{StreamFault}
-use Rattle.rdf_stream.specs.declared.fault.StreamFault.TheVariants.{Refused, Read, Write, Memory}
-use Rattle.rdf_command.specs.declared.task.Task.{Task}
-use Rattle.rdf_command.specs.Reasons.{Devices, ReportsStop, device}
-use Rattle.rdf_command.specs.Runs.{Does, HandsOver, RunEnds, SendsOn, StartsWith, StopsAction, TellsEvidence, accepted_text, ending, job_of}
-use Rattle.rdf_command.specs.Statuses.{status_of}
-use Rattle.rdf_command.specs.Words.{name_of}
+use Rattle.rdf_stream.specs.declared.fault.StreamFault.TheVariants.{Read, Memory}
 
 pub some_status : (fault : StreamFault) → status_of fault ≡ 0 → ⊥
 some_status (Refused f) e = omega (arith, e)

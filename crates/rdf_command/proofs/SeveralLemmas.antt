@@ -1,20 +1,12 @@
 -- Documents that are checked in turn: what is left to do completes the whole.
-use Rattle.std.proofs.Common.{◌≡◌, ◌==◌, ◌||◌, ℕ, Bool, true, false, List, [], ◌∷◌, Option, None, arith, eqb-true, length, refl, sym, subst, ◌∙◌}
-use Rattle.std.proofs.lemmas.Bool.{false≢true, true≢false}
+use Rattle.rdf_command.proofs.Prelude.{◌≡◌, ◌==◌, ◌||◌, ℕ, Bool, true, false, List, [], ◌∷◌, Option, None, arith, eqb-true, length, refl, sym, subst, ◌∙◌, true≢false, Written, LoadFault, Bad, Form, Task, Outputs, EndsBy, OneEndsAt, SeveralEnd, Shut, Ending, FilesRead, ending, Either, EndsAt, EndsEach, EndsLeft, Shared, has_failed_output, status_after}
+use Rattle.std.proofs.lemmas.Bool.{false≢true}
 use Rattle.rdf_iri.specs.Limits.{Sizes}
-use Rattle.rdf_stream.specs.Devices.{Reading, Written}
+use Rattle.rdf_stream.specs.Devices.{Reading}
 use Rattle.rdf_stream.specs.Loads.{BindsNot, HasGivenAll, LoadStops, ReadsNot}
-use Rattle.rdf_stream.specs.declared.fault.LoadFault.{LoadFault}
-use Rattle.rdf_stream.specs.declared.fault.LoadFault.TheVariants.{Bad, Memory, Read}
-use Rattle.rdf_stream.specs.declared.form.Form.{Form}
+use Rattle.rdf_stream.specs.declared.fault.LoadFault.TheVariants.{Memory, Read}
 use Rattle.rdf_command.specs.declared.task.Document.{Document}
-use Rattle.rdf_command.specs.declared.task.Task.{Task}
-use Rattle.rdf_command.specs.Outputs.{Outputs}
 use Rattle.rdf_command.specs.Addresses.{Folders}
-use Rattle.rdf_command.specs.Programs.{EndsBy, OneEndsAt, SeveralEnd}
-use Rattle.rdf_command.specs.Reasons.{Shut}
-use Rattle.rdf_command.specs.Runs.{Ending, FilesRead, ending}
-use Rattle.rdf_command.specs.Several.{Either, EndsAt, EndsEach, EndsLeft, Shared, has_failed_output, status_after}
 
 module _ (has_document : Option (List ℕ) → Option (List ℕ) → Type 0) (shut : Shut) (shared : Shared) (whole : List (Form × List ℕ))
     (out_old err_old : Option (List ℕ)) where

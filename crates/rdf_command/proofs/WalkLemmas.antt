@@ -1,12 +1,7 @@
 -- Where clap finds no fault with a word, the rows that it holds pass after the word as before, and a subcommand that the word names is not `help`.
-use Rattle.std.proofs.Common.{◌≡◌, ◌&&◌, ℕ, Bool, zero, suc, true, false, not, true≢false, refl, ap, List, [], ◌∷◌, length, drop, Option, Some, None, is_some, fold, cond, bytes_eq, codes, chars, encode_utf8, slice_get, IfSome}
-use Rattle.std.specs.Option.{option_map_or}
+use Rattle.rdf_command.proofs.Prelude.{◌≡◌, ◌&&◌, ℕ, Bool, zero, suc, true, false, not, true≢false, refl, ap, List, [], ◌∷◌, length, drop, Option, Some, None, is_some, fold, cond, bytes_eq, codes, chars, encode_utf8, slice_get, IfSome, option_map_or, Held, Outcome, Step, Waiting, Walk, after_flag, after_step, arg_by_id, arg_by_index, arg_by_long, arg_by_short, attached_value, bundle, bundle_met, bundle_step, done, flag_met, idle, is_pending, long_met, long_or_other, next, option, option_met, option_word, plain, plain_word, positional, pushed, reacted, refused, settled, settled_rows, short_met, short_or_plain, subcommand, subcommand_met, subcommand_or_other, takes_several, takes_values, to_positional, trailing, used_by_id, value, waits, walked, walked_from, word_met, Shape, Kinds, or_else, bundle_fault, bundle_step_fault, flag_word_fault, flags_fault, long_fault, option_fault, other_fault, positional_fault, react_fault, settle_fault, short_fault, step_fault, turn_fault, use_fault, walk_fault, word_fault, DisplayHelp, InvalidSubcommand, TooManyValues}
 use Rattle.clap.specs.Lexer.{long_of, short_of}
-use Rattle.clap.specs.Walk.{Held, Names, Outcome, Rule, Step, Text, Waiting, Walk, after_flag, after_step, arg_by_id, arg_by_index, arg_by_long, arg_by_short, attached_value, bundle, bundle_met, bundle_step, done, flag_met, idle, is_pending, long_met, long_or_other, next, option, option_met, option_word, plain, plain_word, positional, pushed, reacted, refused, settled, settled_rows, short_met, short_or_plain, subcommand, subcommand_met, subcommand_or_other, takes_several, takes_values, to_positional, trailing, used_by_id, value, waits, walked, walked_from, word_met}
-use Rattle.clap.specs.Simple.{Shape}
-use Rattle.clap.specs.Kinds.{Kinds, or_else}
-use Rattle.clap.specs.Faults.{bundle_fault, bundle_step_fault, flag_word_fault, flags_fault, long_fault, option_fault, other_fault, positional_fault, react_fault, settle_fault, short_fault, step_fault, turn_fault, use_fault, walk_fault, word_fault}
-use Rattle.clap.specs.declared.error.kind.ErrorKind.TheVariants.{DisplayHelp, InvalidSubcommand, TooManyValues}
+use Rattle.clap.specs.Walk.{Names, Rule, Text}
 use Rattle.rdf_command.proofs.RowLemmas.{Each, IsRead, RowsPass, found_holds, no_kind, some_kind, used-passes}
 
 -- ---- one use

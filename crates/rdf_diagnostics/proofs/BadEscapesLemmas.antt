@@ -1,16 +1,7 @@
 -- In a token with a bad escape the walk stops at the first.
-use Rattle.std.proofs.Common.{◌≡◌, ℕ, zero, suc, ◌+◌, ◌-◌, ◌*◌, ◌<◌, Bool, true, false, cond, List, [], ◌∷◌, ◌++◌, ◌==◌, ◌⊎◌, inl, inr, Option, Some, None, is_some, option_map, refl, sym, ap, ◌∙◌, subst, ⊎_elim, append_assoc, arith, length, take, drop, get_or, length-append, encode_utf8, encode_utf8_all, codes}
-use Rattle.std.proofs.lemmas.Bool.{and_parts, and_from, or_cases, cond-true, cond-false, false≢true, eqb-true, ne_eqb}
-use Rattle.std.proofs.lemmas.List.{append-nil, take_at, drop_at, get_or-drop, take-append-drop}
-use Rattle.std.proofs.lemmas.Str.{length-encode, encodes-append}
-use Rattle.std.specs.Char.{len_utf8}
-use Rattle.std.specs.Option.{MatchOption, unwrap_or}
-use Rattle.std.specs.Str.{chars, IsUtf8}
-use Rattle.std.specs.Str.Iter.{chars_rest}
+use Rattle.rdf_diagnostics.proofs.Prelude.{◌≡◌, ℕ, zero, suc, ◌+◌, ◌-◌, ◌*◌, ◌<◌, Bool, true, false, cond, List, [], ◌∷◌, ◌++◌, ◌==◌, ◌⊎◌, inl, inr, Option, Some, None, is_some, option_map, refl, sym, ap, ◌∙◌, subst, ⊎_elim, append_assoc, arith, length, take, drop, get_or, length-append, encode_utf8, encode_utf8_all, codes, and_parts, and_from, or_cases, cond-true, cond-false, false≢true, eqb-true, ne_eqb, append-nil, take_at, drop_at, get_or-drop, take-append-drop, length-encode, encodes-append, len_utf8, MatchOption, unwrap_or, chars, IsUtf8, chars_rest, Dialect, Lines, Turtle, Inside, EscapeState, outside, slash, digits, Move, leads, means, fails, allowed, digit_move, hex_value, move, go, value, is_fit, inside_of, stop_by, stop_from, ends_of, inside_by, HasBadEscape, IsBadEscape}
 use Rattle.std.specs.declared.str.Chars.{Chars}
 use Rattle.std.specs.List.{concat, AllByRecursion}
-use Rattle.rdf_terms.specs.declared.kind.Dialect.{Dialect}
-use Rattle.rdf_terms.specs.declared.kind.Dialect.TheVariants.{Lines, Turtle}
 use Rattle.rdf_terms.specs.declared.kind.Kind.{Kind}
 use Rattle.rdf_terms.specs.declared.kind.Kind.TheVariants.{IriRef, ShortString, LongString}
 use Rattle.rdf_terms.specs.Classes.{Class, has, scalar, one_of}
@@ -19,12 +10,9 @@ use Rattle.rdf_terms.specs.Terms.{all_have}
 use Rattle.rdf_terms.specs.Regex.{Regex, Matches}
 use Rattle.rdf_terms.specs.Regex.Regex.{empty, one, ◌·◌, ◌∣◌, many}
 use Rattle.rdf_terms.specs.Shapes.{Shape, shape, hex, uchar, echar, optional}
-use Rattle.rdf_terms.specs.Pieces.{Inside, of_string, of_iri, inside, IsPiece, Means}
-use Rattle.rdf_terms.specs.Values.{EscapeState, outside, slash, digits, Move, leads, means, fails, allowed, digit_move, hex_value, move, go, value, is_fit}
+use Rattle.rdf_terms.specs.Pieces.{of_string, of_iri, inside, IsPiece, Means}
 use Rattle.rdf_terms.proofs.CharsLemmas.{next_char, no_chars}
 use Rattle.rdf_terms.proofs.PiecesLemmas.{string_means, iri_means}
-use Rattle.rdf_diagnostics.specs.EscapeWalks.{inside_of, stop_by, stop_from}
-use Rattle.rdf_diagnostics.specs.BadEscapes.{ends_of, inside_by, HasBadEscape, IsBadEscape}
 use Rattle.rdf_tokens.specs.Laws.{IsLongest, IsUnfit}
 
 -- a value that is there is another one

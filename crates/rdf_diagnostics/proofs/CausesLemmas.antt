@@ -1,8 +1,6 @@
 -- Rows without a cause.
-use Rattle.std.proofs.Common.{◌≡◌, ◌∙◌, ℕ, ◌+◌, ◌<◌, false, List, ◌∷◌, Option, Some, None, ap, drop, get_or, is_some, length, refl, sym}
-use Rattle.std.proofs.lemmas.List.{drop_more}
+use Rattle.rdf_diagnostics.proofs.Prelude.{◌≡◌, ◌∙◌, ℕ, ◌+◌, ◌<◌, false, List, ◌∷◌, Option, Some, None, ap, drop, get_or, is_some, length, refl, sym, drop_more, first}
 use Rattle.rdf_diagnostics.specs.declared.causes.Cause.{Cause}
-use Rattle.rdf_diagnostics.specs.Causes.{first}
 
 -- the first cause is not in such a row
 pub first_after : (row : Option Cause) (rows : List (Option Cause)) → false ≡ is_some row → first (row ∷ rows) ≡ first rows

@@ -1,14 +1,10 @@
 -- A walk over the characters of a text, step by step.
-use Rattle.std.proofs.Common.{◌≡◌, ℕ, zero, suc, ◌+◌, ◌-◌, ◌*◌, ◌<◌, ◌≤◌, true, List, ◌∷◌, Option, Some, refl, sym, ap, ◌∙◌, subst, arith}
-use Rattle.std.proofs.lemmas.Bool.{cond-true}
-use Rattle.std.specs.Char.{len_utf8}
+use Rattle.rdf_diagnostics.proofs.Prelude.{◌≡◌, ℕ, zero, suc, ◌+◌, ◌-◌, ◌*◌, ◌<◌, ◌≤◌, true, List, ◌∷◌, Option, Some, refl, sym, ap, ◌∙◌, subst, arith, cond-true, len_utf8, Inside, EscapeState, outside, slash, digits, Move, leads, means, fails, digit_move, hex_value, move, begun_at, stop_by, stop_from, stand_of, stand_for, step_for, room}
 use Rattle.std.specs.Prelude.{SomeIff, IfSome}
 use Rattle.rdf_terms.specs.Classes.{has}
 use Rattle.rdf_terms.specs.Classes.Class.{hex_digit}
-use Rattle.rdf_terms.specs.Values.{Inside, EscapeState, outside, slash, digits, Move, leads, means, fails, digit_move, hex_value, move}
 use Rattle.rdf_diagnostics.specs.declared.bad_escape.Stand.{Stand}
 use Rattle.rdf_diagnostics.specs.declared.bad_escape.Step.TheVariants.{Leads, Means, Fails}
-use Rattle.rdf_diagnostics.specs.EscapeWalks.{begun_at, stop_by, stop_from, stand_of, stand_for, step_for, room}
 
 -- each digit takes a part of the room
 pub room_next : (k n v : ℕ) → 0 < k → n < room k → v < 16 → 16 * n + v < room (k - 1)

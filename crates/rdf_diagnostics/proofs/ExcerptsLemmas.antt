@@ -1,7 +1,5 @@
 -- The bytes of some characters, and of one more.
-use Rattle.std.proofs.Common.{◌≡◌, ◌∙◌, ℕ, ◌+◌, ◌<◌, List, [], ◌∷◌, ◌++◌, ap, append_assoc, encode_utf8, encode_utf8_all, get_or, length, sym, take}
-use Rattle.std.proofs.lemmas.List.{append-nil, take_more}
-use Rattle.std.proofs.lemmas.Str.{encodes-append}
+use Rattle.rdf_diagnostics.proofs.Prelude.{◌≡◌, ◌∙◌, ℕ, ◌+◌, ◌<◌, List, [], ◌∷◌, ◌++◌, ap, append_assoc, encode_utf8, encode_utf8_all, get_or, length, sym, take, append-nil, take_more, encodes-append}
 
 -- a text that has the characters before a place, and then the one at that place
 pub put_one : (old text more : List ℕ) (cs : List ℕ) (i c : ℕ) → i < length cs → c ≡ get_or cs i c

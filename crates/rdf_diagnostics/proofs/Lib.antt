@@ -1,3 +1,4 @@
+mod Prelude
 mod ExcerptsLemmas
 mod SignsLemmas
 mod CausesLemmas

@@ -1,32 +1,21 @@
 -- What the bytes from a place on begin with, and what more of them can change.
 use Prim.Native.Char.{code}
-use Rattle.std.proofs.Common.{Some, None, Ok, Err, ◌≡◌, ◌≢◌, ℕ, ◌+◌, ◌≤◌, Bool, true, false, List, [], ◌∷◌, ◌++◌, refl, sym, ap, ◌∙◌, subst, length, take, drop, arith, ⊎_elim, encode_utf8_all, cond, is_some, ◌==◌}
-use Rattle.std.proofs.lemmas.List.{append-nil, take-append-drop, take-take, take_all, drop-take, length-take, length-take-le}
-use Rattle.std.proofs.lemmas.Bool.{cases_lt}
-use Rattle.std.proofs.lemmas.Str.{IsUtf8-nil, IsUtf8-take, IsCharBoundary-from_take, chars-encodes, encode_ascii, utf8_valid_len_le, utf8_valid_len-IsUtf8}
-use Rattle.std.specs.Str.{IsUtf8, IsCharBoundary, chars}
+use Rattle.rdf_diagnostics.proofs.Prelude.{Some, None, Ok, Err, ◌≡◌, ◌≢◌, ℕ, ◌+◌, ◌≤◌, Bool, true, false, List, [], ◌∷◌, ◌++◌, refl, sym, ap, ◌∙◌, subst, length, take, drop, arith, ⊎_elim, encode_utf8_all, cond, is_some, ◌==◌, append-nil, take-append-drop, take-take, take_all, drop-take, length-take, length-take-le, cases_lt, IsUtf8-nil, IsUtf8-take, IsCharBoundary-from_take, chars-encodes, encode_ascii, utf8_valid_len_le, utf8_valid_len-IsUtf8, IsUtf8, IsCharBoundary, chars, Dialect, Lines, Turtle, Outcome, Reading, Place, rest_of, step, undecided, complete, token_too_long, bad_utf8, no_token, bad_escape, first_place, tokens_at, tokens_of, HasScanned, IsWaiting, SameScan, TakesBytes, Gives, Stops, StopsFor, token_of, Open, First, Nothing, Unfit, Other, reading_from, HasNone, IsOpen, IsLongestOpen, IsOther, IsSeen, IsSeenOf, seen_for, Sees, SeesEnd, SeesPart, HasTaken}
 use Rattle.std.specs.Str.Lossy.{utf8_valid_len, utf8_error_len}
-use Rattle.rdf_terms.specs.declared.kind.Dialect.{Dialect}
-use Rattle.rdf_terms.specs.declared.kind.Dialect.TheVariants.{Lines, Turtle}
 use Rattle.rdf_terms.specs.declared.reason.Reason.{Reason}
 use Rattle.rdf_terms.specs.declared.reason.Reason.TheVariants.{BadUtf8, NoToken, BadEscape, TokenTooLong, Ended}
 use Rattle.rdf_tokens.specs.declared.token.Token.{Token as Given}
 use Rattle.rdf_tokens.specs.declared.token.Fault.{Fault}
-use Rattle.rdf_tokens.specs.Tokens.{Outcome, Token as Read, Reading, Place, rest_of, step}
+use Rattle.rdf_tokens.specs.Tokens.{Token as Read}
 use Rattle.rdf_tokens.specs.Tokens.Step.{stop}
 use Rattle.rdf_tokens.specs.Tokens.Tail.{goes_on, broken}
-use Rattle.rdf_tokens.specs.Tokens.Outcome.{undecided, complete, token_too_long, bad_utf8, no_token, bad_escape}
-use Rattle.rdf_tokens.specs.Good.{first_place, tokens_at, tokens_of}
 use Rattle.rdf_tokens.specs.Unread.{Unread}
-use Rattle.rdf_tokens.specs.Scans.{HasScanned, IsWaiting, SameScan, TakesBytes, Gives, Stops, StopsFor, token_of, place_of}
+use Rattle.rdf_tokens.specs.Scans.{place_of}
 use Rattle.rdf_tokens.proofs.LawLemmas.{lengthens, next_given}
 use Rattle.rdf_tokens.proofs.NextLemmas.{open_step}
 use Rattle.rdf_tokens.proofs.TokensLemmas.{at_stop}
 use Rattle.rdf_tokens.proofs.GoodLemmas.{at_least, good_front}
 use Rattle.rdf_diagnostics.specs.declared.sight.Seen.{Seen}
-use Rattle.rdf_diagnostics.specs.declared.sight.Seen.TheVariants.{Open, First, Nothing, Unfit, Other}
-use Rattle.rdf_diagnostics.specs.Sights.{reading_from, HasNone, IsOpen, IsLongestOpen}
-use Rattle.rdf_diagnostics.specs.SightRuns.{IsOther, IsSeen, IsSeenOf, seen_for, Sees, SeesEnd, SeesPart, HasTaken}
 
 -- Bytes that leave a token open do so too where fewer have come.
 pub shorter : (d : Dialect) (limit : ℕ) (front more : List ℕ) → HasNone (reading_from d limit (front ++ more) false) undecided →

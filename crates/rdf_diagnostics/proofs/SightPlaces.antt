@@ -1,29 +1,16 @@
 -- Where the first token stands of the bytes from a place on, by the byte that a scanner tells that has taken a space before them.
 use Prim.Native.Char.{code}
-use Rattle.std.proofs.Common.{◌≡◌, ℕ, zero, suc, ◌-◌, ◌≤◌, Bool, true, false, List, [], ◌∷◌, ◌++◌, Option, refl, sym, ap, ◌∙◌, subst, length, take, drop, arith, length-append, encode_utf8}
-use Rattle.std.proofs.lemmas.Bool.{and_parts}
-use Rattle.std.proofs.lemmas.List.{drop_at, length-take-le, take-append-drop}
-use Rattle.std.proofs.lemmas.Str.{IsUtf8-append, IsUtf8-past_char, IsCharBoundary-at_seam, chars-append, chars-encodes, encode_ascii, encodes-append, encodes-chars, scalars-chars, utf8_valid_len_le}
+use Rattle.rdf_diagnostics.proofs.Prelude.{◌≡◌, ℕ, zero, suc, ◌-◌, ◌≤◌, Bool, true, false, List, [], ◌∷◌, ◌++◌, Option, refl, sym, ap, ◌∙◌, subst, length, take, drop, arith, length-append, encode_utf8, and_parts, drop_at, length-take-le, take-append-drop, IsUtf8-append, IsUtf8-past_char, IsCharBoundary-at_seam, chars-append, chars-encodes, encode_ascii, encodes-append, encodes-chars, scalars-chars, utf8_valid_len_le, MatchOption, IsUtf8, IsCharBoundary, chars, Dialect, Lines, Turtle, Reading, Step, Tail, blank, rest_of, step, tokens, past, bad_escape, first_place, good, mark, tail_of, tokens_of, Unfit, HasBadEscape, reading_from, IsSeen, StandsFrom}
 use Rattle.std.proofs.Math.Utf8.{encodes, scalars, scalar}
-use Rattle.std.specs.Option.{MatchOption}
-use Rattle.std.specs.Str.{IsUtf8, IsCharBoundary, chars}
 use Rattle.std.specs.Str.Lossy.{utf8_valid_len}
-use Rattle.rdf_terms.specs.declared.kind.Dialect.{Dialect}
-use Rattle.rdf_terms.specs.declared.kind.Dialect.TheVariants.{Lines, Turtle}
-use Rattle.rdf_tokens.specs.Tokens.{Reading, Step, Tail, blank, place_of, rest_of, step, tokens, past}
+use Rattle.rdf_tokens.specs.Tokens.{place_of}
 use Rattle.rdf_tokens.specs.Tokens.Step.{stop, token}
-use Rattle.rdf_tokens.specs.Tokens.Outcome.{bad_escape}
-use Rattle.rdf_tokens.specs.Good.{first_place, good, mark, tail_of, tokens_of}
 use Rattle.rdf_tokens.specs.Laws.{IsUnfit, EndsFor}
 use Rattle.rdf_tokens.proofs.GoodLemmas.{at_least, good_front}
 use Rattle.rdf_tokens.proofs.LawLemmas.{tokens_of-tokens}
 use Rattle.rdf_tokens.proofs.OutcomeLemmas.{reasons}
 use Rattle.rdf_tokens.proofs.PlaceLemmas.{past-encodes}
 use Rattle.rdf_tokens.proofs.TokensLemmas.{at_stop, at_token}
-use Rattle.rdf_diagnostics.specs.declared.sight.Seen.TheVariants.{Unfit}
-use Rattle.rdf_diagnostics.specs.BadEscapes.{HasBadEscape}
-use Rattle.rdf_diagnostics.specs.Sights.{reading_from}
-use Rattle.rdf_diagnostics.specs.SightRuns.{IsSeen, StandsFrom}
 use Rattle.rdf_diagnostics.proofs.SightLemmas.{space_utf8, space_chars}
 
 -- with a space before them one byte more is good

@@ -1,7 +1,5 @@
 -- Bytes without an escape of a surrogate.
-use Rattle.std.proofs.Common.{◌≡◌, ◌∙◌, ◌||◌, ℕ, ◌+◌, ◌-◌, ◌<◌, false, List, ◌∷◌, ap, drop, get_or, length, sym, take}
-use Rattle.std.proofs.lemmas.List.{drop_more, take_rest}
-use Rattle.rdf_diagnostics.specs.Signs.{has_surrogate, is_surrogate}
+use Rattle.rdf_diagnostics.proofs.Prelude.{◌≡◌, ◌∙◌, ◌||◌, ℕ, ◌+◌, ◌-◌, ◌<◌, false, List, ◌∷◌, ap, drop, get_or, length, sym, take, drop_more, take_rest, has_surrogate, is_surrogate}
 
 -- where none begins at a place, one that begins from there on begins after it
 pub pass_surrogate : (bytes : List ℕ) (i : ℕ) → i < length bytes → is_surrogate (take (length bytes - i) (drop i bytes)) ≡ false

@@ -1,10 +1,6 @@
 -- A token that stands at a place of some bytes does so in more.
-use Rattle.std.proofs.Common.{ℕ, Bool, false, List, ◌++◌, Option, ap, ◌∙◌, append_assoc}
-use Rattle.rdf_terms.specs.declared.kind.Kind.{Kind}
-use Rattle.rdf_tokens.specs.Tokens.{Place, Token}
-use Rattle.rdf_tokens.specs.Grammars.{LanguageOf, reading_of}
+use Rattle.rdf_driver.proofs.Prelude.{ℕ, Bool, false, List, ◌++◌, Option, ap, ◌∙◌, append_assoc, Kind, Place, Token, LanguageOf, reading_of, StandsAt}
 use Rattle.rdf_tokens.proofs.LawLemmas.{lengthens}
-use Rattle.rdf_driver.specs.Readers.{StandsAt}
 
 -- what the bytes decide is not changed by more
 pub stands_more : {I : Type 0} (l : LanguageOf I) (bytes more : List ℕ) (e : Bool) (ahead : List Token) (at : Place) (found : Option Kind) →

@@ -1,19 +1,10 @@
 -- Bytes that a reader passes are read.
-use Rattle.std.proofs.Common.{◌≡◌, ◌&&◌, ℕ, ◌+◌, ◌*◌, ◌≤◌, Bool, true, false, not, nat_le, List, ◌++◌, length, refl, sym, ap, ◌∙◌, subst, arith, length-append}
-use Rattle.std.proofs.Math.Bridge.{le_prop}
-use Rattle.std.proofs.Math.Logic.{∥∥₁_elim, ∥∥₁_prop}
-use Rattle.std.proofs.lemmas.Bool.{and_parts, leb-true}
+use Rattle.rdf_driver.proofs.Prelude.{◌≡◌, ◌&&◌, ℕ, ◌+◌, ◌*◌, ◌≤◌, Bool, true, false, not, nat_le, List, ◌++◌, length, refl, sym, ap, ◌∙◌, subst, arith, length-append, le_prop, ∥∥₁_elim, ∥∥₁_prop, and_parts, leb-true, tokens_of, IsWaiting, most_bytes, counted_undecided, given_few, Summary, Words, Lawful, Driven, HasRead, IsLive}
 use Rattle.std.specs.Str.{chars}
-use Rattle.rdf_tokens.specs.Good.{tokens_of}
 use Rattle.rdf_tokens.specs.Scans as Scan
-use Rattle.rdf_tokens.specs.Scans.{IsWaiting, most_bytes}
 use Rattle.rdf_tokens.specs.Passing as Pass
 use Rattle.rdf_tokens.specs.Passing.{is_idle, Spells}
-use Rattle.rdf_tokens.proofs.GrammarsLemmas.{counted_undecided, given_few}
 use Rattle.rdf_tokens.proofs.PassingLemmas.{passed_read, idle_decides}
-use Rattle.rdf_driver.specs.declared.summary.Summary.{Summary}
-use Rattle.rdf_driver.specs.Words.{Words, Lawful}
-use Rattle.rdf_driver.specs.Readers.{Driven, HasRead, IsLive}
 use Rattle.rdf_driver.specs.Passing.{can_pass, passed, LeadsBack}
 
 -- Counts are the same where their numbers are.

@@ -1,13 +1,5 @@
 -- A base that has grown, by its characters.
-use Rattle.std.proofs.Common.{◌≡◌, ℕ, true, false, List, ◌++◌, Some, sym, ap, ◌∙◌, subst}
-use Rattle.std.specs.Prelude.{MatchOption}
-use Rattle.std.specs.Str.{IsUtf8, chars, encode_utf8_all}
-use Rattle.std.proofs.lemmas.Str.{encodes-chars, encodes-append, chars-append}
-use Rattle.rdf_terms.specs.Terms.{has_scheme}
-use Rattle.rdf_iri.specs.Texts.{Lacks}
-use Rattle.rdf_iri.specs.Parts.{parts_of}
-use Rattle.rdf_iri.specs.Resolve.{Resolves}
-use Rattle.rdf_iri.specs.Directory.{EndsInSlash, HasDirectory, HasPath, GrowsBy}
+use Rattle.rdf_iri.proofs.Prelude.{◌≡◌, ℕ, true, false, List, ◌++◌, Some, sym, ap, ◌∙◌, subst, MatchOption, IsUtf8, chars, encode_utf8_all, encodes-chars, encodes-append, chars-append, has_scheme, Lacks, parts_of, Resolves, EndsInSlash, HasDirectory, HasPath, GrowsBy}
 use Rattle.rdf_iri.proofs.PartsLemmas.{parts_split}
 use Rattle.rdf_iri.proofs.Slices.{has_scheme-chars}
 use Rattle.rdf_iri.proofs.ResolvedText.{chars-target, Resolves-target, target_text}

@@ -1,16 +1,5 @@
 -- Lines that say something, and a file whose second line is no binding: it fails there, and by the law no entries are what it says.
-use Rattle.std.proofs.Common.{◌≡◌, ℕ, suc, List, [], ◌∷◌, length, None, inl, inr, refl, sym, ap, ◌∙◌, ◌++◌, subst, ⊎_elim, arith}
-use Rattle.std.specs.Prelude.{codes}
-use Rattle.std.specs.Str.{chars}
-use Rattle.std.proofs.lemmas.List.{length-append}
-use Rattle.std.proofs.lemmas.Str.{IsUtf8-nil, chars-nil}
-use Rattle.rdf_terms.specs.Terms.{all_have}
-use Rattle.rdf_iri.specs.Cuts.{past}
-use Rattle.rdf_iri.specs.declared.fault.BindingReason.TheVariants.{BadBinding}
-use Rattle.rdf_iri.specs.Limits.{Sizes}
-use Rattle.rdf_iri.specs.Texts.{BeginsWith}
-use Rattle.rdf_iri.specs.BindingLines.{is_blank, IsBinding, IsPrefixId, IsSparqlPrefix, SaysNothing}
-use Rattle.rdf_iri.specs.Bindings.{byte_order_mark, Entry, TextSays, Says, IsFile, FailsAt}
+use Rattle.rdf_iri.proofs.Prelude.{◌≡◌, ℕ, suc, List, [], ◌∷◌, length, None, inl, inr, refl, sym, ap, ◌∙◌, ◌++◌, subst, ⊎_elim, arith, codes, chars, length-append, IsUtf8-nil, chars-nil, all_have, past, BadBinding, Sizes, BeginsWith, is_blank, IsBinding, IsPrefixId, IsSparqlPrefix, SaysNothing, byte_order_mark, Entry, TextSays, Says, IsFile, FailsAt}
 use Rattle.rdf_iri.proofs.BindingLineLemmas.{keyword_from, nothing_there, no_binding, no_declaration_at}
 use Rattle.rdf_iri.proofs.BindingLemmas.{no_plain_without_space, cr_kept}
 use Rattle.rdf_iri.proofs.BindingSteps.{none_said}

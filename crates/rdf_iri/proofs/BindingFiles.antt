@@ -1,18 +1,7 @@
 -- A file of bindings, read line by line.
-use Rattle.std.proofs.Common.{◌≡◌, ℕ, suc, ◌+◌, ◌<◌, ◌≤◌, true, false, cond, List, [], ◌∷◌, ◌++◌, ◌==◌, length, Option, Some, None, refl, sym, ap, ◌∙◌, subst, ⊎_elim, arith}
-use Rattle.std.specs.Prelude.{is_some}
-use Rattle.std.specs.List.{AllByRecursion}
-use Rattle.std.proofs.lemmas.Bool.{cases_Bool, cond-true, cond-false, eqb-true, eqb-false}
-use Rattle.std.proofs.lemmas.List.{length-append, append-nil}
-use Rattle.rdf_terms.specs.Terms.{IsIri}
+use Rattle.rdf_iri.proofs.Prelude.{◌≡◌, ℕ, suc, ◌+◌, ◌<◌, ◌≤◌, true, false, cond, List, [], ◌∷◌, ◌++◌, ◌==◌, length, Option, Some, None, refl, sym, ap, ◌∙◌, subst, ⊎_elim, arith, is_some, AllByRecursion, cases_Bool, cond-true, cond-false, eqb-true, eqb-false, length-append, append-nil, IsIri, BadBinding, TokenTooLong, Sizes, suffix, Lacks, before, after, equal, byte_len, InForce, bound_to, MarkDropped, with_feeds, IsCut, CrDropped, Entry, EntryFits, AllFit, bindings_of, BindingMap, SameMap, TextSays, Says, AllSay, IsReadFrom, FailsFor, FailsAt, IsRefused, Enters, TakesLine, StopsAt}
 use Rattle.rdf_iri.specs.declared.fault.BindingReason.{BindingReason}
-use Rattle.rdf_iri.specs.declared.fault.BindingReason.TheVariants.{BadBinding, TokenTooLong, IriTooLong, TooManyBindings, Memory}
-use Rattle.rdf_iri.specs.Limits.{Sizes}
-use Rattle.rdf_iri.specs.Parts.{suffix}
-use Rattle.rdf_iri.specs.Texts.{Lacks, before, after, equal, byte_len}
-use Rattle.rdf_iri.specs.Scope.{InForce, bound_to}
-use Rattle.rdf_iri.specs.Bindings.{MarkDropped, with_feeds, IsCut, CrDropped, Entry, EntryFits, AllFit, bindings_of, BindingMap, SameMap, TextSays, Says, AllSay, IsReadFrom, FailsFor, FailsAt, IsRefused}
-use Rattle.rdf_iri.specs.BindingSteps.{Enters, TakesLine, StopsAt}
+use Rattle.rdf_iri.specs.declared.fault.BindingReason.TheVariants.{IriTooLong, TooManyBindings, Memory}
 use Rattle.rdf_iri.proofs.TextsLemmas.{cut_whole, before-lacks}
 use Rattle.rdf_iri.proofs.BindingSteps.{more, adds, adds_nothing}
 

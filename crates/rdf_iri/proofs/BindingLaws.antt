@@ -1,13 +1,7 @@
 -- A file of bindings says one thing, so what fails is none.
-use Rattle.std.proofs.Common.{◌≡◌, ℕ, ◌≤◌, List, [], ◌∷◌, ◌++◌, length, Option, Some, None, refl, sym, ap, ◌∙◌, subst, ⊎_elim, arith, append_assoc}
-use Rattle.std.specs.List.{AllByRecursion}
-use Rattle.std.proofs.lemmas.List.{append_cancel_left, append-nil}
+use Rattle.rdf_iri.proofs.Prelude.{◌≡◌, ℕ, ◌≤◌, List, [], ◌∷◌, ◌++◌, length, Option, Some, None, refl, sym, ap, ◌∙◌, subst, ⊎_elim, arith, append_assoc, AllByRecursion, append_cancel_left, append-nil, BadBinding, TokenTooLong, Sizes, suffix, Lacks, before, after, byte_order_mark, MarkDropped, with_feeds, IsCut, LinesOf, Entry, EntryFits, bindings_of, TextSays, Says, AllSay, FailsFor}
 use Rattle.rdf_iri.specs.declared.fault.BindingReason.{BindingReason}
-use Rattle.rdf_iri.specs.declared.fault.BindingReason.TheVariants.{BadBinding, TokenTooLong, IriTooLong, TooManyBindings, Memory}
-use Rattle.rdf_iri.specs.Limits.{Sizes}
-use Rattle.rdf_iri.specs.Parts.{suffix}
-use Rattle.rdf_iri.specs.Texts.{Lacks, before, after}
-use Rattle.rdf_iri.specs.Bindings.{byte_order_mark, MarkDropped, with_feeds, IsCut, LinesOf, Entry, EntryFits, bindings_of, TextSays, Says, AllSay, FailsFor}
+use Rattle.rdf_iri.specs.declared.fault.BindingReason.TheVariants.{IriTooLong, TooManyBindings, Memory}
 use Rattle.rdf_iri.specs.BindingLaws.{FailingFilesAreNone}
 use Rattle.rdf_iri.proofs.TextsLemmas.{cut_suffix}
 use Rattle.rdf_iri.proofs.BindingLineLemmas.{one_binding, no_quiet_binding}

@@ -1,25 +1,8 @@
 -- The texts of bindings, as bytes and as characters: what is cut at ASCII is cut alike in both.
-use Rattle.std.proofs.Common.{◌≡◌, ℕ, zero, suc, ◌+◌, ◌<◌, ◌≤◌, Bool, true, false, List, [], ◌∷◌, ◌++◌, ◌==◌, ◌↔◌, length, take, drop, get_or, Option, Some, None, option_map, inl, inr, refl, sym, ap, ◌∙◌, subst, ⊎_elim, append_assoc, arith}
-use Rattle.std.specs.Prelude.{not, nat_lt, MatchOption}
-use Rattle.std.specs.Str.{chars, IsUtf8, IsCharBoundary, encode_utf8_all}
-use Rattle.std.proofs.Math.ListN.{drop_of_length-le}
-use Rattle.std.proofs.Math.Seq.{drop-cons, take-append_seam}
-use Rattle.std.proofs.lemmas.Bool.{cases_Bool, cond-true, cond-false, and_parts, and_from, cases_lt, false≢true, lt-ltb, ltb-true}
-use Rattle.std.proofs.lemmas.Str.{encodes-append, chars-append, encodes-chars, chars-encodes, scalars-chars, chars_from_encodes, IsCharBoundary-from_drop, IsCharBoundary-at_seam}
-use Rattle.std.proofs.lemmas.List.{length-append, length-take-le, take-append-drop, take_all}
-use lib.Utf8.{scalar, scalars}
-use Rattle.rdf_terms.specs.declared.kind.Dialect.TheVariants.{Turtle}
-use Rattle.rdf_terms.specs.declared.kind.Kind.TheVariants.{PnameNs, Prefix}
+use Rattle.rdf_iri.proofs.Prelude.{◌≡◌, ℕ, zero, suc, ◌+◌, ◌<◌, ◌≤◌, Bool, true, false, List, [], ◌∷◌, ◌++◌, ◌==◌, ◌↔◌, length, take, drop, get_or, Option, Some, None, option_map, inl, inr, refl, sym, ap, ◌∙◌, subst, ⊎_elim, append_assoc, arith, not, nat_lt, MatchOption, chars, IsUtf8, IsCharBoundary, encode_utf8_all, drop_of_length-le, drop-cons, take-append_seam, cases_Bool, cond-true, cond-false, and_parts, and_from, cases_lt, false≢true, lt-ltb, ltb-true, encodes-append, chars-append, encodes-chars, chars-encodes, scalars-chars, chars_from_encodes, IsCharBoundary-from_drop, IsCharBoundary-at_seam, length-append, length-take-le, take-append-drop, take_all, scalars, Turtle, PnameNs, Prefix, IsIri, all_have, before_last, past, Lacks, before, after, from, suffix, CrDropped, is_blank, AreBlanks, BeginsBlank, IsPlain, IsComment, NameThen, IriThen, IsIn}
+use lib.Utf8.{scalar}
 use Rattle.rdf_terms.specs.Terminals.{Shape}
-use Rattle.rdf_terms.specs.Terms.{IsIri, all_have}
-use Rattle.rdf_terms.proofs.CharsLemmas.{before_last}
 use Rattle.rdf_terms.proofs.NamesLemmas.{utf8_colon, chars_colon}
-use Rattle.rdf_iri.specs.Cuts.{past}
-use Rattle.rdf_iri.specs.Texts.{Lacks, before, after, from}
-use Rattle.rdf_iri.specs.Parts.{suffix}
-use Rattle.rdf_iri.specs.Bindings.{CrDropped}
-use Rattle.rdf_iri.specs.BindingLines.{is_blank, AreBlanks, BeginsBlank, IsPlain}
-use Rattle.rdf_iri.specs.BindingSteps.{IsComment, NameThen, IriThen, IsIn}
 use Rattle.rdf_iri.proofs.TextsLemmas.{cut_suffix, cut_whole}
 use Rattle.rdf_iri.proofs.CutPlaces.{Lacks-from_places}
 use Rattle.rdf_iri.proofs.Encoded.{before-bytes, after-bytes, bytes-lacks, bytes-cons, are_ascii, ahead, after_front}

@@ -1,25 +1,10 @@
 -- The lines of a file of bindings: where their parts stand, and that a line says one thing.
-use Rattle.std.proofs.Common.{◌≡◌, ℕ, suc, ◌+◌, ◌<◌, true, false, cond, List, [], ◌∷◌, ◌++◌, ◌==◌, ◌||◌, ◌⊎◌, length, drop, Some, inl, inr, refl, sym, ap, ◌∙◌, subst, ⊎_elim, append_assoc, arith}
-use Rattle.std.specs.Prelude.{codes, map, nat_lt, ⊤}
-use Rattle.std.specs.Char.{to_ascii_lowercase}
-use Rattle.std.specs.List.{AllByRecursion}
-use Rattle.std.specs.Str.{chars, IsUtf8}
-use Rattle.std.proofs.Math.Seq.{drop-append_seam}
-use Rattle.std.proofs.lemmas.Bool.{cases_Bool, cond-true, cond-false, and_parts, and_from, or_cases, eqb-true, ne_eqb, lt-ltb, false≢true}
-use Rattle.std.proofs.lemmas.List.{append-nil, append_cancel_left, append_cancel_right}
-use Rattle.rdf_terms.specs.declared.kind.Dialect.TheVariants.{Turtle}
-use Rattle.rdf_terms.specs.declared.kind.Kind.TheVariants.{PnameNs, Prefix}
-use Rattle.rdf_terms.specs.Classes.{has, scalar}
-use Rattle.rdf_terms.specs.Classes.Class.{the, iri_char}
+use Rattle.rdf_iri.proofs.Prelude.{◌≡◌, ℕ, suc, ◌+◌, ◌<◌, true, false, cond, List, [], ◌∷◌, ◌++◌, ◌==◌, ◌||◌, ◌⊎◌, length, drop, Some, inl, inr, refl, sym, ap, ◌∙◌, subst, ⊎_elim, append_assoc, arith, codes, map, nat_lt, ⊤, to_ascii_lowercase, AllByRecursion, chars, IsUtf8, drop-append_seam, cases_Bool, cond-true, cond-false, and_parts, and_from, or_cases, eqb-true, ne_eqb, lt-ltb, false≢true, append-nil, append_cancel_left, append_cancel_right, Turtle, PnameNs, Prefix, has, the, iri_char, IsIri, all_have, past, Lacks, before, after, is_blank, AreBlanks, Begins, BeginsBlank, SaysNothing, IsPlain, IsPrefixId, IsSparqlPrefix, IsBinding, NameThen, IriThen, PairThen, EndsAtDot, Declares, IsDeclaration, IsIn}
+use Rattle.rdf_terms.specs.Classes.{scalar}
 use Rattle.rdf_terms.specs.Regex.{Matches}
 use Rattle.rdf_terms.specs.Regex.Regex.{one, ◌∣◌}
 use Rattle.rdf_terms.specs.Shapes.{shape, Shape, optional, pn_prefix, any_case}
-use Rattle.rdf_terms.specs.Terms.{IsIri, all_have}
 use Rattle.rdf_terms.proofs.UsedCharacters.{uses, not_used}
-use Rattle.rdf_iri.specs.Cuts.{past}
-use Rattle.rdf_iri.specs.Texts.{Lacks, before, after}
-use Rattle.rdf_iri.specs.BindingLines.{is_blank, AreBlanks, Begins, BeginsBlank, SaysNothing, IsPlain, IsPrefixId, IsSparqlPrefix, IsBinding}
-use Rattle.rdf_iri.specs.BindingSteps.{NameThen, IriThen, PairThen, EndsAtDot, Declares, IsDeclaration, IsIn}
 use Rattle.rdf_iri.proofs.TextsLemmas.{cut_suffix}
 use Rattle.rdf_iri.proofs.Encoded.{are_ascii}
 

@@ -1,17 +1,6 @@
 -- A line that is taken or refused by the scope that it is bound in.
-use Rattle.std.proofs.Common.{◌≡◌, ℕ, ◌+◌, ◌*◌, ◌<◌, ◌≤◌, Bool, true, false, cond, List, [], ◌∷◌, ◌++◌, length, Option, Some, None, refl, sym, ap, ◌∙◌, subst, ⊎_elim, arith}
-use Rattle.std.specs.Prelude.{is_some}
-use Rattle.std.proofs.lemmas.Bool.{cases_Bool, cond-true, cond-false, false≢true}
-use Rattle.std.proofs.lemmas.List.{length-append}
-use Rattle.std.specs.Str.{chars, IsUtf8}
-use Rattle.rdf_terms.specs.Terms.{has_scheme, IsIri}
+use Rattle.rdf_iri.proofs.Prelude.{◌≡◌, ℕ, ◌+◌, ◌*◌, ◌<◌, ◌≤◌, Bool, true, false, cond, List, [], ◌∷◌, ◌++◌, length, Option, Some, None, refl, sym, ap, ◌∙◌, subst, ⊎_elim, arith, is_some, cases_Bool, cond-true, cond-false, false≢true, length-append, chars, IsUtf8, has_scheme, IsIri, Sizes, byte_len, equal, Resolves, InForce, bound_to, Binds, HasRoom, IsFull, IsBound, NotBound, BaseFits, KeepsLimits, IsBinding, SaysNothing, Entry, TextSays, bindings_of, BindingMap, KeepsSizes}
 use Rattle.rdf_iri.specs.declared.fault.IriFault.TheVariants as fault
-use Rattle.rdf_iri.specs.Limits.{Sizes}
-use Rattle.rdf_iri.specs.Texts.{byte_len, equal}
-use Rattle.rdf_iri.specs.Resolution.{Resolves}
-use Rattle.rdf_iri.specs.Scope.{InForce, bound_to, Binds, HasRoom, IsFull, IsBound, NotBound, BaseFits, KeepsLimits}
-use Rattle.rdf_iri.specs.BindingLines.{IsBinding, SaysNothing}
-use Rattle.rdf_iri.specs.Bindings.{Entry, TextSays, bindings_of, BindingMap, KeepsSizes}
 use Rattle.rdf_iri.proofs.TextsLemmas.{equal-true, equal-from}
 
 -- an IRI with a scheme resolves to itself, whatever the base

@@ -1,23 +1,8 @@
 -- Places of bytes, by their number.
-use Rattle.std.proofs.Common.{◌≡◌, ◌≢◌, ℕ, suc, true, false, List, [], ◌∷◌, ◌++◌, ◌&&◌, ◌+◌, ◌≤◌, ◌<◌, take, drop, length, get_or, inl, inr, ⊎_elim, refl, sym, ap, ◌∙◌, subst, arith, add-one, eqb}
-use Rattle.std.proofs.lemmas.List.{append-nil, take-append-drop, take_more}
-use Rattle.std.proofs.Math.Seq.{drop-cons}
-use Rattle.std.proofs.Math.ListN.{drop_of_length-le}
-use Rattle.std.specs.List.{starts_with}
-use Rattle.rdf_iri.specs.Texts.{Lacks, begins, before, from}
-use Rattle.rdf_iri.specs.Dots.{parent, has_slash}
+use Rattle.rdf_iri.proofs.Prelude.{◌≡◌, ◌≢◌, ℕ, suc, true, false, List, [], ◌∷◌, ◌++◌, ◌&&◌, ◌+◌, ◌≤◌, ◌<◌, take, drop, length, get_or, inl, inr, ⊎_elim, refl, sym, ap, ◌∙◌, subst, arith, add-one, eqb, append-nil, take-append-drop, take_more, drop-cons, drop_of_length-le, starts_with, Lacks, begins, before, from, parent, has_slash, Some, None, IsCharBoundary, IsUtf8, unwrap_or, IsCharBoundary-before_ascii, IsCharBoundary-after_ascii, cases_lt, cond-true, cond-false, parts_of, fragment_parts, has_scheme, after, directory}
 use Rattle.rdf_iri.proofs.TextsLemmas.{cut_at, StartsAt, Lacks-append}
-use Rattle.std.specs.Prelude.{Some, None}
-use Rattle.std.specs.Str.{IsCharBoundary, IsUtf8}
-use Rattle.std.specs.Option.{unwrap_or}
-use Rattle.std.proofs.lemmas.Str.{IsCharBoundary-before_ascii, IsCharBoundary-after_ascii}
-use Rattle.std.proofs.lemmas.Bool.{cases_lt, cond-true, cond-false}
-use Rattle.rdf_iri.specs.Parts.{parts_of, fragment_parts}
-use Rattle.rdf_terms.specs.Terms.{has_scheme}
-use Rattle.rdf_iri.specs.Texts.{after}
 use Rattle.rdf_iri.proofs.TextsLemmas.{cut_suffix, from-starts, begins-true}
 use Rattle.rdf_iri.proofs.DotsLemmas.{parent-at, no_slash, has_slash-at}
-use Rattle.rdf_iri.specs.Resolve.{directory}
 
 -- a place with no c before it and c at it, or the end, is where the text is cut
 pub cut_there : (c : ℕ) (w : List ℕ) (i : ℕ) → Lacks c (take i w) → StartsAt c (drop i w) → (take i w ≡ before c w) × (drop i w ≡ from c w)

@@ -1,14 +1,5 @@
 -- A path written after a directory: it keeps all segments, and the result is the base with the reference after it.
-use Rattle.std.proofs.Common.{◌≡◌, ℕ, zero, suc, true, false, cond, List, [], ◌∷◌, ◌++◌, ◌==◌, ◌&&◌, ◌||◌, ◌≤◌, ◌⊎◌, drop, length, Option, Some, None, inr, refl, sym, ap, ◌∙◌, subst, ⊎_elim, append_assoc, arith}
-use Rattle.std.specs.Prelude.{MatchOption, is_some, codes}
-use Rattle.std.proofs.lemmas.Bool.{or_from, or_parts, cases_Bool, cond-true, cond-false, false≢true, false_from_ne_true, eqb-false}
-use Rattle.std.proofs.lemmas.List.{append-nil}
-use Rattle.rdf_terms.specs.Terms.{has_scheme}
-use Rattle.rdf_iri.specs.Texts.{Lacks, BeginsWith, begins, equal, before, from}
-use Rattle.rdf_iri.specs.Parts.{Parts, IsAuthority, parts_of, recompose, with_scheme, with_authority, suffix}
-use Rattle.rdf_iri.specs.Dots.{Walk, walk, step, by_D, by_E, fits_D, finish, remove_dots, has_slash, parent}
-use Rattle.rdf_iri.specs.Resolve.{directory, merge_onto, joined, target, authority_target, path_target}
-use Rattle.rdf_iri.specs.Directory.{dots_after_slash, has_dots, EndsInSlash, BeginsSegment, EndsInPath, HasDirectory, HasPath, GrowsBy}
+use Rattle.rdf_iri.proofs.Prelude.{◌≡◌, ℕ, zero, suc, true, false, cond, List, [], ◌∷◌, ◌++◌, ◌==◌, ◌&&◌, ◌||◌, ◌≤◌, ◌⊎◌, drop, length, Option, Some, None, inr, refl, sym, ap, ◌∙◌, subst, ⊎_elim, append_assoc, arith, MatchOption, is_some, codes, or_from, or_parts, cases_Bool, cond-true, cond-false, false≢true, false_from_ne_true, eqb-false, append-nil, has_scheme, Lacks, BeginsWith, begins, equal, before, from, Parts, IsAuthority, parts_of, recompose, with_scheme, with_authority, suffix, Walk, walk, step, by_D, by_E, fits_D, finish, remove_dots, has_slash, parent, directory, merge_onto, joined, target, authority_target, path_target, dots_after_slash, has_dots, EndsInSlash, BeginsSegment, EndsInPath, HasDirectory, HasPath, GrowsBy}
 use Rattle.rdf_iri.proofs.TextsLemmas.{before-from, from-starts, begins-true, equal-true, Lacks-append, has_scheme-append}
 use Rattle.rdf_iri.proofs.PartsLemmas.{only_parts, parts_split}
 use Rattle.rdf_iri.proofs.DotsLemmas.{has_slash-at, parent-at, length-from, finish-empty, finish-step}

@@ -1,10 +1,5 @@
 -- The relation of dot removal has one result, and `remove_dots` computes it.
-use Rattle.std.proofs.Common.{◌≡◌, ℕ, zero, suc, Bool, true, false, cond, List, [], ◌∷◌, ◌++◌, ◌==◌, ◌||◌, ◌≤◌, drop, length, inl, inr, refl, sym, ap, ◌∙◌, subst, ⊎_elim, arith}
-use Rattle.std.specs.Prelude.{codes}
-use Rattle.std.proofs.lemmas.Bool.{or_cases, or_left, or_right, or_from, or_parts, cases_Bool, cond-true, cond-false, false≢true, false_from_ne_true, eqb-true, eqb-false, ne_eqb}
-use Rattle.std.proofs.lemmas.List.{append-nil, length-append, length-drop}
-use Rattle.rdf_iri.specs.Texts.{Lacks, begins, equal, before, from}
-use Rattle.rdf_iri.specs.Dots.{Walk, Step, FirstOf, RuleA, RuleB, RuleC, RuleD, RuleE, ReplacedBySlash, LastSegmentRemoved, Ends, DotsRemoved, has_slash, parent, first_segment, after_segment, walk, fits_A, by_A, fits_B, by_B, fits_C, by_C, fits_D, by_D, by_E, step, steps, finish, remove_dots}
+use Rattle.rdf_iri.proofs.Prelude.{◌≡◌, ℕ, zero, suc, Bool, true, false, cond, List, [], ◌∷◌, ◌++◌, ◌==◌, ◌||◌, ◌≤◌, drop, length, inl, inr, refl, sym, ap, ◌∙◌, subst, ⊎_elim, arith, codes, or_cases, or_left, or_right, or_from, or_parts, cases_Bool, cond-true, cond-false, false≢true, false_from_ne_true, eqb-true, eqb-false, ne_eqb, append-nil, length-append, length-drop, Lacks, begins, equal, before, from, Walk, Step, FirstOf, RuleA, RuleB, RuleC, RuleD, RuleE, ReplacedBySlash, LastSegmentRemoved, Ends, DotsRemoved, has_slash, parent, first_segment, after_segment, walk, fits_A, by_A, fits_B, by_B, fits_C, by_C, fits_D, by_D, by_E, step, steps, finish, remove_dots}
 use Rattle.rdf_iri.proofs.TextsLemmas.{cut_at, before-lacks, from-starts, before-from, StartsAt, begins-true, begins-from, equal-true, equal-from}
 
 -- the last slash

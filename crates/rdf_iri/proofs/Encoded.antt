@@ -1,19 +1,5 @@
 -- What is cut, resolved and joined is the same over the UTF-8 bytes of the texts: all that cuts them is ASCII.
-use Rattle.std.proofs.Common.{◌≡◌, ◌≢◌, ◌≤◌, ◌<◌, ℕ, zero, suc, Bool, true, false, cond, List, [], ◌∷◌, ◌++◌, ◌==◌, ◌&&◌, ◌||◌, length, drop, Option, Some, None, inl, inr, refl, sym, ap, ◌∙◌, subst, ⊎_elim, append_assoc, arith}
-use Rattle.std.specs.Prelude.{codes, option_map, nat_lt}
-use Rattle.std.specs.Option.{unwrap_or}
-use Rattle.std.specs.Str.{encode_utf8_all}
-use Rattle.std.specs.Char.{encode_utf8}
-use Rattle.std.proofs.Math.Seq.{drop-append_seam}
-use Rattle.std.proofs.lemmas.Str.{encodes-append, encode_ascii, encodes_same, cons_from_encodes, inside_one, length-encode, len_utf8_bounds}
-use Rattle.std.proofs.lemmas.List.{append-nil}
-use Rattle.std.proofs.lemmas.Bool.{and_parts, cases_Bool, cases_lt, cond-true, cond-false, false≢true, false_from_ne_true, eqb-true, or_cases, or_from, ltb-true, lt-leb, and_right, ne_eqb}
-use Rattle.rdf_terms.specs.Classes.{is_letter, is_digit, within}
-use Rattle.rdf_terms.specs.Terms.{has_scheme, scheme_goes_on}
-use Rattle.rdf_iri.specs.Texts.{Lacks, begins, equal, before, after, from}
-use Rattle.rdf_iri.specs.Parts.{Parts, recompose, with_scheme, with_authority, suffix, parts_of, fragment_parts, query_parts, hierarchy_parts}
-use Rattle.rdf_iri.specs.Dots.{Walk, walk, step, finish, remove_dots, has_slash, parent, first_segment, after_segment, fits_A, by_A, fits_B, by_B, fits_C, by_C, fits_D, by_D, by_E}
-use Rattle.rdf_iri.specs.Resolve.{target, authority_target, path_target, joined, merge_onto, directory, or_else}
+use Rattle.rdf_iri.proofs.Prelude.{◌≡◌, ◌≢◌, ◌≤◌, ◌<◌, ℕ, zero, suc, Bool, true, false, cond, List, [], ◌∷◌, ◌++◌, ◌==◌, ◌&&◌, ◌||◌, length, drop, Option, Some, None, inl, inr, refl, sym, ap, ◌∙◌, subst, ⊎_elim, append_assoc, arith, codes, option_map, nat_lt, unwrap_or, encode_utf8_all, encode_utf8, drop-append_seam, encodes-append, encode_ascii, encodes_same, cons_from_encodes, inside_one, length-encode, len_utf8_bounds, append-nil, and_parts, cases_Bool, cases_lt, cond-true, cond-false, false≢true, false_from_ne_true, eqb-true, or_cases, or_from, ltb-true, lt-leb, and_right, ne_eqb, is_letter, is_digit, within, has_scheme, scheme_goes_on, Lacks, begins, equal, before, after, from, Parts, recompose, with_scheme, with_authority, suffix, parts_of, fragment_parts, query_parts, hierarchy_parts, Walk, walk, step, finish, remove_dots, has_slash, parent, first_segment, after_segment, fits_A, by_A, fits_B, by_B, fits_C, by_C, fits_D, by_D, by_E, target, authority_target, path_target, joined, merge_onto, directory, or_else}
 use Rattle.rdf_iri.proofs.TextsLemmas.{StartsAt, cut_at, cut_suffix, cut_whole, before-from, before-lacks, from-starts, Lacks-append, begins-true, begins-from, equal-true, equal-from}
 use Rattle.rdf_iri.proofs.DotsLemmas.{parent-at, parent-none, no_slash, has_slash-at, last_slash, no_slash-lacks, step_B, step_C, step_D, step-shorter, finish-empty, finish-after}
 use Rattle.rdf_iri.proofs.CutPlaces.{Lacks-from_places}

@@ -1,18 +1,7 @@
 -- The bytes that a scope holds, counted over its map.
-use Rattle.std.proofs.Common.{◌≡◌, ◌≤◌, ◌<◌, ◌+◌, ◌*◌, ◌^◌, ℕ, List, [], ◌∷◌, length, Option, Some, None, refl, ap, sym, ◌∙◌, arith}
-use Rattle.std.specs.Prelude.{String}
-use Rattle.std.specs.String.{string_bytes}
-use Rattle.std.specs.Str.{chars}
-use Rattle.std.specs.List.{All, sum_by}
-use Rattle.std.specs.BTreeMap.{BTreeMap, get_by_text}
-use Rattle.std.proofs.lemmas.Str.{IsUtf8-string_bytes}
+use Rattle.rdf_iri.proofs.Prelude.{◌≡◌, ◌≤◌, ◌<◌, ◌+◌, ◌*◌, ◌^◌, ℕ, List, [], ◌∷◌, length, Option, Some, None, refl, ap, sym, ◌∙◌, arith, String, string_bytes, chars, All, sum_by, BTreeMap, get_by_text, IsUtf8-string_bytes, sum_by-cons, sum_by-le, byte_len, Sizes, InRange, entry_bytes, entries_of, bound_to, BaseFits, base_bytes, binding_bytes, most_bytes_held}
 use Rattle.std.proofs.lemmas.Nat.{mul-le}
 use Rattle.std.proofs.lemmas.List.Elements.{All-weaker}
-use Rattle.std.proofs.lemmas.List.Sums.{sum_by-cons, sum_by-le}
-use Rattle.rdf_iri.specs.Texts.{byte_len}
-use Rattle.rdf_iri.specs.Limits.{Sizes, InRange}
-use Rattle.rdf_iri.specs.Prefixes.{entry_bytes, entries_of}
-use Rattle.rdf_iri.specs.Scope.{bound_to, BaseFits, base_bytes, binding_bytes, most_bytes_held}
 use Rattle.rdf_iri.proofs.ResolvedText.{byte_len-chars}
 use Rattle.rdf_iri.proofs.ScopeLemmas.{bound_to-text, length-entries_of}
 

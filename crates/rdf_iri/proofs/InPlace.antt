@@ -1,12 +1,7 @@
 -- What a turn of the loop keeps: the path is w as it stands, its input begins at r, and its output is the first k bytes.
-use Rattle.std.proofs.Common.{◌≡◌, ℕ, suc, List, [], ◌∷◌, ◌++◌, ◌+◌, ◌-◌, ◌≤◌, ◌<◌, take, drop, set, length, refl, sym, ap, ◌∙◌, subst, arith}
-use Rattle.std.proofs.lemmas.List.{take-set-le, drop-set, drop-drop, take-take, length-take, length-drop}
-use Rattle.std.proofs.lemmas.Slice.{between_to_end}
+use Rattle.rdf_iri.proofs.Prelude.{◌≡◌, ℕ, suc, List, [], ◌∷◌, ◌++◌, ◌+◌, ◌-◌, ◌≤◌, ◌<◌, take, drop, set, length, refl, sym, ap, ◌∙◌, subst, arith, take-set-le, drop-set, drop-drop, take-take, length-take, length-drop, between_to_end, drop_of_length-le, copy_within, Walk, walk, step, skip, slash, up, keep, parent, finish, remove_dots}
 use Rattle.std.proofs.lemmas.List.Edits.{take-paste, drop-paste}
-use Rattle.std.proofs.Math.ListN.{drop_of_length-le}
-use Rattle.std.specs.List.{copy_within}
 use lib.Seq.{paste}
-use Rattle.rdf_iri.specs.Dots.{Walk, walk, step, skip, slash, up, keep, parent, finish, remove_dots}
 use Rattle.rdf_iri.proofs.DotsLemmas.{finish-after, finish-empty}
 
 -- what is still to read and what is written, both within the same bytes, lead to the result

@@ -1,13 +1,5 @@
 -- What is resolved from texts whose characters pass a test passes it, and keeps the base's scheme.
-use Rattle.std.proofs.Common.{◌≡◌, ℕ, zero, suc, Bool, true, false, List, [], ◌∷◌, ◌++◌, ◌==◌, Option, Some, None, refl, sym, ap, ◌∙◌, subst, ⊎_elim}
-use Rattle.std.specs.Prelude.{MatchOption, ⊤, codes}
-use Rattle.std.proofs.lemmas.Bool.{and_parts, and_from, cases_Bool, cond-true, cond-false}
-use Rattle.std.proofs.lemmas.List.{append-nil}
-use Rattle.rdf_terms.specs.Terms.{all_have, has_scheme}
-use Rattle.rdf_iri.specs.Texts.{Lacks}
-use Rattle.rdf_iri.specs.Parts.{Parts, recompose, with_scheme, with_authority, suffix, parts_of}
-use Rattle.rdf_iri.specs.Dots.{Walk, walk, Step, RuleA, RuleB, RuleC, RuleD, RuleE, FirstOf, ReplacedBySlash, LastSegmentRemoved, Ends, remove_dots, has_slash, parent}
-use Rattle.rdf_iri.specs.Resolve.{target, authority_target, path_target, joined, merge_onto, directory, or_else}
+use Rattle.rdf_iri.proofs.Prelude.{◌≡◌, ℕ, zero, suc, Bool, true, false, List, [], ◌∷◌, ◌++◌, ◌==◌, Option, Some, None, refl, sym, ap, ◌∙◌, subst, ⊎_elim, MatchOption, ⊤, codes, and_parts, and_from, cases_Bool, cond-true, cond-false, append-nil, all_have, has_scheme, Lacks, Parts, recompose, with_scheme, with_authority, suffix, parts_of, Walk, walk, Step, RuleA, RuleB, RuleC, RuleD, RuleE, FirstOf, ReplacedBySlash, LastSegmentRemoved, Ends, remove_dots, has_slash, parent, target, authority_target, path_target, joined, merge_onto, directory, or_else}
 use Rattle.rdf_iri.proofs.DotsLemmas.{dots_removed, parent_removes}
 use Rattle.rdf_iri.proofs.TextsLemmas.{has_scheme-colon}
 use Rattle.rdf_iri.proofs.PartsLemmas.{parts_split}

@@ -1,11 +1,5 @@
 -- The laws of references.
-use Rattle.std.proofs.Common.{◌≡◌, ℕ, false, List, Option, Some, None, refl, sym, ◌∙◌, subst, ⊎_elim}
-use Rattle.std.proofs.lemmas.Bool.{false≢true}
-use Rattle.std.specs.Prelude.{codes}
-use Rattle.rdf_terms.specs.Terms.{has_scheme}
-use Rattle.rdf_iri.specs.Parts.{Parts, Splits, parts_of}
-use Rattle.rdf_iri.specs.Dots.{DotsRemoved, remove_dots, finish, step}
-use Rattle.rdf_iri.specs.Resolve.{Resolves, resolved}
+use Rattle.rdf_iri.proofs.Prelude.{◌≡◌, ℕ, false, List, Option, Some, None, refl, sym, ◌∙◌, subst, ⊎_elim, false≢true, codes, has_scheme, Parts, Splits, parts_of, DotsRemoved, remove_dots, finish, step, Resolves, resolved}
 use Rattle.rdf_iri.specs.Laws.{ReferencesSplitOnce, DotsHaveOneResult, ReferencesHaveOneResult, PartsAreComputed, DotsAreComputed, ResultsAreComputed}
 use Rattle.rdf_iri.proofs.PartsLemmas.{only_parts, parts_split}
 use Rattle.rdf_iri.proofs.DotsLemmas.{only_removed, dots_removed}

@@ -1,3 +1,4 @@
+mod Prelude
 pub mod TextsLemmas
 pub mod PartsLemmas
 pub mod DotsLemmas

@@ -1,12 +1,6 @@
 -- `parts_of` gives the only parts that split a text.
-use Rattle.std.proofs.Common.{◌≡◌, ◌≢◌, ℕ, true, false, cond, List, [], ◌∷◌, ◌++◌, ◌==◌, drop, Option, Some, None, refl, sym, ap, ◌∙◌, subst, ⊎_elim, arith}
-use Rattle.std.specs.Option.{unwrap_or, is_some, MatchOption}
-use Rattle.std.specs.Prelude.{⊤}
-use Rattle.std.proofs.lemmas.Bool.{cases_Bool, cond-true, cond-false, false≢true, false_from_ne_true}
-use Rattle.rdf_iri.specs.Texts.{Lacks, BeginsWith, begins, before, after, from}
-use Rattle.rdf_iri.specs.Parts.{Parts, Splits, IsAuthority, with_scheme, with_authority, suffix, parts_of, hierarchy_parts, query_parts, fragment_parts}
+use Rattle.rdf_iri.proofs.Prelude.{◌≡◌, ◌≢◌, ℕ, true, false, cond, List, [], ◌∷◌, ◌++◌, ◌==◌, drop, Option, Some, None, refl, sym, ap, ◌∙◌, subst, ⊎_elim, arith, unwrap_or, is_some, MatchOption, ⊤, cases_Bool, cond-true, cond-false, false≢true, false_from_ne_true, Lacks, BeginsWith, begins, before, after, from, Parts, Splits, IsAuthority, with_scheme, with_authority, suffix, parts_of, hierarchy_parts, query_parts, fragment_parts, has_scheme}
 use Rattle.rdf_iri.proofs.TextsLemmas.{cut_suffix, cut_whole, cut_at, before-lacks, before-keeps, from-keeps, from-starts, before-from, StartsAt, Lacks-append, begins-true, begins-from, has_scheme-after}
-use Rattle.rdf_terms.specs.Terms.{has_scheme}
 
 -- an answer that is there is there
 found : (o : Option (List ℕ)) → is_some o ≡ true → o ≡ Some (unwrap_or o [])

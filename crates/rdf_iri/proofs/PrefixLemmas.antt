@@ -1,27 +1,9 @@
 -- A row of prefixes and the others after it are one list: what is bound in it, how a prefix is set, and what all texts have.
-use Rattle.std.proofs.Common.{◌≡◌, ◌≤◌, ◌<◌, ◌+◌, ◌*◌, ℕ, suc, Bool, true, false, cond, List, [], ◌∷◌, ◌++◌, length, take, drop, get_or, Option, Some, None, refl, sym, ap, ap₂, ◌∙◌, subst, append_assoc, ⊎_elim, arith, add-one, length-append}
-use Rattle.std.proofs.Math.ListN.{set}
+use Rattle.rdf_iri.proofs.Prelude.{◌≡◌, ◌≤◌, ◌<◌, ◌+◌, ◌*◌, ℕ, suc, Bool, true, false, cond, List, [], ◌∷◌, ◌++◌, length, take, drop, get_or, Option, Some, None, refl, sym, ap, ap₂, ◌∙◌, subst, append_assoc, ⊎_elim, arith, add-one, length-append, set, take-suc, drop-cons, String, is_some, string_bytes, chars, bytes_eq, IsUtf8, sum_by, option_copied, BTreeMap, get_by_text, cases_Bool, cond-true, cond-false, append-nil, take-append-drop, length-take-le, IsUtf8-string_bytes, bytes_eq-Decides, sum_by-cons, sum_by-append, equal, byte_len, text_of, bound_to, binding_bytes, entries_of, KeptApart, StandsAt, Sets, Sizes}
 use native.Mathlib.Nat.{mul-add, mul_comm}
-use Rattle.std.proofs.Math.Seq.{take-suc, drop-cons}
-use Rattle.std.specs.Prelude.{String, is_some}
-use Rattle.std.specs.String.{string_bytes}
-use Rattle.std.specs.Str.{chars, bytes_eq, IsUtf8}
-use Rattle.std.specs.List.{sum_by}
-use Rattle.std.specs.Option.{option_copied}
-use Rattle.std.specs.BTreeMap.{BTreeMap, get_by_text}
 use denote.Ref.{Bor}
-use Rattle.std.proofs.lemmas.Bool.{cases_Bool, cond-true, cond-false}
-use Rattle.std.proofs.lemmas.List.{append-nil, take-append-drop, length-take-le}
-use Rattle.std.proofs.lemmas.Str.{IsUtf8-string_bytes}
-use Rattle.std.proofs.lemmas.Slice.Eq.{bytes_eq-Decides}
 use Rattle.std.proofs.lemmas.Nat.{mul-le}
-use Rattle.std.proofs.lemmas.List.Sums.{sum_by-cons, sum_by-append}
-use Rattle.rdf_iri.specs.Texts.{equal, byte_len}
-use Rattle.rdf_iri.specs.Seen.{text_of}
-use Rattle.rdf_iri.specs.Scope.{bound_to, binding_bytes}
-use Rattle.rdf_iri.specs.Prefixes.{entries_of, KeptApart, StandsAt, Sets}
 use Rattle.rdf_iri.proofs.TextsLemmas.{equal-true, equal-self}
-use Rattle.rdf_iri.specs.Limits.{Sizes}
 use Rattle.rdf_iri.proofs.ScopeLemmas.{swapped, some_not, same_text, length-entries_of, bound_to-text}
 
 -- where a prefix is not bound, the first has another, and it is not bound after it

@@ -1,11 +1,5 @@
 -- The relation of resolution has one result, and `resolved` computes it.
-use Rattle.std.proofs.Common.{◌≡◌, ℕ, true, false, List, [], ◌∷◌, Option, Some, None, inl, inr, refl, sym, ap, ◌∙◌, subst, ⊎_elim}
-use Rattle.std.specs.Prelude.{MatchOption}
-use Rattle.std.proofs.lemmas.Bool.{cases_Bool, cond-true, cond-false}
-use Rattle.rdf_terms.specs.Terms.{has_scheme}
-use Rattle.rdf_iri.specs.Parts.{Parts, Splits, recompose, parts_of}
-use Rattle.rdf_iri.specs.Dots.{DotsRemoved}
-use Rattle.rdf_iri.specs.Resolve.{joined, ByPath, Transforms, Resolves, path_target, authority_target, target, based, resolved}
+use Rattle.rdf_iri.proofs.Prelude.{◌≡◌, ℕ, true, false, List, [], ◌∷◌, Option, Some, None, inl, inr, refl, sym, ap, ◌∙◌, subst, ⊎_elim, MatchOption, cases_Bool, cond-true, cond-false, has_scheme, Parts, Splits, recompose, parts_of, DotsRemoved, joined, ByPath, Transforms, Resolves, path_target, authority_target, target, based, resolved}
 use Rattle.rdf_iri.proofs.PartsLemmas.{only_parts, parts_split}
 use Rattle.rdf_iri.proofs.DotsLemmas.{only_removed, dots_removed}
 

@@ -1,14 +1,6 @@
 -- What is resolved over the bytes of texts is a text, and its characters are what is resolved over theirs.
-use Rattle.std.proofs.Common.{◌≡◌, ℕ, true, false, List, Some, refl, sym, ap, ◌∙◌, length}
-use Rattle.std.specs.Str.{IsUtf8, chars, encode_utf8_all}
-use Rattle.std.proofs.lemmas.Str.{encodes-chars, chars-encodes, scalars-chars}
-use lib.Utf8.{scalar, scalars}
-use Rattle.rdf_terms.specs.Classes.{has}
-use Rattle.rdf_terms.specs.Classes.Class.{iri_char}
-use Rattle.rdf_terms.specs.Terms.{IsIri, has_scheme}
-use Rattle.rdf_iri.specs.Texts.{IsIriText, byte_len}
-use Rattle.rdf_iri.specs.Parts.{parts_of, recompose}
-use Rattle.rdf_iri.specs.Resolve.{Resolves, target}
+use Rattle.rdf_iri.proofs.Prelude.{◌≡◌, ℕ, true, false, List, Some, refl, sym, ap, ◌∙◌, length, IsUtf8, chars, encode_utf8_all, encodes-chars, chars-encodes, scalars-chars, scalars, has, iri_char, IsIri, has_scheme, IsIriText, byte_len, parts_of, recompose, Resolves, target}
+use lib.Utf8.{scalar}
 use Rattle.rdf_iri.proofs.Slices.{scalars-all, scalar_marks}
 use Rattle.rdf_iri.proofs.IriKept.{Delimits, target-good, target-has_scheme}
 use Rattle.rdf_iri.proofs.ResolveLemmas.{based-holds}

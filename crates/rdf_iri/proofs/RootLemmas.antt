@@ -1,19 +1,6 @@
 -- Bases whose path begins with '/': what a reference that is a path resolves to is written after their root or their last directory.
-use Rattle.std.proofs.Common.{◌≡◌, ◌≢◌, ℕ, suc, true, false, List, [], ◌∷◌, ◌++◌, ◌==◌, ◌+◌, ◌-◌, ◌≤◌, ◌<◌, ◌⊎◌, take, drop, length, get_or, slice_range, Option, Some, None, inl, inr, refl, sym, ap, ◌∙◌, subst, ⊎_elim, append_assoc, arith}
-use Rattle.std.specs.Str.{IsUtf8, IsCharBoundary}
-use Rattle.std.proofs.lemmas.Bool.{cases_Bool, cond-true, cond-false, false≢true, eqb-true, eqb-false, ne_eqb}
-use Rattle.std.proofs.lemmas.List.{length-append, take-append-le}
-use Rattle.std.proofs.lemmas.Str.{IsCharBoundary-after_ascii, IsCharBoundary-before_ascii}
-use Rattle.std.proofs.Math.Seq.{take-append_seam, take-append-add, get_or-append_seam}
-use Rattle.rdf_terms.specs.Terms.{has_scheme}
+use Rattle.rdf_iri.proofs.Prelude.{◌≡◌, ◌≢◌, ℕ, suc, true, false, List, [], ◌∷◌, ◌++◌, ◌==◌, ◌+◌, ◌-◌, ◌≤◌, ◌<◌, ◌⊎◌, take, drop, length, get_or, slice_range, Option, Some, None, inl, inr, refl, sym, ap, ◌∙◌, subst, ⊎_elim, append_assoc, arith, IsUtf8, IsCharBoundary, cases_Bool, cond-true, cond-false, false≢true, eqb-true, eqb-false, ne_eqb, length-append, take-append-le, IsCharBoundary-after_ascii, IsCharBoundary-before_ascii, take-append_seam, take-append-add, get_or-append_seam, has_scheme, BeginsWith, begins, before, after, Parts, parts_of, recompose, suffix, scheme_text, walk, finish, remove_dots, parent, directory, joined, merge_onto, target, or_else, has_dots, path_in, tail_in, onward, IsDirectory, path_at, written_onward, front_text, HasRoot, HasOwnPath}
 use Rattle.rdf_iri.specs.declared.base.Root.{Root}
-use Rattle.rdf_iri.specs.Texts.{BeginsWith, begins, before, after}
-use Rattle.rdf_iri.specs.Parts.{Parts, parts_of, recompose, suffix, scheme_text}
-use Rattle.rdf_iri.specs.Dots.{walk, finish, remove_dots, parent}
-use Rattle.rdf_iri.specs.Resolve.{directory, joined, merge_onto, target, or_else}
-use Rattle.rdf_iri.specs.Directory.{has_dots}
-use Rattle.rdf_iri.specs.Steps.{path_in, tail_in, onward, IsDirectory, path_at, written_onward}
-use Rattle.rdf_iri.specs.Roots.{front_text, HasRoot, HasOwnPath}
 use Rattle.rdf_iri.proofs.TextsLemmas.{begins-true, begins-from, cut_whole}
 use Rattle.rdf_iri.proofs.PartsLemmas.{parts_split, same_hierarchy}
 use Rattle.rdf_iri.proofs.CutPlaces.{no_scheme_there}

@@ -1,10 +1,5 @@
 -- Each branch of the code is the first rule that fits.
-use Rattle.std.proofs.Common.{◌≡◌, ℕ, suc, true, false, List, [], ◌∷◌, ◌++◌, ◌<◌, take, drop, length, sym, ap, ◌∙◌, arith}
-use Rattle.std.specs.Prelude.{codes}
-use Rattle.std.proofs.lemmas.Bool.{or_left, or_right, cond-true, cond-false}
-use Rattle.std.proofs.Math.Seq.{drop-length}
-use Rattle.rdf_iri.specs.Texts.{begins, equal, before, from}
-use Rattle.rdf_iri.specs.Dots.{Walk, walk, step, skip, slash, up, keep, parent, fits_A, by_A, fits_B, by_B, fits_C, by_C, fits_D, by_D, by_E}
+use Rattle.rdf_iri.proofs.Prelude.{◌≡◌, ℕ, suc, true, false, List, [], ◌∷◌, ◌++◌, ◌<◌, take, drop, length, sym, ap, ◌∙◌, arith, codes, or_left, or_right, cond-true, cond-false, drop-length, begins, equal, before, from, Walk, walk, step, skip, slash, up, keep, parent, fits_A, by_A, fits_B, by_B, fits_C, by_C, fits_D, by_D, by_E}
 use Rattle.rdf_iri.proofs.TextsLemmas.{equal-true}
 use Rattle.rdf_iri.proofs.DotsLemmas.{step_B, step_C, step_D}
 

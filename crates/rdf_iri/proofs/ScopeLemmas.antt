@@ -1,26 +1,11 @@
 -- A map with text as keys, as a list of prefixes and IRIs.
-use Rattle.std.proofs.Common.{◌≡◌, ◌≢◌, ◌≤◌, ◌<◌, ◌+◌, ◌*◌, ℕ, suc, Bool, true, false, cond, List, [], ◌∷◌, ◌++◌, length, Option, Some, None, refl, sym, ap, ◌∙◌, subst, ⊎_elim, arith}
-use Rattle.std.specs.Prelude.{String, is_some, MatchBool, nat_lt, Result, Ok, Err, OnOk, IfErr}
+use Rattle.rdf_iri.proofs.Prelude.{◌≡◌, ◌≢◌, ◌≤◌, ◌<◌, ◌+◌, ◌*◌, ℕ, suc, Bool, true, false, cond, List, [], ◌∷◌, ◌++◌, length, Option, Some, None, refl, sym, ap, ◌∙◌, subst, ⊎_elim, arith, String, is_some, MatchBool, nat_lt, Result, Ok, Err, OnOk, IfErr, string_bytes, string_cmp, bytes_eq, chars, IsUtf8, encode_utf8_all, BTreeMap, is_at, get_by_text, Updates, unwrap_or, bytes_eq-Decides, encodes-chars, chars-encodes, scalars-chars, IsUtf8-string_bytes, encodes-append, chars-append, append-nil, length-append, cases_Bool, cond-true, cond-false, false≢true, ltb-true, ltb-false, scalars, IsIri, IsIriText, equal, byte_len, InForce, bound_to, Binds, HasRoom, KeepsLimits, BaseFits, Expands, ExpandsHere, NotExpanded, entries_of, NotJoined, Sets, Sizes}
 use Rattle.rdf_iri.specs.declared.fault.IriFault.{IriFault}
 use Rattle.rdf_iri.specs.declared.fault.IriFault.TheVariants.{NoBase, IriTooLong, Memory, Unbound, TooManyBindings}
-use Rattle.std.specs.String.{string_bytes, string_cmp}
-use Rattle.std.specs.Str.{bytes_eq, chars, IsUtf8, encode_utf8_all}
 use Rattle.std.specs.Map.{lookup}
 use Rattle.std.specs.Ordering.{nat_cmp}
 use Rattle.std.specs.Cmp.Lexicographic.{slice_cmp}
-use Rattle.std.specs.BTreeMap.{BTreeMap, is_at, get_by_text, Updates}
-use Rattle.std.specs.Option.{unwrap_or}
 use Rattle.std.proofs.lemmas.Map.Text.{is_eq-slice_cmp, btree_map_updates_text}
-use Rattle.std.proofs.lemmas.Slice.Eq.{bytes_eq-Decides}
-use Rattle.std.proofs.lemmas.Str.{encodes-chars, chars-encodes, scalars-chars, IsUtf8-string_bytes, encodes-append, chars-append}
-use Rattle.std.proofs.lemmas.List.{append-nil, length-append}
-use Rattle.std.proofs.lemmas.Bool.{cases_Bool, cond-true, cond-false, false≢true, ltb-true, ltb-false}
-use lib.Utf8.{scalars}
-use Rattle.rdf_terms.specs.Terms.{IsIri}
-use Rattle.rdf_iri.specs.Texts.{IsIriText, equal, byte_len}
-use Rattle.rdf_iri.specs.Scope.{InForce, bound_to, Binds, HasRoom, KeepsLimits, BaseFits, Expands, ExpandsHere, NotExpanded}
-use Rattle.rdf_iri.specs.Prefixes.{entries_of, NotJoined, Sets}
-use Rattle.rdf_iri.specs.Limits.{Sizes}
 use Rattle.rdf_iri.proofs.TextsLemmas.{equal-true, equal-from, has_scheme-append}
 use Rattle.rdf_iri.proofs.IriKept.{all_have-append}
 use Rattle.rdf_iri.proofs.Encoded.{same_test}

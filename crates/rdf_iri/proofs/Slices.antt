@@ -1,15 +1,6 @@
 -- The characters of slices of a text, and of the parts that they are.
-use Rattle.std.proofs.Common.{◌≡◌, ℕ, true, List, [], ◌∷◌, ◌&&◌, Option, Some, None, refl, sym, ap, ◌∙◌}
-use Rattle.std.specs.Prelude.{MatchOption, ⊤}
-use Rattle.std.specs.Option.{is_some}
-use Rattle.std.specs.Str.{IsUtf8, chars, encode_utf8_all}
-use Rattle.std.proofs.lemmas.Bool.{false≢true}
-use Rattle.std.proofs.lemmas.Str.{encodes-chars, chars-encodes, scalars-chars}
-use lib.Utf8.{scalar, scalars}
-use Rattle.rdf_terms.specs.Terms.{has_scheme, all_have}
-use Rattle.rdf_iri.specs.Texts.{after}
-use Rattle.rdf_iri.specs.Parts.{Parts, parts_of}
-use Rattle.rdf_iri.specs.Seen.{part_chars, parts_chars}
+use Rattle.rdf_iri.proofs.Prelude.{◌≡◌, ℕ, true, List, [], ◌∷◌, ◌&&◌, Option, Some, None, refl, sym, ap, ◌∙◌, MatchOption, ⊤, is_some, IsUtf8, chars, encode_utf8_all, false≢true, encodes-chars, chars-encodes, scalars-chars, scalars, has_scheme, all_have, after, Parts, parts_of, part_chars, parts_chars}
+use lib.Utf8.{scalar}
 use Rattle.rdf_iri.proofs.TextsLemmas.{has_scheme-after}
 use Rattle.rdf_iri.proofs.PartsLemmas.{parts_split}
 use Rattle.rdf_iri.proofs.IriKept.{Delimits, GoodParts, parts-good}

@@ -1,14 +1,6 @@
 -- A path that is written after a directory: what each of its segments does.
-use Rattle.std.proofs.Common.{◌≡◌, ◌≢◌, ℕ, zero, suc, true, false, List, [], ◌∷◌, ◌++◌, ◌==◌, ◌+◌, ◌-◌, ◌≤◌, ◌<◌, ◌⊎◌, drop, length, get_or, slice_range, Some, inl, inr, refl, sym, ap, ◌∙◌, subst, ⊎_elim, append_assoc, arith}
-use Rattle.std.specs.Prelude.{codes}
-use Rattle.std.proofs.lemmas.Bool.{or_from, or_parts, cond-false, false≢true, false_from_ne_true, ne_eqb}
-use Rattle.std.proofs.lemmas.List.{append-nil, length-append, append_cancel_right, drop_more}
+use Rattle.rdf_iri.proofs.Prelude.{◌≡◌, ◌≢◌, ℕ, zero, suc, true, false, List, [], ◌∷◌, ◌++◌, ◌==◌, ◌+◌, ◌-◌, ◌≤◌, ◌<◌, ◌⊎◌, drop, length, get_or, slice_range, Some, inl, inr, refl, sym, ap, ◌∙◌, subst, ⊎_elim, append_assoc, arith, codes, or_from, or_parts, cond-false, false≢true, false_from_ne_true, ne_eqb, append-nil, length-append, append_cancel_right, drop_more, Lacks, BeginsWith, begins, equal, before, after, from, suffix, walk, step, by_E, fits_D, finish, parent, dots_after_slash, has_dots, path_in, tail_in, onward, Leads, Passes}
 use Rattle.std.proofs.lemmas.List.Folds.{drop_split}
-use Rattle.rdf_iri.specs.Texts.{Lacks, BeginsWith, begins, equal, before, after, from}
-use Rattle.rdf_iri.specs.Parts.{suffix}
-use Rattle.rdf_iri.specs.Dots.{walk, step, by_E, fits_D, finish, parent}
-use Rattle.rdf_iri.specs.Directory.{dots_after_slash, has_dots}
-use Rattle.rdf_iri.specs.Steps.{path_in, tail_in, onward, Leads, Passes}
 use Rattle.rdf_iri.proofs.TextsLemmas.{Lacks-append, cut_at, cut_whole, before-from, before-lacks, from-starts, begins-true, equal-true, equal-self}
 use Rattle.rdf_iri.proofs.DotsLemmas.{finish-step}
 use Rattle.rdf_iri.proofs.DirectoryLemmas.{dots-next, dots-last, finish-keeps}

@@ -1,11 +1,5 @@
 -- Where a text is cut.
-use Rattle.std.proofs.Common.{◌≡◌, ℕ, true, false, cond, List, [], ◌∷◌, ◌++◌, ◌==◌, ◌&&◌, ◌||◌, ◌⊎◌, Bool, drop, length, Option, Some, None, inl, inr, refl, sym, ap, ◌∙◌, subst, ⊎_elim}
-use Rattle.std.proofs.lemmas.Bool.{and_parts, and_from, or_left, or_right, or_cases, cases_Bool, cond-true, cond-false, false≢true, eqb-true, eqb-false, eq-eqb, ne_eqb}
-use Rattle.rdf_iri.specs.Texts.{Lacks, BeginsWith, begins, equal, before, after, from}
-use Rattle.rdf_terms.specs.Terms.{has_scheme, scheme_goes_on}
-use Rattle.rdf_terms.specs.Classes.{is_letter, is_digit}
-use Rattle.std.specs.Option.{is_some}
-use Rattle.rdf_iri.specs.Parts.{suffix}
+use Rattle.rdf_iri.proofs.Prelude.{◌≡◌, ℕ, true, false, cond, List, [], ◌∷◌, ◌++◌, ◌==◌, ◌&&◌, ◌||◌, ◌⊎◌, Bool, drop, length, Option, Some, None, inl, inr, refl, sym, ap, ◌∙◌, subst, ⊎_elim, and_parts, and_from, or_left, or_right, or_cases, cases_Bool, cond-true, cond-false, false≢true, eqb-true, eqb-false, eq-eqb, ne_eqb, Lacks, BeginsWith, begins, equal, before, after, from, has_scheme, scheme_goes_on, is_letter, is_digit, is_some, suffix}
 
 -- a suffix after a text that lacks its byte is cut off again
 pub cut_suffix : (c : ℕ) (w : List ℕ) (o : Option (List ℕ)) → Lacks c w → (before c (w ++ suffix c o) ≡ w) × (after c (w ++ suffix c o) ≡ o)

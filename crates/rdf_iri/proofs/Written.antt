@@ -1,13 +1,5 @@
 -- What is written piece by piece is the recomposed target.
-use Rattle.std.proofs.Common.{◌≡◌, ℕ, Bool, true, false, cond, List, [], ◌∷◌, ◌++◌, ◌==◌, length, take, drop, Option, Some, None, refl, sym, ap, ◌∙◌, ⊎_elim, append_assoc, arith, ◌≤◌, ◌+◌, ◌-◌}
-use Rattle.std.proofs.lemmas.Bool.{cases_Bool, eqb-true, eqb-false, eq-eqb, ne_eqb, and_from, and_left, cond-true, cond-false}
-use Rattle.std.proofs.lemmas.List.{take-take, take-append-le, length-append}
-use Rattle.std.proofs.Math.Seq.{take-append-add, drop-append_seam, take-append_seam}
-use Rattle.std.proofs.lemmas.Slice.{between_to_end}
-use Rattle.rdf_iri.specs.Texts.{begins}
-use Rattle.rdf_iri.specs.Parts.{Parts, parts_of, recompose, scheme_text, authority_text, with_scheme, with_authority, suffix}
-use Rattle.rdf_iri.specs.Dots.{remove_dots}
-use Rattle.rdf_iri.specs.Resolve.{joined, merge_onto, merged_front, base_front, or_else, target, authority_target, path_target}
+use Rattle.rdf_iri.proofs.Prelude.{◌≡◌, ℕ, Bool, true, false, cond, List, [], ◌∷◌, ◌++◌, ◌==◌, length, take, drop, Option, Some, None, refl, sym, ap, ◌∙◌, ⊎_elim, append_assoc, arith, ◌≤◌, ◌+◌, ◌-◌, cases_Bool, eqb-true, eqb-false, eq-eqb, ne_eqb, and_from, and_left, cond-true, cond-false, take-take, take-append-le, length-append, take-append-add, drop-append_seam, take-append_seam, between_to_end, begins, Parts, parts_of, recompose, scheme_text, authority_text, with_scheme, with_authority, suffix, remove_dots, joined, merge_onto, merged_front, base_front, or_else, target, authority_target, path_target}
 
 -- the parts, written one after the other, are the reference
 pieces : (s a : Option (List ℕ)) (p u v : List ℕ) → (((scheme_text s ++ authority_text a) ++ p) ++ u) ++ v ≡ with_scheme s ((with_authority a p ++ u) ++ v)

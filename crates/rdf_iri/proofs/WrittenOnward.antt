@@ -1,15 +1,5 @@
 -- The text that ends in a directory while a path is written after it.
-use Rattle.std.proofs.Common.{◌≡◌, ℕ, suc, false, List, [], ◌∷◌, ◌++◌, ◌+◌, ◌-◌, ◌≤◌, ◌<◌, ◌⊎◌, take, drop, length, get_or, slice_range, inl, inr, refl, sym, ap, ◌∙◌, subst, ⊎_elim, append_assoc, arith}
-use Rattle.std.specs.Str.{IsUtf8, IsCharBoundary}
-use Rattle.std.proofs.lemmas.Bool.{cases_Bool, cond-true, cond-false}
-use Rattle.std.proofs.lemmas.List.{length-append, take-append-le, take-append-drop, length-take-le}
-use Rattle.std.proofs.lemmas.Str.{IsCharBoundary-after_ascii}
-use Rattle.std.proofs.Math.Seq.{take-append_seam, drop-append_seam, take-append-add, drop-append-add, get_or-append_seam}
-use Rattle.rdf_iri.specs.Texts.{BeginsWith}
-use Rattle.rdf_iri.specs.Dots.{has_slash, parent}
-use Rattle.rdf_iri.specs.Resolve.{directory}
-use Rattle.rdf_iri.specs.Directory.{has_dots}
-use Rattle.rdf_iri.specs.Steps.{path_in, tail_in, onward, Leads, Passes, IsDirectory, front_at, path_at, written_onward}
+use Rattle.rdf_iri.proofs.Prelude.{◌≡◌, ℕ, suc, false, List, [], ◌∷◌, ◌++◌, ◌+◌, ◌-◌, ◌≤◌, ◌<◌, ◌⊎◌, take, drop, length, get_or, slice_range, inl, inr, refl, sym, ap, ◌∙◌, subst, ⊎_elim, append_assoc, arith, IsUtf8, IsCharBoundary, cases_Bool, cond-true, cond-false, length-append, take-append-le, take-append-drop, length-take-le, IsCharBoundary-after_ascii, take-append_seam, drop-append_seam, take-append-add, drop-append-add, get_or-append_seam, BeginsWith, has_slash, parent, directory, has_dots, path_in, tail_in, onward, Leads, Passes, IsDirectory, front_at, path_at, written_onward}
 use Rattle.rdf_iri.proofs.StepsLemmas.{path-tail, last-moves}
 
 -- what stands in front of the path

@@ -1,28 +1,10 @@
 -- A document within the limits is read to its end, and so is what was written.
-use Rattle.std.proofs.Common.{◌≡◌, ℕ, ◌≤◌, true, false, not, nat_lt, List, sym, ap, subst, Option, Some, None}
-use Rattle.std.specs.List.{AllByRecursion}
-use Rattle.std.specs.Prelude.{flat_map, option_map, encode_utf8_all}
-use Rattle.std.proofs.lemmas.Bool.{and_from, le-ltb}
-use Rattle.rdf_terms.specs.declared.kind.Dialect.TheVariants.{Lines}
-use Rattle.rdf_terms.specs.Terms.{Quad, has_scheme}
-use Rattle.rdf_iri.specs.Texts.{byte_len}
-use Rattle.rdf_tokens.specs.Good.{tokens_of}
-use Rattle.rdf_tokens.specs.Grammars.{reading_of, IsReadToItsEnd}
+use Rattle.rdf_lines.proofs.Prelude.{◌≡◌, ℕ, ◌≤◌, true, false, not, nat_lt, List, sym, ap, subst, Option, Some, None, AllByRecursion, flat_map, option_map, encode_utf8_all, and_from, le-ltb, Lines, Quad, has_scheme, byte_len, tokens_of, reading_of, IsReadToItsEnd, LineForm, NQuads, Escapes, iri_of, Name, Ref, Lab, Object, Named, WithType, WithTag, Statement, last, next, subject_of, term_of, name_bound, object_bound, graph_bound, GoodStatement, GoodDocument, Begin, Finished, is_taken, in_lines, line_words, quad_text, ReadQuadsAreDue, DocumentsAreRead, RefusedIsNoDocument, TokensWithin, SubjectWithin, TermWithin, GraphWithin, IrisWithin}
 use Rattle.rdf_tokens.proofs.LanguageLemmas.{document_read, document_whole, read_to_its_end, refused_no_document}
 use Rattle.rdf_driver.proofs.PromiseLemmas.{read_goes_on}
-use Rattle.rdf_lines.specs.declared.form.LineForm.{LineForm}
-use Rattle.rdf_lines.specs.declared.form.LineForm.TheVariants.{NQuads}
-use Rattle.rdf_lines.specs.declared.form.Escapes.{Escapes}
-use Rattle.rdf_tokens.specs.Leaves.{iri_of}
-use Rattle.rdf_lines.specs.Lines.{Name, Ref, Lab, Object, Named, Plain, WithType, WithTag, Statement, Document as Tree, last, next, subject_of, term_of, quad_of}
-use Rattle.rdf_lines.specs.GoodTrees.{name_bound, object_bound, graph_bound, GoodStatement, GoodDocument}
+use Rattle.rdf_lines.specs.Lines.{Plain, Document as Tree, quad_of}
 use Rattle.rdf_lines.proofs.PlainQuads.{plain_quads}
 use Rattle.rdf_lines.specs.Lines as L
-use Rattle.rdf_lines.specs.Machine.{Begin, Finished, is_taken}
-use Rattle.rdf_lines.specs.Documents.{in_lines}
-use Rattle.rdf_lines.specs.Accepting.{line_words}
-use Rattle.rdf_lines.specs.Writing.{quad_text}
-use Rattle.rdf_lines.specs.Laws.{ReadQuadsAreDue, DocumentsAreRead, RefusedIsNoDocument, TokensWithin, SubjectWithin, TermWithin, GraphWithin, IrisWithin}
 use Rattle.rdf_lines.proofs.Runs.{run_document}
 use Rattle.rdf_lines.proofs.Refusals.{ran_none}
 use Rattle.rdf_lines.proofs.AcceptingLemmas.{lawful}

@@ -1,20 +1,9 @@
 -- In ASCII each byte that is written is below 128, where the labels have such characters alone.
-use Rattle.std.proofs.Common.{◌≡◌, ℕ, ◌<◌, ◌/◌, ◌%◌, zero, suc, Bool, true, false, List, [], ◌∷◌, ◌++◌, ◌==◌, nat_le, refl, sym, ap, ◌∙◌, subst, Option, Some, None, arith}
-use Rattle.std.specs.Prelude.{flat_map, encode_utf8_all, decimal, bytes_eq}
-use Rattle.std.specs.Fmt.{digits, digits_onto, digit_glyph}
-use Rattle.std.specs.List.{AllByRecursion}
-use Rattle.std.proofs.lemmas.Bool.{cond_both, and_from}
-use Rattle.std.proofs.lemmas.Bool.Decides.{nat_tests}
-use Rattle.std.proofs.lemmas.Str.{encode_ascii}
-use Rattle.std.proofs.Math.Utf8.{encodes, scalar, scalars}
+use Rattle.rdf_lines.proofs.Prelude.{◌≡◌, ℕ, ◌<◌, ◌/◌, ◌%◌, zero, suc, Bool, true, false, List, [], ◌∷◌, ◌++◌, ◌==◌, nat_le, refl, sym, ap, ◌∙◌, subst, Option, Some, None, arith, flat_map, encode_utf8_all, decimal, bytes_eq, digits_onto, digit_glyph, AllByRecursion, cond_both, and_from, nat_tests, encode_ascii, encodes, scalars, tag_name, Node, Label, Anon, Cell, Lang, Typed, Subject, Blank, Term, Resource, Literal, Quad, xsd_string, IsTag, IsTail, IsTerm, IsQuad, uses, all_used, Ascii, Kept, uchar, written, escaped, iri_text, node_text, subject_text, string_text, type_text, tail_text, term_text, space, graph_text, quad_text, Writable, HasAsciiLabel, HasAsciiLabels, SubjectHasAsciiLabel, TermHasAsciiLabel, GraphHasAsciiLabel}
+use Rattle.std.specs.Fmt.{digits}
+use Rattle.std.proofs.Math.Utf8.{scalar}
 use Rattle.rdf_terms.specs.Classes.{has}
-use Rattle.rdf_terms.specs.Shapes.{tag_name}
-use Rattle.rdf_terms.specs.Terms.{Node, Label, Anon, Cell, Tail, Lang, Typed, Subject, Iri, Blank, Term, Resource, Literal, Quad, xsd_string, IsTag, IsTail, IsTerm, IsQuad}
-use Rattle.rdf_terms.proofs.UsedCharacters.{uses, all_used}
-use Rattle.rdf_lines.specs.declared.form.Escapes.TheVariants.{Ascii}
-use Rattle.rdf_lines.specs.declared.form.Style.TheVariants.{Kept}
-use Rattle.rdf_lines.specs.Writing.{uchar, written, escaped, iri_text, node_text, subject_text, string_text, type_text, tail_text, term_text, space, graph_text, quad_text, Writable, HasAsciiLabel, HasAsciiLabels}
-use Rattle.rdf_lines.specs.NodeNames.{SubjectHasAsciiLabel, TermHasAsciiLabel, GraphHasAsciiLabel}
+use Rattle.rdf_terms.specs.Terms.{Tail, Iri}
 use Rattle.rdf_lines.proofs.UcharLemmas.{uchar_low}
 
 abbrev AllLow : List ℕ → Type 0

@@ -1,7 +1,5 @@
 -- Lines in memory that is used again: what they are once a slice of their bytes was written to.
-use Rattle.std.proofs.Common.{◌≡◌, ◌≤◌, ◌∙◌, ◌++◌, ℕ, List, length, take, drop, ap, sym, subst, arith}
-use Rattle.std.proofs.Math.Seq.{take-append_seam, take-length}
-use Rattle.std.proofs.lemmas.List.{length-take-le}
+use Rattle.rdf_lines.proofs.Prelude.{◌≡◌, ◌≤◌, ◌∙◌, ◌++◌, ℕ, List, length, take, drop, ap, sym, subst, arith, take-append_seam, take-length, length-take-le}
 
 -- the bytes are then those of the slice
 pub written_back : (n : ℕ) (new old items : List ℕ) → n ≡ length items → old ≡ items → length new ≡ length old →

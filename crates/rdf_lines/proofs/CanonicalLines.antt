@@ -1,28 +1,9 @@
 -- Lines as they are written are read, wherever a line may begin.
-use Rattle.std.proofs.Common.{◌≡◌, ℕ, ◌+◌, ◌≤◌, Bool, true, false, List, [], ◌∷◌, ◌++◌, refl, sym, ap, ◌∙◌, subst, length, Option, Some, None, arith, length-append}
-use Rattle.std.specs.Prelude.{flat_map, bytes_eq}
-use Rattle.std.specs.List.{AllByRecursion}
-use Rattle.std.specs.Str.{chars, IsUtf8}
-use Rattle.std.proofs.lemmas.Str.{chars-encodes}
-use Rattle.std.proofs.Math.Utf8.{scalars}
-use Rattle.rdf_terms.specs.declared.kind.Kind.TheVariants.{IriRef, Dot, LineEnd}
-use Rattle.rdf_terms.specs.Terms.{Lang, Typed, Subject, Iri, Blank, Term, Resource, Literal, Quad, xsd_string, has_scheme}
-use Rattle.rdf_tokens.specs.Tokens.{Place, Token, past, tokens, with_tokens}
-use Rattle.rdf_terms.specs.declared.kind.Dialect.TheVariants.{Lines}
-use Rattle.rdf_lines.specs.declared.form.LineForm.{LineForm}
-use Rattle.rdf_lines.specs.declared.form.LineForm.TheVariants.{NTriples, NQuads}
-use Rattle.rdf_lines.specs.declared.form.LineEnding.{LineEnding}
-use Rattle.rdf_lines.specs.declared.form.LineEnding.TheVariants.{Lf, CrLf}
+use Rattle.rdf_lines.proofs.Prelude.{◌≡◌, ℕ, ◌+◌, ◌≤◌, Bool, true, false, List, [], ◌∷◌, ◌++◌, refl, sym, ap, ◌∙◌, subst, length, Option, Some, None, arith, length-append, flat_map, bytes_eq, AllByRecursion, chars, IsUtf8, chars-encodes, scalars, IriRef, Dot, LineEnd, Lang, Typed, Subject, Blank, Term, Resource, Literal, Quad, xsd_string, has_scheme, Place, Token, past, tokens, with_tokens, Lines, LineForm, NTriples, NQuads, LineEnding, Lf, CrLf, Kept, Rules, statement_tokens, name_tokens, object_tokens, graph_tokens, graph_fits, GoodStatement, IrisWithin, Begin, AfterDot, ran, with_quad, run, is_taken, end_text, end_count, statement_text, ended_line, ended_lines, type_count, term_count, graph_count, quad_count, count, LabelFits, IsTaken, CanonicalLinesAreRead, rename_node, rename, quad_text, text}
+use Rattle.rdf_terms.specs.Terms.{Iri}
 use Rattle.rdf_lines.specs.declared.form.Escapes.TheVariants.{Plain}
-use Rattle.rdf_lines.specs.declared.form.Style.TheVariants.{Kept}
-use Rattle.rdf_lines.specs.declared.rules.Rules.{Rules}
 use Rattle.rdf_tokens.specs.Leaves.{token}
-use Rattle.rdf_lines.specs.Lines.{statement_tokens, name_tokens, object_tokens, graph_tokens, graph_fits, quad_of}
-use Rattle.rdf_lines.specs.GoodTrees.{GoodStatement}
-use Rattle.rdf_lines.specs.Laws.{IrisWithin}
-use Rattle.rdf_lines.specs.Machine.{Begin, AfterDot, ran, with_quad, run, is_taken}
-use Rattle.rdf_lines.specs.Canonical.{end_text, end_count, statement_text, ended_line, ended_lines, type_count, term_count, graph_count, quad_count, count, LabelFits, IsTaken, CanonicalLinesAreRead}
-use Rattle.rdf_lines.specs.Writing.{rename_node, rename, quad_text, text}
+use Rattle.rdf_lines.specs.Lines.{quad_of}
 use Rattle.rdf_lines.proofs.AcceptedLemmas.{statement_taken}
 use Rattle.rdf_lines.proofs.NodePrefixLemmas.{quad_same}
 use Rattle.rdf_lines.proofs.Complete.{run_statement}

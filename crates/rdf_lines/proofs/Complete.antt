@@ -1,18 +1,9 @@
 -- The machine accepts exactly the documents, and gives out their quads.
-use Rattle.std.proofs.Common.{◌≡◌, ℕ, Bool, true, List, [], ◌∷◌, ◌++◌, refl, ap, ◌∙◌, append_assoc, Option, Some, None}
-use Rattle.std.specs.Prelude.{option_map}
-use Rattle.std.proofs.lemmas.Bool.{cond-true}
-use Rattle.rdf_terms.specs.declared.kind.Kind.TheVariants.{IriRef, Dot, LineEnd, End}
-use Rattle.rdf_tokens.specs.Tokens.{Token}
-use Rattle.rdf_terms.specs.Terms.{Typed, Subject, Term, Literal, xsd_string}
-use Rattle.rdf_lines.specs.declared.form.LineForm.{LineForm}
-use Rattle.rdf_lines.specs.declared.form.LineForm.TheVariants.{NTriples, NQuads}
-use Rattle.rdf_tokens.specs.Leaves.{Leaf, token, iri_of}
-use Rattle.rdf_lines.specs.Lines.{Name, Ref, Lab, Object, Named, Plain, WithType, WithTag, Statement, Line, Document, last, next, name_tokens, object_tokens, graph_tokens, statement_tokens, line_tokens, document_tokens, string_of, subject_of, term_of, quad_of, graph_fits}
-use Rattle.rdf_lines.specs.GoodTrees.{name_bound, object_bound, graph_bound, GoodStatement, GoodDocument}
+use Rattle.rdf_lines.proofs.Prelude.{◌≡◌, ℕ, Bool, true, List, [], ◌∷◌, ◌++◌, refl, ap, ◌∙◌, append_assoc, Option, Some, None, option_map, cond-true, IriRef, Dot, LineEnd, End, Token, Typed, Subject, Term, Literal, xsd_string, LineForm, NTriples, NQuads, Leaf, iri_of, Name, Ref, Lab, Object, Named, WithType, WithTag, Statement, Line, Document, last, next, name_tokens, object_tokens, graph_tokens, statement_tokens, line_tokens, document_tokens, string_of, subject_of, term_of, graph_fits, name_bound, object_bound, graph_bound, GoodStatement, GoodDocument, Mode, Begin, AfterSubject, AfterPredicate, AfterString, AfterObject, AfterDot, Finished, goes, refuses, iri_refused, absolute, quad, Run, ran, with_quad, go_on, run}
+use Rattle.rdf_tokens.specs.Leaves.{token}
+use Rattle.rdf_lines.specs.Lines.{Plain, quad_of}
 use Rattle.rdf_lines.proofs.PlainQuads.{plain_quads}
 use Rattle.rdf_lines.specs.Lines as L
-use Rattle.rdf_lines.specs.Machine.{Mode, Begin, AfterSubject, AfterPredicate, AfterString, AfterObject, AfterDot, Finished, goes, refuses, iri_refused, absolute, quad, Run, ran, with_quad, go_on, run}
 
 -- Complete: the run over a tree's tokens.
 

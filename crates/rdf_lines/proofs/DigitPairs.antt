@@ -1,8 +1,7 @@
 -- The table has the two digits of each number below 100.
-use Rattle.std.proofs.Common.{◌≡◌, ℕ, zero, suc, ◌+◌, ◌-◌, ◌*◌, ◌/◌, ◌%◌, ◌<◌, Bool, true, ◌&&◌, T, eqb, [], ◌∷◌, get_or, inl, inr, arith, eq-zero-or-pos, eqb→eq}
+use Rattle.rdf_lines.proofs.Prelude.{◌≡◌, ℕ, zero, suc, ◌+◌, ◌-◌, ◌*◌, ◌/◌, ◌%◌, ◌<◌, Bool, true, ◌&&◌, T, eqb, [], ◌∷◌, get_or, inl, inr, arith, eq-zero-or-pos, eqb→eq, two_digits}
 use lib.Ieee.Fits.{and_l, and_r}
 use Rattle.rdf_lines.specs.declared.writer.digits.TheConstants.{PAIRS}
-use Rattle.rdf_lines.specs.Placing.{two_digits}
 
 -- it has those of each number below n
 abbrev are_pairs : ℕ → Bool

@@ -1,32 +1,8 @@
 -- A document of a line format is its lines: the tokens of each are those that are found there in the whole, and the machine begins anew after each.
-use Rattle.std.proofs.Common.{◌≡◌, ℕ, zero, suc, ◌+◌, ◌<◌, ◌≤◌, Bool, true, false, cond, List, [], ◌∷◌, ◌++◌, ◌==◌, ◌⊎◌, inl, inr, refl, sym, ap, ◌∙◌, subst, ⊎_elim, append_assoc, length, take, drop, get_or, not, arith, length-append}
-use Rattle.std.specs.Str.{chars, IsUtf8}
-use Rattle.std.specs.Str.Lossy.{utf8_valid_len}
-use Rattle.std.proofs.Math.Seq.{get_or-append_seam}
-use Rattle.std.proofs.Math.Utf8.{encode}
-use Rattle.std.proofs.lemmas.Bool.{cases_Bool, cases_lt, cond-true, cond-false, eqb-true, eq-eqb, and_from, le-ltb}
-use Rattle.std.proofs.lemmas.List.{append-nil, take_all, take_at, drop_at}
-use Rattle.std.proofs.lemmas.Str.{IsUtf8-take, IsUtf8-drop, IsUtf8-append, IsUtf8-nil, IsCharBoundary-before_ascii, IsCharBoundary-after_ascii, chars-append, chars-encodes, chars-nil, utf8_valid_len-IsUtf8}
-use Rattle.rdf_terms.specs.declared.kind.Dialect.TheVariants.{Lines}
-use Rattle.rdf_terms.specs.declared.kind.Kind.{Kind}
-use Rattle.rdf_terms.specs.declared.kind.Kind.TheVariants.{IriRef, LabelNode, ShortString, LangTag, Carets, Dot, LineEnd, End}
-use Rattle.rdf_terms.specs.Terms.{Subject, Term, Literal, Typed, Quad, xsd_string, has_scheme}
-use Rattle.rdf_tokens.specs.Tokens.{Place, past, Tail, Outcome, Token, Reading, Step, step, rest_of, place_of, tokens, with_tokens, end_tokens}
-use Rattle.rdf_tokens.specs.Tokens.Tail.{ended, broken}
-use Rattle.rdf_tokens.specs.Tokens.Step.{token, stop}
-use Rattle.rdf_tokens.specs.Tokens.Outcome.{complete, token_too_long}
-use Rattle.rdf_tokens.specs.Good.{first_place, good, tail_of, mark, has_byte_order_mark, tokens_of, most_bytes}
-use Rattle.rdf_tokens.specs.Leaves.{Leaf, leaf_of, iri_of}
-use Rattle.rdf_tokens.specs.Grammars.{PassesNone}
-use Rattle.rdf_tokens.proofs.TokensLemmas.{shorter, at_stop, at_token}
+use Rattle.rdf_lines.proofs.Prelude.{◌≡◌, ℕ, zero, suc, ◌+◌, ◌<◌, ◌≤◌, Bool, true, false, cond, List, [], ◌∷◌, ◌++◌, ◌==◌, ◌⊎◌, inl, inr, refl, sym, ap, ◌∙◌, subst, ⊎_elim, append_assoc, length, take, drop, get_or, not, arith, length-append, chars, IsUtf8, utf8_valid_len, get_or-append_seam, encode, cases_Bool, cases_lt, cond-true, cond-false, eqb-true, eq-eqb, and_from, le-ltb, append-nil, take_all, take_at, drop_at, IsUtf8-take, IsUtf8-drop, IsUtf8-append, IsUtf8-nil, IsCharBoundary-before_ascii, IsCharBoundary-after_ascii, chars-append, chars-encodes, chars-nil, utf8_valid_len-IsUtf8, Lines, Kind, IriRef, LabelNode, ShortString, LangTag, Carets, Dot, LineEnd, End, Subject, Term, Literal, Typed, Quad, xsd_string, has_scheme, Place, past, Outcome, Token, Reading, Step, step, rest_of, place_of, tokens, with_tokens, end_tokens, ended, broken, stop, complete, token_too_long, first_place, good, tail_of, mark, has_byte_order_mark, tokens_of, most_bytes, Leaf, leaf_of, iri_of, PassesNone, shorter, at_stop, at_token, good_front, byte_len, LineForm, NTriples, NQuads, Mode, Begin, AfterSubject, AfterPredicate, AfterString, AfterCarets, AfterObject, AfterGraph, AfterDot, Finished, Answer, goes, gives, refuses, is_taken, object_then, accept, Run, ran, refused, with_quad, go_on, run, in_lines, Passes, IsDocumentWithin}
+use Rattle.rdf_tokens.specs.Tokens.{Tail}
+use Rattle.rdf_tokens.specs.Tokens.Step.{token}
 use Rattle.rdf_tokens.proofs.LawLemmas.{by_steps, tokens_of-tokens}
-use Rattle.rdf_tokens.proofs.GoodLemmas.{good_front}
-use Rattle.rdf_iri.specs.Texts.{byte_len}
-use Rattle.rdf_lines.specs.declared.form.LineForm.{LineForm}
-use Rattle.rdf_lines.specs.declared.form.LineForm.TheVariants.{NTriples, NQuads}
-use Rattle.rdf_lines.specs.Machine.{Mode, Begin, AfterSubject, AfterPredicate, AfterString, AfterCarets, AfterObject, AfterGraph, AfterDot, Finished, Answer, goes, gives, refuses, is_taken, object_then, accept, Run, ran, refused, with_quad, go_on, run}
-use Rattle.rdf_lines.specs.Documents.{in_lines, Passes}
-use Rattle.rdf_lines.specs.SplitLines.{IsDocumentWithin}
 use Rattle.rdf_lines.proofs.EndLemmas.{LeadsInto, leads_into}
 use Rattle.rdf_lines.proofs.LineEnds.{IsEnd, at_end, step_complete, Through, line_read, end_read, mark_stops}
 use Rattle.rdf_lines.proofs.Runs.{with_quads, then, run_append, then_ran, run_document}

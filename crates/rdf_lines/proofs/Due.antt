@@ -1,22 +1,11 @@
 -- What a run over some tokens gives out is due: in each document that begins with them, the quads whose mark is below their number.
-use Rattle.std.proofs.Common.{◌≡◌, ℕ, zero, suc, ◌+◌, ◌-◌, ◌<◌, ◌≤◌, List, [], ◌∷◌, ◌++◌, refl, sym, ap, ◌∙◌, ⊎_elim, append_assoc, length, take, arith, length-append, zero-add, Option, Some, None}
-use Rattle.std.proofs.lemmas.Bool.{cond-true, cond-false, cases_lt, lt-ltb, le-ltb}
-use Rattle.std.proofs.lemmas.List.{take-append-le}
-use Rattle.std.proofs.Math.Seq.{take-append-add, take-nil, take-append_seam}
-use Rattle.std.specs.Prelude.{nat_lt}
-use Rattle.rdf_terms.specs.declared.kind.Kind.TheVariants.{IriRef, Dot, LineEnd, End}
-use Rattle.rdf_tokens.specs.Tokens.{Token}
-use Rattle.rdf_tokens.specs.Grammars.{Marked, items_below, Due, Rises}
+use Rattle.rdf_lines.proofs.Prelude.{◌≡◌, ℕ, zero, suc, ◌+◌, ◌-◌, ◌<◌, ◌≤◌, List, [], ◌∷◌, ◌++◌, refl, sym, ap, ◌∙◌, ⊎_elim, append_assoc, length, take, arith, length-append, zero-add, Option, Some, None, cond-true, cond-false, cases_lt, lt-ltb, le-ltb, take-append-le, take-append-add, take-nil, take-append_seam, nat_lt, IriRef, Dot, LineEnd, End, Token, Marked, items_below, Due, Rises, Quad, has_scheme, LineForm, Name, Ref, Lab, Object, Named, WithType, WithTag, Statement, Line, Document, last, next, name_tokens, object_tokens, graph_tokens, head_tokens, statement_tokens, line_tokens, document_tokens, line_quads, document_quads, documents, MarksNeverFall, Mode, Begin, ran, run}
 use Rattle.rdf_tokens.proofs.GrammarsLemmas.{rises_from}
-use Rattle.rdf_terms.specs.Terms.{Quad, has_scheme}
-use Rattle.rdf_lines.specs.declared.form.LineForm.{LineForm}
 use Rattle.rdf_tokens.specs.Leaves.{token}
-use Rattle.rdf_lines.specs.Lines.{Name, Ref, Lab, Object, Named, Plain, WithType, WithTag, Statement, Line, Document, last, next, name_tokens, object_tokens, graph_tokens, head_tokens, statement_tokens, line_tokens, document_tokens, quad_of, line_quads, document_quads, documents}
+use Rattle.rdf_lines.specs.Lines.{Plain, quad_of}
 use Rattle.rdf_lines.proofs.LinesLemmas.{document_good}
 use Rattle.rdf_lines.proofs.PlainQuads.{plain_quads}
 use Rattle.rdf_lines.specs.Lines as L
-use Rattle.rdf_lines.specs.Laws.{MarksNeverFall}
-use Rattle.rdf_lines.specs.Machine.{Mode, Begin, ran, run}
 use Rattle.rdf_lines.proofs.Lag.{is_dot, dots, given_dots}
 use Rattle.rdf_lines.proofs.Runs.{given_begin}
 use Rattle.rdf_lines.proofs.Viable.{viable_ran, ran_viable}

@@ -1,31 +1,14 @@
 -- The bytes of a line are those of its parts, one after the other.
-use Rattle.std.proofs.Common.{◌≡◌, ℕ, zero, suc, ◌<◌, ◌≤◌, ◌/◌, ◌%◌, false, List, [], ◌∷◌, ◌++◌, ◌==◌, refl, sym, ap, ◌∙◌, subst, ⊎_elim, Some, arith}
-use Rattle.std.specs.Prelude.{option_map, encode_utf8_all, decimal, bytes_eq, chars, IsUtf8}
-use Rattle.std.specs.Fmt.{digits, digits_onto, digit_glyph}
-use Rattle.std.specs.List.{AllByRecursion}
-use Rattle.std.proofs.Math.Utf8.{encode, encodes}
-use Rattle.std.proofs.lemmas.Bool.{cases_Bool, cases_lt, cond-true, cond-false, false_from_ne_true, false≢true}
-use Rattle.std.proofs.lemmas.Bool.Decides.{nat_tests}
-use Rattle.std.proofs.lemmas.Slice.Eq.{bytes_eq-Decides}
-use Rattle.std.proofs.lemmas.Str.{IsUtf8-had, encodes-append, encodes-chars, encode_ascii, encodes_same}
+use Rattle.rdf_lines.proofs.Prelude.{◌≡◌, ℕ, zero, suc, ◌<◌, ◌≤◌, ◌/◌, ◌%◌, false, List, [], ◌∷◌, ◌++◌, ◌==◌, refl, sym, ap, ◌∙◌, subst, ⊎_elim, Some, arith, option_map, encode_utf8_all, decimal, bytes_eq, chars, IsUtf8, digits_onto, digit_glyph, AllByRecursion, encode, encodes, cases_Bool, cases_lt, cond-true, cond-false, false_from_ne_true, false≢true, nat_tests, bytes_eq-Decides, IsUtf8-had, encodes-append, encodes-chars, encode_ascii, encodes_same, Node, Label, Anon, Cell, xsd_string, node_of, tail_by, subject_by, term_by, iri_chars, encode_two, encode_three, encode_four, Escapes, Style, Kept, Tagged, prefix_chars, Form, prefix_node, CanWriteNode, rename_node, iri_text, node_text, subject_text, string_text, tail_text, term_text, space, graph_text, name_subject, name_term, name_graph, IsNamed, node_bytes, subject_bytes, term_bytes, graph_bytes, line_bytes, string_bytes_of, tail_bytes}
+use Rattle.std.specs.Fmt.{digits}
 use Rattle.rdf_terms.specs.declared.views.NodeRef.{NodeRef}
 use Rattle.rdf_terms.specs.declared.views.NodeRef.TheVariants as node_ref
 use Rattle.rdf_terms.specs.declared.views.TailRef.{TailRef}
 use Rattle.rdf_terms.specs.declared.views.SubjectRef.{SubjectRef}
 use Rattle.rdf_terms.specs.declared.views.QuadRef.{QuadRef}
 use Rattle.rdf_terms.specs.declared.views.TagView.{TagView}
-use Rattle.rdf_terms.specs.Terms.{Node, Label, Anon, Cell, xsd_string}
-use Rattle.rdf_terms.specs.Views.{node_of, tail_by, subject_by, term_by, iri_chars}
-use Rattle.rdf_tokens.proofs.GoodLemmas.{encode_two, encode_three, encode_four}
-use Rattle.rdf_lines.specs.declared.form.Escapes.{Escapes}
-use Rattle.rdf_lines.specs.declared.form.Style.{Style}
-use Rattle.rdf_lines.specs.declared.form.Style.TheVariants.{Kept, Tagged}
 use Rattle.rdf_lines.specs.declared.prefix.NodePrefixView.{NodePrefixView}
-use Rattle.rdf_lines.specs.Forms.{prefix_chars}
-use Rattle.rdf_lines.specs.NodePrefixes.{Form, prefix_node}
-use Rattle.rdf_lines.specs.Writing.{CanWriteNode, rename_node, iri_text, node_text, subject_text, string_text, tail_text, term_text, space, graph_text}
-use Rattle.rdf_lines.specs.NodeNames.{name_subject, name_term, name_graph}
-use Rattle.rdf_lines.specs.WrittenBytes.{IsNamed, iri_bytes, node_bytes, subject_bytes, term_bytes, graph_bytes, line_bytes, string_bytes_of, tail_bytes}
+use Rattle.rdf_lines.specs.WrittenBytes.{iri_bytes}
 
 -- an ASCII character is its own byte
 pub low : (c : ℕ) (w : List ℕ) → c < 128 → encodes (c ∷ w) ≡ c ∷ encodes w

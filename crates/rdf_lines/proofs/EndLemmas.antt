@@ -1,14 +1,5 @@
 -- What the end does to a run.
-use Rattle.std.proofs.Common.{◌≡◌, ℕ, Bool, List, [], ◌∷◌, ◌++◌, ◌⊎◌, inl, inr, refl, sym, ap, ◌∙◌, subst, ⊎_elim}
-use Rattle.rdf_terms.specs.declared.kind.Kind.{Kind}
-use Rattle.rdf_terms.specs.declared.kind.Kind.TheVariants.{End}
-use Rattle.rdf_terms.specs.declared.reason.Reason.TheVariants.{Unexpected}
-use Rattle.rdf_terms.specs.Terms.{Quad}
-use Rattle.rdf_tokens.specs.Tokens.{Token}
-use Rattle.rdf_lines.specs.declared.form.LineForm.{LineForm}
-use Rattle.rdf_lines.specs.declared.form.LineForm.TheVariants.{NTriples, NQuads}
-use Rattle.rdf_tokens.specs.Leaves.{Leaf, leaf_of}
-use Rattle.rdf_lines.specs.Machine.{Mode, Begin, AfterString, AfterObject, AfterDot, Finished, goes, refuses, accept, ran, refused, go_on, run}
+use Rattle.rdf_lines.proofs.Prelude.{◌≡◌, ℕ, Bool, List, [], ◌∷◌, ◌++◌, ◌⊎◌, inl, inr, refl, sym, ap, ◌∙◌, subst, ⊎_elim, Kind, End, Unexpected, Quad, Token, LineForm, NTriples, NQuads, Leaf, leaf_of, Mode, Begin, AfterString, AfterObject, AfterDot, Finished, goes, refuses, accept, ran, refused, go_on, run}
 use Rattle.rdf_lines.proofs.Runs.{with_quads, run_one, then_ran, run_append}
 
 -- The end finishes a document, or is refused.

@@ -1,41 +1,10 @@
 -- Lines whose strings and IRIs may have any escapes are read.
-use Rattle.std.proofs.Common.{◌≡◌, ℕ, ◌+◌, ◌≤◌, true, false, List, [], ◌∷◌, ◌++◌, refl, sym, ap, ◌∙◌, subst, Option, Some, None, length, is_some, arith, length-append}
-use Rattle.std.specs.Prelude.{option_map, unwrap_or, encode_utf8_all}
-use Rattle.std.specs.Str.{chars}
-use Rattle.std.proofs.lemmas.Str.{chars-encodes, length-le-encodes, scalars-chars}
-use Rattle.std.proofs.Math.Utf8.{encodes, scalars}
-use Rattle.rdf_terms.specs.declared.kind.Dialect.TheVariants.{Lines}
-use Rattle.rdf_terms.specs.declared.kind.Kind.{Kind}
-use Rattle.rdf_terms.specs.declared.kind.Kind.TheVariants.{IriRef, LabelNode, ShortString, LangTag, Carets, Dot}
-use Rattle.rdf_terms.specs.Regex.{Matches}
-use Rattle.rdf_terms.specs.Shapes.{any_shape, kinds, is_live}
-use Rattle.rdf_terms.specs.Values.{is_fit, iri_value, string_value}
-use Rattle.rdf_terms.specs.Terms.{IsSubject, IsTail, IsTerm, IsGraph, Label, Anon, Cell, Tail, Lang, Typed, Subject, Iri, Blank, Term, Resource, Literal, Quad, xsd_string, has_scheme, IsIri, IsLabel, IsTag, IsQuad}
-use Rattle.rdf_terms.proofs.ShapesLemmas.{live-matches}
-use Rattle.std.proofs.lemmas.Bool.{cases_Bool}
-use Rattle.std.proofs.Common.{⊎_elim, inl, inr, drop}
-use Rattle.rdf_tokens.specs.Tokens.{Place, Token, past, tokens, with_tokens}
-use Rattle.rdf_tokens.specs.Leaves.{Leaf, token, iri_of}
-use Rattle.rdf_driver.specs.Readers.{Driven}
-use Rattle.rdf_driver.specs.Passing.{LeadsBack}
-use Rattle.rdf_lines.specs.declared.form.LineForm.{LineForm}
-use Rattle.rdf_lines.specs.declared.form.LineForm.TheVariants.{NTriples, NQuads}
-use Rattle.rdf_lines.specs.declared.form.LineEnding.{LineEnding}
-use Rattle.rdf_lines.specs.declared.form.LineEnding.TheVariants.{Lf, CrLf}
+use Rattle.rdf_lines.proofs.Prelude.{◌≡◌, ℕ, ◌+◌, ◌≤◌, true, false, List, [], ◌∷◌, ◌++◌, refl, sym, ap, ◌∙◌, subst, Option, Some, None, length, is_some, arith, length-append, option_map, unwrap_or, encode_utf8_all, chars, chars-encodes, length-le-encodes, scalars-chars, encodes, scalars, Lines, Kind, IriRef, LabelNode, ShortString, LangTag, Carets, Dot, Matches, any_shape, kinds, is_live, is_fit, iri_value, string_value, IsSubject, IsTail, IsTerm, IsGraph, Label, Anon, Cell, Lang, Typed, Subject, Blank, Term, Resource, Literal, Quad, xsd_string, has_scheme, IsIri, IsLabel, IsTag, IsQuad, live-matches, cases_Bool, ⊎_elim, inl, inr, drop, Place, Token, past, tokens, with_tokens, Leaf, iri_of, Driven, LeadsBack, LineForm, NTriples, NQuads, LineEnding, Lf, CrLf, Kept, Rules, LineAt, line_words, end_text, end_count, is_clear, IriSpelled, StringSpelled, NamedIri, NameStands, LabelSpelled, SubjectSpelled, Spaced, TagSpelled, TypeSpelled, TailSpelled, LiteralSpelled, TermSpelled, GraphSpelled, LineSpelled, Stands, IrisWithin, SubjectWithin, TailWithin, TermWithin, GraphWithin, Name, Ref, Lab, Object, Named, WithType, WithTag, Statement, name_tokens, object_tokens, graph_tokens, statement_tokens, string_of, subject_of, term_of, graph_fits, name_bound, object_bound, graph_bound, GoodStatement, Begin, ran, with_quad, run, is_taken, CanWrite, CanWriteSubject, CanWriteTerm, CanWriteGraph}
+use Rattle.rdf_terms.specs.Terms.{Tail, Iri}
+use Rattle.rdf_tokens.specs.Leaves.{token}
 use Rattle.rdf_lines.specs.declared.form.Escapes.TheVariants.{Plain}
-use Rattle.rdf_lines.specs.declared.form.Style.TheVariants.{Kept}
-use Rattle.rdf_lines.specs.declared.rules.Rules.{Rules}
-use Rattle.rdf_lines.specs.Accepting.{LineAt, line_words}
-use Rattle.rdf_lines.specs.Canonical.{end_text, end_count}
-use Rattle.rdf_lines.specs.Escaped.{is_clear, IriSpelled, StringSpelled, NamedIri, NameStands, LabelSpelled, SubjectSpelled, Spaced, TagSpelled, TypeSpelled, TailSpelled, LiteralSpelled, TermSpelled, GraphSpelled, LineSpelled}
-use Rattle.rdf_lines.specs.Fronts.{Stands}
-use Rattle.rdf_lines.specs.Laws.{IrisWithin, SubjectWithin, TailWithin, TermWithin, GraphWithin}
 use Rattle.rdf_lines.specs.Lines as L
-use Rattle.rdf_lines.specs.Lines.{Name, Ref, Lab, Object, Named, Plain as PlainString, WithType, WithTag, Statement, name_tokens, object_tokens, graph_tokens, statement_tokens, string_of, subject_of, term_of, quad_of, graph_fits}
-use Rattle.rdf_lines.specs.GoodTrees.{name_bound, object_bound, graph_bound, GoodStatement}
-use Rattle.rdf_lines.specs.Machine.{Begin, ran, with_quad, run, is_taken}
-use Rattle.rdf_lines.specs.Writing.{CanWrite}
-use Rattle.rdf_lines.specs.NodeNames.{CanWriteSubject, CanWriteTerm, CanWriteGraph}
+use Rattle.rdf_lines.specs.Lines.{Plain as PlainString, quad_of}
 use Rattle.rdf_lines.proofs.AcceptedLemmas.{statement_taken}
 use Rattle.rdf_lines.proofs.CanonicalLines.{end_tokens, end_counted, end_ran, end_short, spells_end}
 use Rattle.rdf_lines.proofs.Complete.{run_statement}

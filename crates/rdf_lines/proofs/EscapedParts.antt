@@ -1,17 +1,7 @@
 -- What the code finds in lines whose strings and IRIs may have any escapes.
-use Rattle.std.proofs.Common.{◌≡◌, ℕ, zero, suc, ◌+◌, ◌-◌, ◌<◌, ◌≤◌, Bool, true, false, ◌==◌, List, [], ◌∷◌, ◌++◌, refl, sym, ap, ◌∙◌, subst, ⊎_elim, append_assoc, Some, length, take, drop, get_or, arith, length-take}
-use Rattle.std.specs.Str.{chars, IsUtf8}
-use Rattle.std.proofs.Math.Utf8.{encodes}
-use Rattle.std.proofs.lemmas.Bool.{cases_Bool, cond-true, cond-false, false≢true, and_parts, and_from}
-use Rattle.std.proofs.lemmas.Str.{encodes-append, encodes-chars, scalars-chars}
+use Rattle.rdf_lines.proofs.Prelude.{◌≡◌, ℕ, zero, suc, ◌+◌, ◌-◌, ◌<◌, ◌≤◌, Bool, true, false, ◌==◌, List, [], ◌∷◌, ◌++◌, refl, sym, ap, ◌∙◌, subst, ⊎_elim, append_assoc, Some, length, take, drop, get_or, arith, length-take, chars, IsUtf8, encodes, cases_Bool, cond-true, cond-false, false≢true, and_parts, and_from, encodes-append, encodes-chars, scalars-chars, iri_char, all_have, has_scheme, IsRun, is_short_byte, iri_value, string_value, is_clear, IriSpelled, StringSpelled, IriStands}
 use Rattle.rdf_terms.specs.Classes.{has}
-use Rattle.rdf_terms.specs.Classes.Class.{iri_char}
-use Rattle.rdf_terms.specs.Terms.{all_have, has_scheme}
-use Rattle.rdf_terms.specs.Runs.{IsRun, is_short_byte}
-use Rattle.rdf_terms.specs.Values.{iri_value, string_value}
 use Rattle.rdf_lines.specs.declared.form.Escapes.TheVariants.{Plain}
-use Rattle.rdf_lines.specs.Escaped.{is_clear, IriSpelled, StringSpelled}
-use Rattle.rdf_lines.specs.Fronts.{IriStands}
 use Rattle.rdf_lines.proofs.EncodedLine.{low}
 use Rattle.rdf_lines.proofs.EscapedRuns.{each}
 use Rattle.rdf_lines.proofs.EscapedTokens.{plain_step}

@@ -1,28 +1,7 @@
 -- What passing a line with any escapes does to a reader.
-use Rattle.std.proofs.Common.{◌≡◌, ℕ, ◌+◌, ◌-◌, ◌≤◌, true, not, nat_le, ◌&&◌, List, [], ◌∷◌, ◌++◌, refl, sym, ap, ◌∙◌, subst, length, take, drop, append_assoc, arith, length-append, length-drop, length-take}
-use Rattle.std.specs.Prelude.{encode_utf8_all}
-use Rattle.std.proofs.Math.Seq.{take-append_seam}
-use Rattle.std.proofs.lemmas.Bool.{and_from}
-use Rattle.std.proofs.lemmas.Bool.Decides.{nat_tests}
-use Rattle.std.proofs.lemmas.List.{append-nil}
-use Rattle.std.proofs.lemmas.List.Concat.{flat_map-append}
-use Rattle.std.proofs.lemmas.Str.{encodes-append}
-use Rattle.rdf_terms.specs.Terms.{Quad}
+use Rattle.rdf_lines.proofs.Prelude.{◌≡◌, ℕ, ◌+◌, ◌-◌, ◌≤◌, true, not, nat_le, ◌&&◌, List, [], ◌∷◌, ◌++◌, refl, sym, ap, ◌∙◌, subst, length, take, drop, append_assoc, arith, length-append, length-drop, length-take, encode_utf8_all, take-append_seam, and_from, nat_tests, append-nil, flat_map-append, encodes-append, Quad, most_bytes, Driven, HasRead, can_pass, passed, LeadsBack, IsReadOn, can_pass-parts, LineEnding, Kept, Rules, LineAt, line_words, end_count, LineSpelled, PassesInto, Begin, line_in, unprefixed, Writable, line, text}
 use Rattle.rdf_tokens.specs.Passing.{is_idle}
-use Rattle.rdf_tokens.specs.Scans.{most_bytes}
-use Rattle.rdf_driver.specs.Readers.{Driven, HasRead}
-use Rattle.rdf_driver.specs.Passing.{can_pass, passed, LeadsBack, IsReadOn}
-use Rattle.rdf_driver.proofs.PassingLemmas.{can_pass-parts}
-use Rattle.rdf_lines.specs.declared.form.LineEnding.{LineEnding}
 use Rattle.rdf_lines.specs.declared.form.Escapes.TheVariants.{Plain}
-use Rattle.rdf_lines.specs.declared.form.Style.TheVariants.{Kept}
-use Rattle.rdf_lines.specs.declared.rules.Rules.{Rules}
-use Rattle.rdf_lines.specs.Accepting.{LineAt, line_words}
-use Rattle.rdf_lines.specs.Canonical.{end_count}
-use Rattle.rdf_lines.specs.Escaped.{LineSpelled, PassesInto}
-use Rattle.rdf_lines.specs.Machine.{Begin}
-use Rattle.rdf_lines.specs.NodePrefixes.{line_in, unprefixed}
-use Rattle.rdf_lines.specs.Writing.{Writable, line, text}
 use Rattle.rdf_lines.proofs.EscapedParts.{take_more, take_shorter}
 use Rattle.rdf_lines.proofs.EscapedLine.{line_formed, line_read}
 use Rattle.rdf_lines.proofs.NodePrefixLemmas.{line_unprefixed}

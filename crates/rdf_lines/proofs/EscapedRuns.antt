@@ -1,27 +1,10 @@
 -- A run stands as it is written, with the character after it.
-use Rattle.std.proofs.Common.{◌≡◌, ℕ, zero, suc, ◌<◌, ◌≤◌, Bool, true, false, List, [], ◌∷◌, ◌++◌, refl, sym, ap, ◌∙◌, subst, ⊎_elim, length, take, drop, get_or, arith}
-use Rattle.std.specs.Prelude.{flat_map}
-use Rattle.std.specs.Str.{chars, IsUtf8, IsCharBoundary, encode_utf8_all}
-use Rattle.std.specs.List.{AllByRecursion}
-use Rattle.std.proofs.Math.Utf8.{encode, encodes}
+use Rattle.rdf_lines.proofs.Prelude.{◌≡◌, ℕ, zero, suc, ◌<◌, ◌≤◌, Bool, true, false, List, [], ◌∷◌, ◌++◌, refl, sym, ap, ◌∙◌, subst, ⊎_elim, length, take, drop, get_or, arith, flat_map, chars, IsUtf8, IsCharBoundary, encode_utf8_all, AllByRecursion, encode, encodes, and_parts, and_from, cases_lt, nat_tests, take-append-drop, flat_map-append, IsUtf8-had, IsUtf8-take, IsCharBoundary-end, IsCharBoundary-before_ascii, IsCharBoundary-from_take, encodes-append, encodes-chars, chars-append, chars-nil, chars_past_char, length-encode, len_utf8_bounds, iri_char, IsRun, goes_over, is_short_byte, is_ascii_byte, is_ascii_quote_byte, all_have, iri_chars, encode_one, Escapes, Ascii, escaped, written, escaped_bytes, run_of}
 use Rattle.std.proofs.Math.Logic.{∥∥₁_elim}
 use mathlib.Core.Bool.{Bool-set}
-use Rattle.std.proofs.lemmas.Bool.{and_parts, and_from, cases_lt}
-use Rattle.std.proofs.lemmas.Bool.Decides.{nat_tests}
-use Rattle.std.proofs.lemmas.List.{take-append-drop}
-use Rattle.std.proofs.lemmas.List.Concat.{flat_map-append}
-use Rattle.std.proofs.lemmas.Str.{IsUtf8-had, IsUtf8-take, IsCharBoundary-end, IsCharBoundary-before_ascii, IsCharBoundary-from_take, encodes-append, encodes-chars, chars-append, chars-nil, chars_past_char, length-encode, len_utf8_bounds}
 use Rattle.rdf_terms.specs.declared.views.IriView.{IriView}
 use Rattle.rdf_terms.specs.Classes.{has}
-use Rattle.rdf_terms.specs.Classes.Class.{iri_char}
-use Rattle.rdf_terms.specs.Runs.{IsRun, goes_over, is_short_byte, is_ascii_byte, is_ascii_quote_byte}
-use Rattle.rdf_terms.specs.Terms.{all_have}
-use Rattle.rdf_terms.specs.Views.{iri_chars}
-use Rattle.rdf_tokens.proofs.GoodLemmas.{encode_one}
-use Rattle.rdf_lines.specs.declared.form.Escapes.{Escapes}
-use Rattle.rdf_lines.specs.declared.form.Escapes.TheVariants.{Plain, Ascii}
-use Rattle.rdf_lines.specs.Writing.{escaped, written}
-use Rattle.rdf_lines.specs.WrittenBytes.{escaped_bytes, run_of}
+use Rattle.rdf_lines.specs.declared.form.Escapes.TheVariants.{Plain}
 use Rattle.rdf_lines.proofs.AsciiLemmas.{low_encodes, low_scalars}
 use Rattle.rdf_lines.proofs.EncodedLine.{high_bytes}
 

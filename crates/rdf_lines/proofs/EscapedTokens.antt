@@ -1,27 +1,11 @@
 -- IRIs and strings with any escapes are tokens.
-use Rattle.std.proofs.Common.{◌≡◌, ◌≢◌, ℕ, zero, suc, ◌<◌, ◌≤◌, Bool, true, false, ◌&&◌, ◌==◌, List, [], ◌∷◌, ◌++◌, inl, inr, refl, sym, ap, ◌∙◌, subst, ⊎_elim, append_assoc, Some, length, arith}
-use Rattle.std.specs.List.{AllByRecursion, concat}
-use Rattle.std.specs.Str.{chars, IsUtf8}
-use Rattle.std.proofs.Math.Utf8.{encode, encodes, scalars}
+use Rattle.rdf_lines.proofs.Prelude.{◌≡◌, ◌≢◌, ℕ, zero, suc, ◌<◌, ◌≤◌, Bool, true, false, ◌&&◌, ◌==◌, List, [], ◌∷◌, ◌++◌, inl, inr, refl, sym, ap, ◌∙◌, subst, ⊎_elim, append_assoc, Some, length, arith, AllByRecursion, concat, chars, IsUtf8, encode, encodes, scalars, cases_Bool, cases_lt, cond-true, cond-false, false≢true, and_parts, and_from, eqb-true, nat_tests, encodes-chars, length-encode, len_utf8_bounds, the, hex_digit, iri_char, plain_double, escape_letter, Lines, IriRef, ShortString, Regex, Matches, many, is_short_byte, shape, echar, hex, Inside, of_string, of_iri, IsRow, letters, IsPiece, IsNumberEscape, Means, all_have, iri_value, string_value, encode_one, is_clear}
 use Rattle.std.proofs.Math.Utf8.{scalar as utf8_scalar}
-use Rattle.std.proofs.lemmas.Bool.{cases_Bool, cases_lt, cond-true, cond-false, false≢true, and_parts, and_from, eqb-true}
-use Rattle.std.proofs.lemmas.Bool.Decides.{nat_tests}
-use Rattle.std.proofs.lemmas.Str.{encodes-chars, length-encode, len_utf8_bounds}
 use Rattle.rdf_terms.specs.Classes.{has}
-use Rattle.rdf_terms.specs.Classes.Class.{the, hex_digit, iri_char, plain_double, escape_letter}
-use Rattle.rdf_terms.specs.declared.kind.Dialect.TheVariants.{Lines}
-use Rattle.rdf_terms.specs.declared.kind.Kind.TheVariants.{IriRef, ShortString}
-use Rattle.rdf_terms.specs.Regex.{Regex, Matches, ◌·◌, ◌∣◌}
-use Rattle.rdf_terms.specs.Regex.Regex.{one, many}
-use Rattle.rdf_terms.specs.Runs.{is_short_byte}
-use Rattle.rdf_terms.specs.Shapes.{shape, echar, hex}
+use Rattle.rdf_terms.specs.Regex.{◌·◌, ◌∣◌}
+use Rattle.rdf_terms.specs.Regex.Regex.{one}
 use Rattle.rdf_terms.specs.Shapes as shapes
-use Rattle.rdf_terms.specs.Pieces.{Inside, of_string, of_iri, IsRow, letters, IsPiece, IsNumberEscape, Means}
-use Rattle.rdf_terms.specs.Terms.{all_have}
-use Rattle.rdf_terms.specs.Values.{iri_value, string_value}
 use Rattle.rdf_terms.proofs.PiecesLemmas.{iri_means, string_means}
-use Rattle.rdf_tokens.proofs.GoodLemmas.{encode_one}
-use Rattle.rdf_lines.specs.Escaped.{is_clear}
 use Rattle.rdf_lines.proofs.EncodedLine.{high_bytes}
 
 -- texts of pieces

@@ -1,20 +1,7 @@
 -- What is written with a word in front of the names reads back, with a token limit that is higher by the word's length.
-use Rattle.std.proofs.Common.{◌≡◌, ℕ, ◌≤◌, ◌<◌, ◌+◌, List, [], ◌∷◌, ◌++◌, length, refl, sym, ap, ◌∙◌, subst, Option, Some, None, arith, length-append}
-use Rattle.std.specs.Prelude.{map, flat_map, encode_utf8_all}
-use Rattle.std.specs.List.{AllByRecursion}
-use Rattle.std.proofs.lemmas.List.Concat.{flat_map-append}
-use Rattle.std.proofs.lemmas.Str.{encodes-append}
-use Rattle.rdf_terms.specs.Terms.{Node, Label, Anon, Cell, Tail, Lang, Typed, Subject, Iri, Blank, Term, Resource, Literal, Quad, IsNode, IsSubject, IsTerm, IsGraph, IsQuad}
-use Rattle.rdf_tokens.specs.Grammars.{IsDocumentOf, IsReadToItsEnd}
-use Rattle.rdf_lines.specs.declared.form.LineForm.TheVariants.{NQuads}
-use Rattle.rdf_lines.specs.declared.form.Escapes.{Escapes}
-use Rattle.rdf_lines.specs.declared.form.Escapes.TheVariants.{Ascii}
-use Rattle.rdf_lines.specs.declared.form.Style.TheVariants.{Kept}
-use Rattle.rdf_lines.specs.Documents.{in_lines}
-use Rattle.rdf_lines.specs.Writing.{OfSubject, OfTerm, OfGraph, AllNodes, CanWriteNode, Writable, rename, subject_text, quad_text, HasAsciiLabel, HasAsciiLabels}
-use Rattle.rdf_lines.specs.NodePrefixes.{IsNodePrefix, put_prefix, Form, named, line_in, text_in}
-use Rattle.rdf_lines.specs.NodeNames.{prefix_subject, prefix_term, prefix_graph, name_node, name_subject, name_term, name_graph}
-use Rattle.rdf_lines.specs.Laws.{SubjectWithin, TermWithin, GraphWithin, IrisWithin, TailShort, TermShort, GraphShort, TokensWithin, WrittenTextReadsBack, WrittenTextIsRead, AsciiIsWritten, JoinedTextsReadBack}
+use Rattle.rdf_lines.proofs.Prelude.{◌≡◌, ℕ, ◌≤◌, ◌<◌, ◌+◌, List, [], ◌∷◌, ◌++◌, length, refl, sym, ap, ◌∙◌, subst, Option, Some, None, arith, length-append, map, flat_map, encode_utf8_all, AllByRecursion, flat_map-append, encodes-append, Node, Label, Anon, Cell, Lang, Typed, Subject, Blank, Term, Resource, Literal, Quad, IsNode, IsSubject, IsTerm, IsGraph, IsQuad, IsDocumentOf, IsReadToItsEnd, NQuads, Escapes, Ascii, Kept, in_lines, OfSubject, OfTerm, OfGraph, AllNodes, CanWriteNode, Writable, rename, subject_text, quad_text, HasAsciiLabel, HasAsciiLabels, IsNodePrefix, put_prefix, Form, named, line_in, prefix_subject, prefix_term, prefix_graph, name_node, name_subject, name_term, name_graph, SubjectWithin, TermWithin, GraphWithin, IrisWithin, TailShort, TermShort, GraphShort, TokensWithin, WrittenTextReadsBack, WrittenTextIsRead, AsciiIsWritten, JoinedTextsReadBack}
+use Rattle.rdf_terms.specs.Terms.{Tail, Iri}
+use Rattle.rdf_lines.specs.NodePrefixes.{text_in}
 use Rattle.rdf_lines.proofs.NodePrefixLemmas.{named_node, named_label, named_low}
 use Rattle.rdf_lines.proofs.AsciiLemmas.{ascii_written}
 use Rattle.rdf_lines.proofs.ReadBack.{quads_read_back}

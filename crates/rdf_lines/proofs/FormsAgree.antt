@@ -1,16 +1,7 @@
 -- Where what the plain form writes is ASCII, no character is escaped in ASCII.
-use Rattle.std.proofs.Common.{◌≡◌, ℕ, ◌<◌, ◌≤◌, Bool, true, false, List, [], ◌∷◌, ◌++◌, refl, ap, ◌∙◌, subst, ⊎_elim, length, Option, Some, None, arith}
-use Rattle.std.specs.Prelude.{flat_map, bytes_eq}
-use Rattle.std.specs.List.{AllByRecursion}
-use Rattle.std.proofs.lemmas.Bool.{cases_lt}
-use Rattle.std.proofs.lemmas.Bool.Decides.{nat_tests}
-use Rattle.std.proofs.lemmas.Str.{length-encode, len_utf8_bounds}
-use Rattle.std.proofs.Math.Utf8.{encode, encodes}
-use Rattle.rdf_terms.specs.Terms.{Tail, Lang, Typed, Subject, Iri, Blank, Term, Resource, Literal, Quad, xsd_string}
-use Rattle.rdf_lines.specs.declared.form.Escapes.TheVariants.{Plain, Ascii}
-use Rattle.rdf_lines.specs.Writing.{written, escaped, iri_text, subject_text, string_text, type_text, tail_text, term_text, space, graph_text, quad_text}
-use Rattle.rdf_lines.specs.NodePrefixes.{Form, named, line_in}
-use Rattle.rdf_lines.specs.Laws.{FormsAgreeOnAscii}
+use Rattle.rdf_lines.proofs.Prelude.{◌≡◌, ℕ, ◌<◌, ◌≤◌, Bool, true, false, List, [], ◌∷◌, ◌++◌, refl, ap, ◌∙◌, subst, ⊎_elim, length, Option, Some, None, arith, flat_map, bytes_eq, AllByRecursion, cases_lt, nat_tests, length-encode, len_utf8_bounds, encode, encodes, Lang, Typed, Subject, Blank, Term, Resource, Literal, Quad, xsd_string, Ascii, written, escaped, iri_text, subject_text, string_text, type_text, tail_text, term_text, space, graph_text, quad_text, Form, named, line_in, FormsAgreeOnAscii}
+use Rattle.rdf_terms.specs.Terms.{Tail, Iri}
+use Rattle.rdf_lines.specs.declared.form.Escapes.TheVariants.{Plain}
 use Rattle.rdf_lines.proofs.EncodedLine.{high_bytes}
 use Rattle.rdf_lines.proofs.PlainRuns.{plain_high}
 

@@ -1,31 +1,11 @@
 -- What stands at the front of some bytes, put together from its parts.
-use Rattle.std.proofs.Common.{◌≡◌, ℕ, ◌+◌, ◌-◌, ◌<◌, ◌≤◌, ◌⊎◌, Bool, true, false, List, [], ◌∷◌, ◌++◌, refl, sym, ap, ◌∙◌, subst, ⊎_elim, length, take, get_or, append_assoc, Option, Some, None, arith, length-append}
-use Rattle.std.specs.Prelude.{flat_map, IfSome, bytes_eq, encode_utf8_all, chars, IsUtf8}
-use Rattle.std.specs.List.{AllByRecursion}
-use Rattle.std.proofs.Math.Seq.{take-append_seam}
-use Rattle.std.proofs.lemmas.List.{append-nil, length-take-le, get_or-take}
-use Rattle.std.proofs.lemmas.List.Concat.{flat_map-append}
-use Rattle.std.proofs.lemmas.Bool.{and_parts, and_from, eq-eqb}
-use Rattle.std.proofs.lemmas.Bool.Decides.{nat_tests}
-use Rattle.std.proofs.lemmas.Slice.Eq.{bytes_eq-Decides}
-use Rattle.std.proofs.lemmas.Str.{IsUtf8-take, encodes-append, encodes-chars, length-le-encodes, scalars-chars}
+use Rattle.rdf_lines.proofs.Prelude.{◌≡◌, ℕ, ◌+◌, ◌-◌, ◌<◌, ◌≤◌, ◌⊎◌, Bool, true, false, List, [], ◌∷◌, ◌++◌, refl, sym, ap, ◌∙◌, subst, ⊎_elim, length, take, get_or, append_assoc, Option, Some, None, arith, length-append, flat_map, IfSome, bytes_eq, encode_utf8_all, chars, IsUtf8, AllByRecursion, take-append_seam, append-nil, length-take-le, get_or-take, flat_map-append, and_parts, and_from, eq-eqb, nat_tests, bytes_eq-Decides, IsUtf8-take, encodes-append, encodes-chars, length-le-encodes, scalars-chars, scalars, iri_char, Label, Lang, Typed, Subject, Blank, Term, Resource, Literal, Quad, xsd_string, all_have, has_scheme, IsIri, IsLabel, IsTag, LineForm, NTriples, NQuads, LineEnding, Lf, CrLf, end_text, end_count, statement_text, ended_line, ended_lines, type_count, term_count, graph_count, quad_count, count, LabelFits, IsTaken, Stands, IriStands, LabelStands, TagStands, StringStands, SubjectStands, PredicateStands, TailStands, ObjectStands, GraphStands, LineStands, LinesStand, AreLines, CharactersStand, EscapeStands, TermShort, TailShort, GraphShort, TokensWithin, written, escaped, iri_text, subject_text, string_text, type_text, tail_text, term_text, space, graph_text, iri_byte, is_short_byte, IsRun}
 use Rattle.std.proofs.Math.Utf8 as Utf8
-use Rattle.std.proofs.Math.Utf8.{scalars}
 use Rattle.rdf_terms.specs.Classes.{has, scalar}
-use Rattle.rdf_terms.specs.Classes.Class.{iri_char}
-use Rattle.rdf_terms.specs.Terms.{Label, Tail, Lang, Typed, Subject, Iri, Blank, Term, Resource, Literal, Quad, xsd_string, all_have, has_scheme, IsIri, IsLabel, IsTag}
+use Rattle.rdf_terms.specs.Terms.{Tail, Iri}
 pub use Rattle.rdf_iri.proofs.RootLemmas.{front-slice as front_slice}
 pub use Rattle.rdf_iri.proofs.IriKept.{all_have-append as have_both}
-use Rattle.rdf_lines.specs.declared.form.LineForm.{LineForm}
-use Rattle.rdf_lines.specs.declared.form.LineForm.TheVariants.{NTriples, NQuads}
-use Rattle.rdf_lines.specs.declared.form.LineEnding.{LineEnding}
-use Rattle.rdf_lines.specs.declared.form.LineEnding.TheVariants.{Lf, CrLf}
 use Rattle.rdf_lines.specs.declared.form.Escapes.TheVariants.{Plain}
-use Rattle.rdf_lines.specs.Canonical.{end_text, end_count, statement_text, ended_line, ended_lines, type_count, term_count, graph_count, quad_count, count, LabelFits, IsTaken}
-use Rattle.rdf_lines.specs.Fronts.{Stands, IriStands, LabelStands, TagStands, StringStands, SubjectStands, PredicateStands, TailStands, ObjectStands, GraphStands, LineStands, LinesStand, AreLines, CharactersStand, EscapeStands}
-use Rattle.rdf_lines.specs.Laws.{TermShort, TailShort, GraphShort, TokensWithin}
-use Rattle.rdf_lines.specs.Writing.{written, escaped, iri_text, subject_text, string_text, type_text, tail_text, term_text, space, graph_text}
-use Rattle.rdf_terms.specs.Runs.{iri_byte, is_short_byte, IsRun}
 use Rattle.rdf_terms.proofs.IriBytes.{iri_bytes}
 use Rattle.rdf_terms.proofs.RunsLemmas.{run_decides}
 use Rattle.rdf_lines.proofs.EscapedRuns.{each, run_cut}

@@ -1,14 +1,5 @@
 -- A quad is given exactly where the mode says so.
-use Rattle.std.proofs.Common.{◌≡◌, ℕ, Bool, true, false, List, refl}
-use Rattle.std.proofs.lemmas.Bool.{cond_both}
-use Rattle.rdf_terms.specs.declared.kind.Kind.{Kind}
-use Rattle.rdf_terms.specs.declared.kind.Kind.TheVariants.{IriRef, LabelNode, ShortString, LangTag, Carets, Dot, LineEnd, End}
-use Rattle.rdf_terms.specs.Terms.{Subject, Term, Literal, Typed, xsd_string}
-use Rattle.rdf_lines.specs.declared.form.LineForm.{LineForm}
-use Rattle.rdf_lines.specs.declared.form.LineForm.TheVariants.{NQuads}
-use Rattle.rdf_tokens.specs.Leaves.{Leaf, iri_of}
-use Rattle.rdf_lines.specs.Machine.{Mode, Begin, AfterSubject, AfterPredicate, AfterString, AfterCarets, AfterObject, AfterGraph, AfterDot, Answer, goes, gives, refuses, iri_refused, absolute, object_then, accept}
-use Rattle.rdf_lines.specs.States.{gave}
+use Rattle.rdf_lines.proofs.Prelude.{◌≡◌, ℕ, Bool, true, false, List, refl, cond_both, Kind, IriRef, LabelNode, ShortString, LangTag, Carets, Dot, LineEnd, End, Subject, Term, Literal, Typed, xsd_string, LineForm, NQuads, Leaf, iri_of, Mode, Begin, AfterSubject, AfterPredicate, AfterString, AfterCarets, AfterObject, AfterGraph, AfterDot, Answer, goes, gives, refuses, iri_refused, absolute, object_then, accept, gave}
 
 -- A quad is given exactly where the mode after it is that of a dot.
 abbrev pub GaveRight : Answer → Type 0

@@ -1,7 +1,5 @@
 -- How many bytes the texts have that tokens spell.
-use Rattle.std.proofs.Common.{◌≡◌, ℕ, ◌*◌, ◌≤◌, List, length, drop, ap, arith}
-use Rattle.std.proofs.lemmas.List.{length-drop}
-use Rattle.rdf_iri.specs.Texts.{byte_len}
+use Rattle.rdf_lines.proofs.Prelude.{◌≡◌, ℕ, ◌*◌, ◌≤◌, List, length, drop, ap, arith, length-drop, byte_len}
 use Rattle.rdf_terms.proofs.CharsLemmas.{few_bytes}
 
 -- what is left of a token without some characters at its front has at most four bytes for each of the token's

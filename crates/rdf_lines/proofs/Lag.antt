@@ -1,14 +1,5 @@
 -- A quad is given out at its statement's dot, and at no other token.
-use Rattle.std.proofs.Common.{◌≡◌, ℕ, ◌+◌, Bool, List, [], ◌∷◌, refl, sym, ap, ◌∙◌, length, arith}
-use Rattle.std.proofs.lemmas.Bool.{cond_both}
-use Rattle.rdf_terms.specs.declared.kind.Kind.{Kind}
-use Rattle.rdf_terms.specs.declared.kind.Kind.TheVariants.{IriRef, LabelNode, ShortString, LangTag, Carets, Dot, LineEnd, End}
-use Rattle.rdf_tokens.specs.Tokens.{Token}
-use Rattle.rdf_terms.specs.Terms.{Subject, Term, Literal, Typed, Quad, xsd_string}
-use Rattle.rdf_lines.specs.declared.form.LineForm.{LineForm}
-use Rattle.rdf_lines.specs.declared.form.LineForm.TheVariants.{NQuads}
-use Rattle.rdf_tokens.specs.Leaves.{Leaf, leaf_of, iri_of}
-use Rattle.rdf_lines.specs.Machine.{Mode, Begin, AfterSubject, AfterPredicate, AfterString, AfterCarets, AfterObject, AfterGraph, AfterDot, Answer, goes, gives, refuses, iri_refused, absolute, object_then, accept, ran, refused, go_on, run}
+use Rattle.rdf_lines.proofs.Prelude.{◌≡◌, ℕ, ◌+◌, Bool, List, [], ◌∷◌, refl, sym, ap, ◌∙◌, length, arith, cond_both, Kind, IriRef, LabelNode, ShortString, LangTag, Carets, Dot, LineEnd, End, Token, Subject, Term, Literal, Typed, Quad, xsd_string, LineForm, NQuads, Leaf, leaf_of, iri_of, Mode, Begin, AfterSubject, AfterPredicate, AfterString, AfterCarets, AfterObject, AfterGraph, AfterDot, Answer, goes, gives, refuses, iri_refused, absolute, object_then, accept, ran, refused, go_on, run}
 use Rattle.rdf_lines.proofs.Sound.{quad_first}
 
 -- a dot counts one

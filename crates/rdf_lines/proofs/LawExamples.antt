@@ -1,40 +1,13 @@
 -- The laws at two quads that have each kind of node, a string with characters that are escaped, and a graph label; and at a document of one line.
-use Rattle.std.proofs.Common.{◌≡◌, ◌≢◌, ℕ, ◌<◌, true, false, List, [], ◌∷◌, ◌++◌, refl, sym, ◌∙◌, subst, Some, None, inl, inr, arith, lit<, lit≤}
-use Rattle.std.specs.Prelude.{codes, map, encode_utf8_all}
-use Rattle.std.specs.List.{AllByRecursion}
-use Rattle.std.proofs.Math.Utf8.{encode}
-use Rattle.std.specs.Str.{chars, is_utf8}
-use Rattle.std.specs.Str.Lossy.{utf8_valid_len, utf8_error_len}
+use Rattle.rdf_lines.proofs.Prelude.{◌≡◌, ◌≢◌, ℕ, ◌<◌, true, false, List, [], ◌∷◌, ◌++◌, refl, sym, ◌∙◌, subst, Some, None, inl, inr, arith, lit<, lit≤, codes, map, encode_utf8_all, AllByRecursion, encode, chars, is_utf8, utf8_valid_len, utf8_error_len, Lines, Kind, IriRef, Dot, LineEnd, Reason, label_name, tag_name, shape, kind_of, is_live, is_fit, Label, Anon, Cell, Lang, Blank, Resource, Literal, Quad, IsIri, IsLabel, IsTag, has_scheme, Place, Token, step, read, tokens, complete, token_too_long, no_token, tokens_of, Marked, unmarked, Due, IsDocumentOf, IsWithin, GoesOn, Refused, IsReadToItsEnd, Driven, HasRead, NTriples, NQuads, form-matches, Ascii, Kept, Tagged, Leaf, Ref, Named, Document, last, next, document_tokens, documents, trees, Begin, ran, run, in_lines, split_lines, IsDocumentWithin, IsGoodLine, IsBadLine, AreGoodLines, LineAt, line_words, Writable, rename, text, Form, unprefixed, named, name_node, ReadsBack, IrisWithin, TokensWithin}
 use Rattle.std.specs.Fmt.{digits}
-use Rattle.rdf_terms.specs.declared.kind.Dialect.TheVariants.{Lines}
-use Rattle.rdf_terms.specs.declared.kind.Kind.{Kind}
-use Rattle.rdf_terms.specs.declared.kind.Kind.TheVariants.{IriRef, Dot, LineEnd}
-use Rattle.rdf_terms.specs.declared.reason.Reason.{Reason}
 use Rattle.rdf_terms.specs.Classes.{has}
-use Rattle.rdf_terms.specs.Shapes.{label_name, tag_name, shape, kind_of, is_live}
-use Rattle.rdf_terms.specs.Values.{is_fit}
-use Rattle.rdf_terms.specs.Terms.{Label, Anon, Cell, Lang, Iri, Blank, Resource, Literal, Quad, IsIri, IsLabel, IsTag, has_scheme}
-use Rattle.rdf_tokens.specs.Tokens.{Place, Token, step, read, tokens}
-use Rattle.rdf_tokens.specs.Tokens.Outcome.{complete, token_too_long, no_token}
-use Rattle.rdf_tokens.specs.Good.{tokens_of}
-use Rattle.rdf_tokens.specs.Grammars.{Marked, unmarked, Due, IsDocumentOf, IsWithin, GoesOn, Refused, IsReadToItsEnd}
-use Rattle.rdf_driver.specs.Readers.{Driven, HasRead}
-use Rattle.rdf_lines.specs.declared.form.LineForm.TheVariants.{NTriples, NQuads}
-use Rattle.rdf_terms.proofs.ShapesLemmas.{form-matches}
-use Rattle.rdf_lines.specs.declared.form.Escapes.TheVariants.{Plain, Ascii}
-use Rattle.rdf_lines.specs.declared.form.Style.TheVariants.{Kept, Tagged}
-use Rattle.rdf_tokens.specs.Leaves.{Leaf}
-use Rattle.rdf_lines.specs.Lines.{Ref, Named, Document, last, next, empty, one, document_tokens, documents, trees}
-use Rattle.rdf_lines.specs.Machine.{Begin, ran, run}
-use Rattle.rdf_lines.specs.Documents.{in_lines}
-use Rattle.rdf_lines.specs.SplitLines.{split_lines, IsDocumentWithin, IsGoodLine, IsBadLine, AreGoodLines}
+use Rattle.rdf_terms.specs.Terms.{Iri}
+use Rattle.rdf_lines.specs.declared.form.Escapes.TheVariants.{Plain}
+use Rattle.rdf_lines.specs.Lines.{empty, one}
 use Rattle.rdf_lines.proofs.DocumentLines.{run_accepted}
 use Rattle.rdf_lines.proofs.SplitLemmas.{documents_lines, good_read}
-use Rattle.rdf_lines.specs.Accepting.{LineAt, line_words}
-use Rattle.rdf_lines.specs.Writing.{Writable, rename, text}
-use Rattle.rdf_lines.specs.NodePrefixes.{Form, unprefixed, named, text_in}
-use Rattle.rdf_lines.specs.NodeNames.{name_node}
-use Rattle.rdf_lines.specs.Laws.{ReadsBack, IrisWithin, TokensWithin}
+use Rattle.rdf_lines.specs.NodePrefixes.{text_in}
 use Rattle.rdf_lines.proofs.AcceptedLemmas.{quads_due, documents_read, refused_none}
 use Rattle.rdf_lines.proofs.Due.{due_ran}
 use Rattle.rdf_lines.proofs.SettledLemmas.{quads_settled, due_settled, due_begins}

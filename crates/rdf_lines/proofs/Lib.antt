@@ -1,3 +1,4 @@
+mod Prelude
 pub mod NextToken
 pub mod UcharLemmas
 pub mod AsciiLemmas

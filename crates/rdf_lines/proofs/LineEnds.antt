@@ -1,22 +1,8 @@
 -- No token but a line end contains one, so what ends in a line end is read whole, whatever comes after it.
-use Rattle.std.proofs.Common.{◌≡◌, ◌≢◌, ℕ, zero, suc, ◌+◌, ◌<◌, ◌≤◌, Bool, true, false, cond, List, [], ◌∷◌, ◌++◌, ◌||◌, ◌==◌, ◌⊎◌, inl, inr, refl, sym, ap, ◌∙◌, subst, ⊎_elim, append_assoc, Option, Some, None, length, take, drop, nat_lt, arith, length-append, length-drop}
-use Rattle.std.proofs.lemmas.Bool.{cases_Bool, cases_lt, cond-true, cond-false, false≢true, or_cases, eqb-true, le-ltb, and_left}
-use Rattle.std.proofs.lemmas.List.{take_all, drop_all, take-append-drop, drop-append-le}
-use Rattle.rdf_terms.specs.declared.kind.Dialect.TheVariants.{Lines}
-use Rattle.rdf_terms.specs.declared.kind.Kind.{Kind}
-use Rattle.rdf_terms.specs.declared.kind.Kind.TheVariants.{LineEnd, LangTag, End}
+use Rattle.rdf_lines.proofs.Prelude.{◌≡◌, ◌≢◌, ℕ, zero, suc, ◌+◌, ◌<◌, ◌≤◌, Bool, true, false, cond, List, [], ◌∷◌, ◌++◌, ◌||◌, ◌==◌, ◌⊎◌, inl, inr, refl, sym, ap, ◌∙◌, subst, ⊎_elim, append_assoc, Option, Some, None, length, take, drop, nat_lt, arith, length-append, length-drop, cases_Bool, cases_lt, cond-true, cond-false, false≢true, or_cases, eqb-true, le-ltb, and_left, take_all, drop_all, take-append-drop, drop-append-le, Lines, Kind, LineEnd, LangTag, End, Matches, after, possible, Shape, kinds, shape, any_shape, is_live, is_fit, matches-after, matches-possible, first_kind-matches, matches-first_kind, live-matches, uses, not_used, Place, past, Outcome, Token, is_line_end, is_space, longest, over, is_empty, chosen, decided, by_tail, Step, step, rest_of, place_of, tokens, with_token, with_tokens, goes_on, ended, broken, stop, undecided, complete, token_too_long, bad_utf8, no_token, bad_escape, step-more, step_token, rest_more, at_stop, more_token}
 use Rattle.rdf_terms.specs.Classes.{has}
-use Rattle.rdf_terms.specs.Regex.{Matches, after, possible}
-use Rattle.rdf_terms.specs.Shapes.{Shape, kinds, shape, any_shape, is_live}
-use Rattle.rdf_terms.specs.Values.{is_fit}
-use Rattle.rdf_terms.proofs.RegexLemmas.{matches-after, matches-possible}
-use Rattle.rdf_terms.proofs.ShapesLemmas.{first_kind-matches, matches-first_kind, live-matches}
-use Rattle.rdf_terms.proofs.UsedCharacters.{uses, not_used}
-use Rattle.rdf_tokens.specs.Tokens.{Place, past, Tail, Outcome, Token, is_line_end, is_space, blank, longest, over, is_empty, chosen, decided, by_tail, Step, step, rest_of, place_of, tokens, with_token, with_tokens}
-use Rattle.rdf_tokens.specs.Tokens.Tail.{goes_on, ended, broken}
-use Rattle.rdf_tokens.specs.Tokens.Step.{token, stop}
-use Rattle.rdf_tokens.specs.Tokens.Outcome.{undecided, complete, token_too_long, bad_utf8, no_token, bad_escape}
-use Rattle.rdf_tokens.proofs.TokensLemmas.{step-more, step_token, rest_more, at_stop, more_token}
+use Rattle.rdf_tokens.specs.Tokens.{Tail, blank}
+use Rattle.rdf_tokens.specs.Tokens.Step.{token}
 use Rattle.rdf_tokens.proofs.StepLemmas.{step-token}
 use Rattle.rdf_tokens.proofs.NextLemmas.{left_open}
 

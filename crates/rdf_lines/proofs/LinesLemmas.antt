@@ -1,12 +1,6 @@
 -- The quads of a tree with their marks and without: those that are due without their marks are those that the machine gives out.
-use Rattle.std.proofs.Common.{◌≡◌, ℕ, ◌+◌, Bool, List, ◌∷◌, refl, sym, ap, ◌∙◌, subst, length}
-use Rattle.std.specs.List.{AllByRecursion}
-use Rattle.rdf_tokens.specs.Tokens.{Token}
-use Rattle.rdf_tokens.specs.Grammars.{Marked, unmarked}
-use Rattle.rdf_terms.specs.Terms.{Quad, has_scheme}
-use Rattle.rdf_lines.specs.declared.form.LineForm.{LineForm}
-use Rattle.rdf_lines.specs.Lines.{Line, Document, last, next, line_tokens, line_quads, document_tokens, document_quads, quad_of, iri_passes, graph_fits, IsDocument, documents}
-use Rattle.rdf_lines.specs.GoodTrees.{GoodDocument}
+use Rattle.rdf_lines.proofs.Prelude.{◌≡◌, ℕ, ◌+◌, Bool, List, ◌∷◌, refl, sym, ap, ◌∙◌, subst, length, AllByRecursion, Token, Marked, unmarked, Quad, has_scheme, LineForm, Line, Document, last, next, line_tokens, line_quads, document_tokens, document_quads, iri_passes, graph_fits, IsDocument, documents, GoodDocument}
+use Rattle.rdf_lines.specs.Lines.{quad_of}
 use Rattle.rdf_lines.proofs.GoodTreesLemmas.{tree_good, tree_passes, tree_labels}
 use Rattle.rdf_lines.proofs.PlainQuads.{plain_line, plain_quads, IsPlain}
 use Rattle.rdf_lines.specs.Lines as L

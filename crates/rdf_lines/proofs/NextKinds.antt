@@ -1,17 +1,5 @@
 -- Which kinds of tokens can come next in a line format: those that the machine accepts where every IRI passes.
-use Rattle.std.proofs.Common.{◌≡◌, ◌≢◌, ◌↔◌, ℕ, Bool, true, false, List, [], ◌∷◌, ◌++◌, refl, sym, ap, ◌∙◌, subst}
-use Rattle.rdf_terms.specs.declared.kind.Kind.{Kind}
-use Rattle.rdf_terms.specs.declared.kind.Kind.TheVariants.{LangTag, Carets}
-use Rattle.rdf_terms.specs.Terms.{Quad, Subject, Literal, Typed, xsd_string}
-use Rattle.rdf_tokens.specs.Tokens.{Token}
-use Rattle.rdf_tokens.specs.Grammars.{Shaped}
-use Rattle.rdf_tokens.specs.Leaves.{Leaf, leaf_of}
-use Rattle.rdf_driver.specs.Words.{KnowsNext}
-use Rattle.rdf_lines.specs.declared.form.LineForm.{LineForm}
-use Rattle.rdf_lines.specs.Lines.{any_iri, trees}
-use Rattle.rdf_lines.specs.Machine.{Mode, Begin, AfterString, Answer, object_then, goes, gives, refuses, accept, ran, go_on, run}
-use Rattle.rdf_lines.specs.States.{is_accepted}
-use Rattle.rdf_lines.specs.Accepting.{LineAt, line_words}
+use Rattle.rdf_lines.proofs.Prelude.{◌≡◌, ◌≢◌, ◌↔◌, ℕ, Bool, true, false, List, [], ◌∷◌, ◌++◌, refl, sym, ap, ◌∙◌, subst, Kind, LangTag, Carets, Quad, Subject, Literal, Typed, xsd_string, Token, Shaped, Leaf, leaf_of, KnowsNext, LineForm, any_iri, trees, Mode, Begin, AfterString, Answer, object_then, goes, gives, refuses, accept, ran, go_on, run, is_accepted, LineAt, line_words}
 use Rattle.rdf_lines.proofs.Runs.{run_one, with_quads}
 use Rattle.rdf_lines.proofs.Viable.{viable_ran, not_viable}
 use Rattle.rdf_lines.proofs.Refusals.{in_trees}

@@ -1,19 +1,7 @@
 -- When a text is the next token, whatever comes after it.
-use Rattle.std.proofs.Common.{◌≡◌, ℕ, zero, suc, ◌+◌, ◌-◌, ◌<◌, ◌≤◌, true, false, ◌||◌, ⊎_elim, is_some, List, [], ◌∷◌, ◌++◌, refl, sym, ap, ◌∙◌, subst, Option, Some, None, length, take, drop, arith, length-append, append_assoc}
-use Rattle.std.proofs.lemmas.Bool.{cond-true, cond-false, false≢true, le-ltb, and_left, and_right, cases_lt, cases_Bool}
-use Rattle.std.proofs.lemmas.List.{append-nil, take_all, take_at, drop_at}
-use Rattle.rdf_terms.specs.declared.kind.Dialect.TheVariants.{Lines}
-use Rattle.rdf_terms.specs.Regex.{Matches, after, possible}
-use Rattle.rdf_terms.specs.declared.kind.Kind.{Kind}
-use Rattle.rdf_terms.specs.Shapes.{kinds, shape, any_shape, first_kind, kind_of, is_live}
-use Rattle.rdf_terms.specs.Values.{is_fit}
-use Rattle.rdf_tokens.specs.Tokens.{Place, Tail, past, over, chosen, decided, by_tail, longest, with_length, step, tokens, blank, rest_of, place_of, with_token}
-use Rattle.rdf_tokens.specs.Tokens.Tail.{goes_on, ended, broken}
+use Rattle.rdf_lines.proofs.Prelude.{◌≡◌, ℕ, zero, suc, ◌+◌, ◌-◌, ◌<◌, ◌≤◌, true, false, ◌||◌, ⊎_elim, is_some, List, [], ◌∷◌, ◌++◌, refl, sym, ap, ◌∙◌, subst, Option, Some, None, length, take, drop, arith, length-append, append_assoc, cond-true, cond-false, false≢true, le-ltb, and_left, and_right, cases_lt, cases_Bool, append-nil, take_all, take_at, drop_at, Lines, Matches, after, possible, Kind, kinds, shape, any_shape, first_kind, kind_of, is_live, is_fit, Place, past, over, chosen, decided, by_tail, longest, with_length, step, tokens, rest_of, place_of, with_token, goes_on, ended, broken, matches-after, matches-possible, first_kind-matches, matches-first_kind, live-matches, matches-live, none_longer, at_token, tokens-step, uses, not_used}
+use Rattle.rdf_tokens.specs.Tokens.{Tail, blank}
 use Rattle.rdf_tokens.specs.Tokens.Step.{token}
-use Rattle.rdf_terms.proofs.RegexLemmas.{matches-after, matches-possible}
-use Rattle.rdf_terms.proofs.ShapesLemmas.{first_kind-matches, matches-first_kind, live-matches, matches-live}
-use Rattle.rdf_tokens.proofs.TokensLemmas.{none_longer, at_token, tokens-step}
-use Rattle.rdf_terms.proofs.UsedCharacters.{uses, not_used}
 
 -- In the Lines dialect a text's first character tells its kind.
 pub record Begins (c : ℕ) (k : Kind) : Type 0 where

@@ -1,26 +1,10 @@
 -- Names with a word in front: they stay well formed and apart, and without a word they are as they were.
-use Rattle.std.proofs.Common.{◌≡◌, ℕ, ◌<◌, ◌⊎◌, true, List, [], ◌∷◌, ◌++◌, length, take, refl, sym, ap, ◌∙◌, subst, Option, Some, None, ⊎_elim, inl, inr, arith}
-use Rattle.std.specs.Prelude.{decimal, map, option_map}
-use Rattle.std.specs.List.{AllByRecursion}
-use Rattle.std.specs.Str.{chars}
+use Rattle.rdf_lines.proofs.Prelude.{◌≡◌, ℕ, ◌<◌, ◌⊎◌, true, List, [], ◌∷◌, ◌++◌, length, take, refl, sym, ap, ◌∙◌, subst, Option, Some, None, ⊎_elim, inl, inr, arith, decimal, map, option_map, AllByRecursion, chars, take-append_seam, and_parts, or_cases, nat_tests, append_cancel_left, chars-nil, Lines, is_letter, is_digit, digit, pn_u, Node, Label, Anon, Cell, Subject, Blank, Term, Resource, Literal, Quad, all_have, IsLabel, IsNode, Escapes, Style, Kept, Tagged, rename_node, map_subject, map_term, map_nodes, rename, quad_text, line, text, CanWriteNode, HasAsciiLabel, is_word_char, IsNodePrefix, prefix_node, put_prefix, Form, unprefixed, named, line_in, name_node, NamesStayApart, PrefixesKeepApart, NoPrefixIsNoChange}
 use mathlib.Core.Bool.{Bool-set}
 use Rattle.std.proofs.Math.Logic.{∥∥₁_elim}
-use Rattle.std.proofs.Math.Seq.{take-append_seam}
-use Rattle.std.proofs.lemmas.Bool.{and_parts, or_cases}
-use Rattle.std.proofs.lemmas.Bool.Decides.{nat_tests}
-use Rattle.std.proofs.lemmas.List.{append_cancel_left}
-use Rattle.std.proofs.lemmas.Str.{chars-nil}
-use Rattle.rdf_terms.specs.declared.kind.Dialect.TheVariants.{Lines}
-use Rattle.rdf_terms.specs.Classes.{has, is_letter, is_digit}
-use Rattle.rdf_terms.specs.Classes.Class.{digit, pn_u}
-use Rattle.rdf_terms.specs.Terms.{Node, Label, Anon, Cell, Subject, Iri, Blank, Term, Resource, Literal, Quad, all_have, IsLabel, IsNode}
-use Rattle.rdf_lines.specs.declared.form.Escapes.{Escapes}
-use Rattle.rdf_lines.specs.declared.form.Style.{Style}
-use Rattle.rdf_lines.specs.declared.form.Style.TheVariants.{Kept, Tagged}
-use Rattle.rdf_lines.specs.Writing.{rename_node, map_subject, map_term, map_nodes, rename, quad_text, line, text, CanWriteNode, HasAsciiLabel}
-use Rattle.rdf_lines.specs.NodePrefixes.{is_word_char, IsNodePrefix, prefix_node, put_prefix, Form, unprefixed, named, line_in, text_in}
-use Rattle.rdf_lines.specs.NodeNames.{name_node}
-use Rattle.rdf_lines.specs.Laws.{NamesStayApart, PrefixesKeepApart, NoPrefixIsNoChange}
+use Rattle.rdf_terms.specs.Classes.{has}
+use Rattle.rdf_terms.specs.Terms.{Iri}
+use Rattle.rdf_lines.specs.NodePrefixes.{text_in}
 use Rattle.rdf_lines.proofs.AsciiLemmas.{joined, number_low}
 use Rattle.rdf_lines.proofs.Renamed.{label_front, renamed_node, rename_injective}
 

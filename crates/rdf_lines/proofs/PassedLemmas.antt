@@ -1,21 +1,5 @@
 -- What passing lines does to a reader.
-use Rattle.std.proofs.Common.{◌≡◌, ℕ, ◌≤◌, true, false, List, [], ◌++◌, length, refl, sym, ap, ◌∙◌, subst}
-use Rattle.std.specs.Prelude.{IsUtf8}
-use Rattle.std.proofs.lemmas.List.{append-nil}
-use Rattle.std.proofs.lemmas.Str.{IsUtf8-past_char}
-use Rattle.std.proofs.Math.Utf8.{encode, encodes}
-use Rattle.std.proofs.Common.{◌∷◌, append_assoc}
-use Rattle.rdf_terms.specs.Terms.{Quad}
-use Rattle.rdf_driver.specs.Readers.{Driven, HasRead}
-use Rattle.rdf_driver.specs.Passing.{passed, LeadsBack}
-use Rattle.rdf_lines.specs.declared.rules.Rules.{Rules}
-use Rattle.rdf_lines.specs.declared.form.LineForm.{LineForm}
-use Rattle.rdf_lines.specs.declared.form.LineEnding.{LineEnding}
-use Rattle.rdf_lines.specs.Machine.{Mode, Begin, AfterSubject, AfterPredicate, AfterString, AfterCarets, AfterObject, AfterGraph, AfterDot, Finished}
-use Rattle.rdf_lines.specs.States.{is_begin}
-use Rattle.rdf_lines.specs.Accepting.{LineAt, line_words}
-use Rattle.rdf_lines.specs.Canonical.{ended_lines, PassesLines}
-use Rattle.rdf_lines.specs.Fronts.{LinesStand, AreLines}
+use Rattle.rdf_lines.proofs.Prelude.{◌≡◌, ℕ, ◌≤◌, true, false, List, [], ◌++◌, length, refl, sym, ap, ◌∙◌, subst, IsUtf8, append-nil, IsUtf8-past_char, encode, encodes, ◌∷◌, append_assoc, Quad, Driven, HasRead, passed, LeadsBack, Rules, LineForm, LineEnding, Mode, Begin, AfterSubject, AfterPredicate, AfterString, AfterCarets, AfterObject, AfterGraph, AfterDot, Finished, is_begin, LineAt, line_words, ended_lines, PassesLines, LinesStand, AreLines}
 use Rattle.rdf_lines.proofs.CanonicalLines.{lines_read}
 
 -- what comes after a text is UTF-8

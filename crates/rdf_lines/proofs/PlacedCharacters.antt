@@ -1,18 +1,7 @@
 -- The bytes of a string that are placed run by run, in the plain form.
-use Rattle.std.proofs.Common.{◌≡◌, ℕ, ◌+◌, ◌-◌, ◌<◌, true, List, [], ◌∷◌, ◌++◌, refl, ap, sym, ◌∙◌, length, take, drop, get_or, arith, take-add}
-use Rattle.std.specs.Prelude.{flat_map, chars, IsUtf8}
-use Rattle.std.specs.List.{slice_range}
-use Rattle.std.proofs.lemmas.Bool.{and_parts}
-use Rattle.std.proofs.lemmas.Bool.Decides.{nat_tests}
-use Rattle.std.proofs.lemmas.List.{append-nil, take_more}
-use Rattle.std.proofs.lemmas.List.Concat.{flat_map-append}
-use Rattle.std.proofs.lemmas.Str.{encodes-chars}
-use Rattle.rdf_terms.specs.Runs.{IsRun, is_short_byte}
-use Rattle.rdf_terms.specs.Terms.{all_have}
+use Rattle.rdf_lines.proofs.Prelude.{◌≡◌, ℕ, ◌+◌, ◌-◌, ◌<◌, true, List, [], ◌∷◌, ◌++◌, refl, ap, sym, ◌∙◌, length, take, drop, get_or, arith, take-add, flat_map, chars, IsUtf8, slice_range, and_parts, nat_tests, append-nil, take_more, flat_map-append, encodes-chars, IsRun, is_short_byte, all_have, escaped, escaped_bytes, string_bytes_of}
 use Rattle.rdf_terms.proofs.EscapesLemmas.{slice_passes}
 use Rattle.rdf_lines.specs.declared.form.Escapes.TheVariants.{Plain}
-use Rattle.rdf_lines.specs.Writing.{escaped}
-use Rattle.rdf_lines.specs.WrittenBytes.{escaped_bytes, string_bytes_of}
 use Rattle.rdf_lines.proofs.EncodedLine.{between}
 use Rattle.rdf_lines.proofs.PlainRuns.{escaped_text}
 

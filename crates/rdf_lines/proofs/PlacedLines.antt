@@ -1,30 +1,18 @@
 -- The bytes of the parts of a line whose texts stand as they are.
-use Rattle.std.proofs.Common.{◌≡◌, ◌≤◌, ℕ, Option, Some, None, List, [], ◌∷◌, ◌++◌, append_assoc, refl, ap, length, subst, sym, take, ◌∙◌, arith}
-use Rattle.std.specs.Prelude.{flat_map, decimal, encode_utf8_all}
-use Rattle.std.specs.Str.{chars}
+use Rattle.rdf_lines.proofs.Prelude.{◌≡◌, ◌≤◌, ℕ, Option, Some, None, List, [], ◌∷◌, ◌++◌, append_assoc, refl, ap, length, subst, sym, take, ◌∙◌, arith, flat_map, decimal, encode_utf8_all, chars, form_of, append-nil, length-append, length-take, length-take-le, Placed, iri_chars, iris_quad, tail_by, Escapes, Style, Kept, Tagged, Form, unprefixed, IsShort, IsShortGraph, IsShortSubject, IsShortTerm, label_bytes, number_bytes, graph_text, space, string_text, tail_text, written, graph_bytes, iris_bytes, line_bytes, node_bytes, subject_bytes, term_bytes, usual}
 use Rattle.rdf_terms.specs.declared.views.QuadRef.{QuadRef}
 use Rattle.rdf_terms.specs.declared.views.SubjectRef.{SubjectRef}
 use Rattle.rdf_terms.specs.declared.views.SubjectRef.TheVariants as subject
 use Rattle.rdf_terms.specs.Terms.{Iri}
 use Rattle.rdf_lines.specs.declared.form.WrittenForm.{WrittenForm}
-use Rattle.rdf_lines.specs.Forms.{form_of}
-use Rattle.std.proofs.lemmas.List.{append-nil, length-append, length-take, length-take-le}
 use Rattle.std.proofs.Math.Nat.{min-le_right}
-use Rattle.rdf_terms.specs.Placing.{Placed}
 use Rattle.rdf_terms.specs.declared.views.IriView.{IriView}
 use Rattle.rdf_terms.specs.declared.views.LabelView.{LabelView}
 use Rattle.rdf_terms.specs.declared.views.NodeRef.TheVariants as node_ref
 use Rattle.rdf_terms.specs.declared.views.TermRef.{TermRef}
 use Rattle.rdf_terms.specs.declared.views.TermRef.TheVariants as term
-use Rattle.rdf_terms.specs.Views.{iri_chars, iris_quad, tail_by}
-use Rattle.rdf_lines.specs.declared.form.Escapes.{Escapes}
 use Rattle.rdf_lines.specs.declared.form.Escapes.TheVariants.{Plain}
-use Rattle.rdf_lines.specs.declared.form.Style.{Style}
-use Rattle.rdf_lines.specs.declared.form.Style.TheVariants.{Kept, Tagged}
-use Rattle.rdf_lines.specs.NodePrefixes.{Form, unprefixed}
-use Rattle.rdf_lines.specs.Placing.{IsShort, IsShortGraph, IsShortSubject, IsShortTerm, label_bytes, number_bytes}
-use Rattle.rdf_lines.specs.Writing.{graph_text, space, string_text, tail_text, written}
-use Rattle.rdf_lines.specs.WrittenBytes.{graph_bytes, iri_bytes, iris_bytes, line_bytes, node_bytes, subject_bytes, term_bytes, usual}
+use Rattle.rdf_lines.specs.WrittenBytes.{iri_bytes}
 use Rattle.rdf_lines.proofs.EncodedLine.{between, encoded_line, encoded_node}
 use Rattle.rdf_lines.proofs.EscapedRuns.{plain_iri}
 

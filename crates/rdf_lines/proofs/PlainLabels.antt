@@ -1,19 +1,9 @@
 -- A run of ASCII letters, digits, `_` and `-` is a label, if it is not empty and does not begin with `-`.
-use Rattle.std.proofs.Common.{◌≡◌, ◌≢◌, ℕ, zero, suc, ◌<◌, Bool, true, false, not, ◌||◌, ◌==◌, List, [], ◌∷◌, ◌++◌, length, take, drop, get_or, refl, sym, ap, ◌∙◌, subst, arith}
-use Rattle.std.specs.Str.{IsAscii}
-use Rattle.std.proofs.lemmas.Bool.{agree_below, agree_below_at, and_parts, and_from, cond-true, ne_eqb}
-use Rattle.std.proofs.lemmas.Bool.Decides.{nat_tests}
-use Rattle.std.proofs.lemmas.List.{take-append-drop, length-take-le, get_or-take}
-use Rattle.std.proofs.lemmas.Str.{chars-IsAscii, IsUtf8-from_ascii}
-use Rattle.rdf_terms.specs.declared.kind.Dialect.TheVariants.{Lines}
+use Rattle.rdf_lines.proofs.Prelude.{◌≡◌, ◌≢◌, ℕ, zero, suc, ◌<◌, Bool, true, false, not, ◌||◌, ◌==◌, List, [], ◌∷◌, ◌++◌, length, take, drop, get_or, refl, sym, ap, ◌∙◌, subst, arith, IsAscii, agree_below, agree_below_at, and_parts, and_from, cond-true, ne_eqb, nat_tests, take-append-drop, length-take-le, get_or-take, chars-IsAscii, IsUtf8-from_ascii, Lines, pn_char, is_name_byte, IsRun, all_have, IsLabel, LabelStands}
 use Rattle.rdf_terms.specs.Classes.{has}
-use Rattle.rdf_terms.specs.Classes.Class.{pn_char}
 use Rattle.rdf_terms.specs.Names.{begins_label, name_goes_on}
-use Rattle.rdf_terms.specs.Runs.{is_name_byte, IsRun}
-use Rattle.rdf_terms.specs.Terms.{all_have, IsLabel}
 use Rattle.rdf_terms.proofs.NamesLemmas.{name_goes_on-IsLabel}
 use Rattle.rdf_tokens.proofs.NoNamesLemmas.{implied}
-use Rattle.rdf_lines.specs.Fronts.{LabelStands}
 use Rattle.rdf_lines.proofs.FrontsLemmas.{run_taken, label_stands}
 
 -- each of these is ASCII

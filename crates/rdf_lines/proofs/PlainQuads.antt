@@ -1,10 +1,6 @@
 -- The quads of a tree without their marks: what the machine gives out.
-use Rattle.std.proofs.Common.{◌≡◌, Bool, ℕ, List, [], ◌∷◌, ◌++◌}
-use Rattle.rdf_tokens.specs.Tokens.{Token}
-use Rattle.rdf_terms.specs.Terms.{Quad}
-use Rattle.rdf_lines.specs.declared.form.LineForm.{LineForm}
-use Rattle.rdf_lines.specs.Lines.{Line, Document, last, next, quad_of, document_tokens}
-use Rattle.rdf_lines.specs.GoodTrees.{GoodDocument}
+use Rattle.rdf_lines.proofs.Prelude.{◌≡◌, Bool, ℕ, List, [], ◌∷◌, ◌++◌, Token, Quad, LineForm, Line, Document, last, next, document_tokens, GoodDocument}
+use Rattle.rdf_lines.specs.Lines.{quad_of}
 use Rattle.rdf_lines.specs.Lines as L
 
 -- those of a line

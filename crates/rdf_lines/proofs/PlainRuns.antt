@@ -1,17 +1,6 @@
 -- Texts with no escapes in the plain form, by their bytes.
-use Rattle.std.proofs.Common.{◌≡◌, ◌||◌, ℕ, zero, suc, ◌<◌, ◌≤◌, Bool, true, false, cond, List, [], ◌∷◌, ◌++◌, ◌==◌, refl, sym, ap, ◌∙◌, subst, ⊎_elim, take, get_or, arith}
-use Rattle.std.specs.Prelude.{flat_map}
-use Rattle.std.specs.List.{AllByRecursion}
-use Rattle.std.proofs.Math.Utf8.{encode, encodes}
-use Rattle.std.proofs.lemmas.Bool.{cases_Bool, cases_lt, cond-true, cond-false}
-use Rattle.std.proofs.lemmas.Bool.Decides.{nat_tests}
-use Rattle.std.proofs.lemmas.List.{append-nil}
-use Rattle.std.proofs.lemmas.List.Concat.{flat_map-append}
-use Rattle.std.proofs.lemmas.Str.{encodes-append}
-use Rattle.rdf_terms.specs.Runs.{is_short_byte}
-use Rattle.rdf_tokens.proofs.GoodLemmas.{encode_one}
+use Rattle.rdf_lines.proofs.Prelude.{◌≡◌, ◌||◌, ℕ, zero, suc, ◌<◌, ◌≤◌, Bool, true, false, cond, List, [], ◌∷◌, ◌++◌, ◌==◌, refl, sym, ap, ◌∙◌, subst, ⊎_elim, take, get_or, arith, flat_map, AllByRecursion, encode, encodes, cases_Bool, cases_lt, cond-true, cond-false, nat_tests, append-nil, flat_map-append, encodes-append, is_short_byte, encode_one, escaped}
 use Rattle.rdf_lines.specs.declared.form.Escapes.TheVariants.{Plain}
-use Rattle.rdf_lines.specs.Writing.{escaped}
 use Rattle.rdf_lines.proofs.EncodedLine.{low, high_bytes}
 
 -- in a string " \ LF CR are escaped

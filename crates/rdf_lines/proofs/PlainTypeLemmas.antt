@@ -1,12 +1,7 @@
 -- The datatype that is not written, sixteen bytes at a time.
-use Rattle.std.proofs.Common.{◌≡◌, ◌+◌, ◌*◌, ◌∙◌, ℕ, Bool, true, false, cond, not, ◌==◌, ◌&&◌, List, [], ◌∷◌, ◌++◌, length, take, drop, refl, sym, ap, arith, bytes_eq}
+use Rattle.rdf_lines.proofs.Prelude.{◌≡◌, ◌+◌, ◌*◌, ◌∙◌, ℕ, Bool, true, false, cond, not, ◌==◌, ◌&&◌, List, [], ◌∷◌, ◌++◌, length, take, drop, refl, sym, ap, arith, bytes_eq, and_parts, nat_tests, drop-drop, length-drop, take-append-drop, take_all, bytes_eq-Decides, xsd_string}
 use Rattle.std.specs.Cmp.{both_ways}
 use Rattle.std.specs.Simd.Lanes.{mask_l, zip2}
-use Rattle.std.proofs.lemmas.Bool.{and_parts}
-use Rattle.std.proofs.lemmas.Bool.Decides.{nat_tests}
-use Rattle.std.proofs.lemmas.List.{drop-drop, length-drop, take-append-drop, take_all}
-use Rattle.std.proofs.lemmas.Slice.Eq.{bytes_eq-Decides}
-use Rattle.rdf_terms.specs.Terms.{xsd_string}
 
 -- no bit is set where two lists of one length do not differ
 pub same_lanes : (xs ys : List ℕ) → length xs ≡ length ys → (mask_l (zip2 (λ a b. not (a == b)) xs ys) == 0) ≡ bytes_eq xs ys

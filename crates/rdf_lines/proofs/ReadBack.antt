@@ -1,20 +1,6 @@
 -- Quads whose nodes all have labels are read back from their lines, as bytes.
-use Rattle.std.proofs.Common.{◌≡◌, ℕ, ◌≤◌, true, List, sym, subst, length}
-use Rattle.std.specs.Prelude.{flat_map, encode_utf8_all}
-use Rattle.std.specs.List.{AllByRecursion}
-use Rattle.rdf_terms.specs.Terms.{Quad, has_scheme}
-use Rattle.rdf_terms.specs.declared.kind.Dialect.TheVariants.{Lines}
-use Rattle.rdf_tokens.specs.Tokens.{Reading}
-use Rattle.rdf_tokens.specs.Tokens.Outcome.{complete}
-use Rattle.rdf_tokens.specs.Grammars.{IsDocumentOf}
-use Rattle.rdf_lines.specs.Lines.{document_tokens}
+use Rattle.rdf_lines.proofs.Prelude.{◌≡◌, ℕ, ◌≤◌, true, List, sym, subst, length, flat_map, encode_utf8_all, AllByRecursion, Quad, has_scheme, Lines, Reading, complete, IsDocumentOf, document_tokens, NQuads, Escapes, in_lines, quad_text, TokensWithin, tokens_of, first_place}
 use Rattle.rdf_lines.proofs.PlainQuads.{IsPlain}
-use Rattle.rdf_lines.specs.declared.form.LineForm.TheVariants.{NQuads}
-use Rattle.rdf_lines.specs.declared.form.Escapes.{Escapes}
-use Rattle.rdf_lines.specs.Documents.{in_lines}
-use Rattle.rdf_lines.specs.Writing.{quad_text}
-use Rattle.rdf_lines.specs.Laws.{TokensWithin}
-use Rattle.rdf_tokens.specs.Good.{tokens_of, first_place}
 use Rattle.rdf_lines.proofs.WrittenText.{text_scalars, no_mark, encoded_tokens}
 use Rattle.rdf_lines.proofs.SpelledLine.{Written, AllShort, document_tree, document_short, text_short, reads_back}
 use Rattle.rdf_lines.proofs.LinesLemmas.{document_marked}

@@ -1,20 +1,7 @@
 -- What the machine does under different tests of an IRI: why a token is refused, and what a narrower test accepts.
-use Rattle.std.proofs.Common.{◌≡◌, ◌≢◌, ℕ, ◌<◌, Bool, true, false, not, nat_lt, ◌&&◌, List, [], ◌∷◌, ◌++◌, ◌⊎◌, inl, inr, refl, sym, ap, ◌∙◌, subst, ⊎_elim, Some, None, drop}
-use Rattle.std.proofs.lemmas.Bool.{cases_Bool, cases_lt, lt-ltb, le-ltb, cond-true, cond-false}
-use Rattle.rdf_terms.specs.declared.kind.Kind.{Kind}
-use Rattle.rdf_terms.specs.declared.kind.Kind.TheVariants.{IriRef, LabelNode, ShortString, LangTag, Carets, Dot, LineEnd, End}
-use Rattle.rdf_terms.specs.declared.reason.Reason.{Reason}
-use Rattle.rdf_terms.specs.declared.reason.Reason.TheVariants.{Unexpected, RelativeIri, IriTooLong}
-use Rattle.rdf_tokens.specs.Tokens.{Token}
-use Rattle.rdf_tokens.specs.Grammars.{Viable, Shaped, PassesNone}
-use Rattle.rdf_terms.specs.Terms.{Subject, Term, Iri, Resource, Literal, Lang, Typed, Quad, xsd_string, has_scheme}
-use Rattle.rdf_iri.specs.Texts.{byte_len}
-use Rattle.rdf_lines.specs.declared.form.LineForm.{LineForm}
-use Rattle.rdf_lines.specs.declared.form.LineForm.TheVariants.{NQuads}
-use Rattle.rdf_tokens.specs.Leaves.{Leaf, leaf_of, iri_of}
-use Rattle.rdf_lines.specs.Lines.{string_of, any_iri, documents, trees}
-use Rattle.rdf_lines.specs.Documents.{Passes}
-use Rattle.rdf_lines.specs.Machine.{Mode, Begin, AfterSubject, AfterPredicate, AfterString, AfterCarets, AfterObject, AfterGraph, AfterDot, Finished, Answer, goes, gives, refuses, is_taken, iri_refused, absolute, quad, blank, object_then, accept, Run, ran, refused, with_quad, go_on, run}
+use Rattle.rdf_lines.proofs.Prelude.{◌≡◌, ◌≢◌, ℕ, ◌<◌, Bool, true, false, not, nat_lt, ◌&&◌, List, [], ◌∷◌, ◌++◌, ◌⊎◌, inl, inr, refl, sym, ap, ◌∙◌, subst, ⊎_elim, Some, None, drop, cases_Bool, cases_lt, lt-ltb, le-ltb, cond-true, cond-false, Kind, IriRef, LabelNode, ShortString, LangTag, Carets, Dot, LineEnd, End, Reason, Unexpected, RelativeIri, IriTooLong, Token, Viable, Shaped, PassesNone, Subject, Term, Resource, Literal, Lang, Typed, Quad, xsd_string, has_scheme, byte_len, LineForm, NQuads, Leaf, leaf_of, iri_of, string_of, any_iri, documents, trees, Passes, Mode, Begin, AfterSubject, AfterPredicate, AfterString, AfterCarets, AfterObject, AfterGraph, AfterDot, Finished, Answer, goes, gives, refuses, is_taken, iri_refused, absolute, quad, object_then, accept, Run, ran, refused, with_quad, go_on, run}
+use Rattle.rdf_terms.specs.Terms.{Iri}
+use Rattle.rdf_lines.specs.Machine.{blank}
 use Rattle.rdf_lines.proofs.Sound.{quad_first}
 use Rattle.rdf_lines.proofs.Runs.{run_one, run_append, then, then_ran, with_quads}
 use Rattle.rdf_lines.proofs.Viable.{viable_ran, not_viable}

@@ -1,21 +1,8 @@
 -- Renamed nodes have labels.
-use Rattle.std.proofs.Common.{◌≡◌, ◌⊎◌, ℕ, ◌+◌, ◌<◌, ◌^◌, ◌%◌, Bool, true, false, List, [], ◌∷◌, ◌++◌, inl, inr, refl, sym, ap, ◌∙◌, subst, ⊎_elim, append_assoc, arith}
-use Rattle.std.specs.Prelude.{decimal, ◌&&◌, ◌||◌, ◌==◌}
-use Rattle.std.specs.List.{concat, AllByRecursion}
-use Rattle.std.proofs.lemmas.Bool.{false≢true}
-use Rattle.std.proofs.lemmas.Bool.Decides.{nat_tests}
-use Rattle.std.proofs.lemmas.List.{append-nil}
-use Rattle.std.proofs.lemmas.Fmt.{decimal_by_steps, decimal_injective}
-use Rattle.rdf_terms.specs.Classes.{has, scalar, is_u, is_digit}
-use Rattle.rdf_terms.specs.declared.kind.Dialect.TheVariants.{Lines}
-use Rattle.rdf_terms.specs.Classes.Class.{digit, pn_u, pn_char}
-use Rattle.rdf_terms.specs.Regex.{Regex, Matches, ◌·◌, ◌∣◌}
-use Rattle.rdf_terms.specs.Regex.Regex.{one, many}
-use Rattle.rdf_terms.specs.Shapes.{dot, optional}
-use Rattle.rdf_terms.specs.Terms.{Node, Label, Anon, Cell, IsLabel, IsNode}
-use Rattle.rdf_lines.specs.declared.form.Style.{Style}
-use Rattle.rdf_lines.specs.declared.form.Style.TheVariants.{Kept, Tagged}
-use Rattle.rdf_lines.specs.Writing.{rename_node}
+use Rattle.rdf_lines.proofs.Prelude.{◌≡◌, ◌⊎◌, ℕ, ◌+◌, ◌<◌, ◌^◌, ◌%◌, Bool, true, false, List, [], ◌∷◌, ◌++◌, inl, inr, refl, sym, ap, ◌∙◌, subst, ⊎_elim, append_assoc, arith, decimal, ◌&&◌, ◌||◌, ◌==◌, concat, AllByRecursion, false≢true, nat_tests, append-nil, decimal_by_steps, decimal_injective, is_u, is_digit, Lines, digit, pn_u, pn_char, Regex, Matches, many, dot, optional, Node, Label, Anon, Cell, IsLabel, IsNode, Style, Kept, Tagged, rename_node}
+use Rattle.rdf_terms.specs.Classes.{has, scalar}
+use Rattle.rdf_terms.specs.Regex.{◌·◌, ◌∣◌}
+use Rattle.rdf_terms.specs.Regex.Regex.{one}
 
 -- what may stand inside a label
 abbrev middle : Regex

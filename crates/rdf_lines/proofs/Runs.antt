@@ -1,11 +1,6 @@
 -- A run over more tokens goes on where the first ended, and over the tokens of a document it gives out its quads.
-use Rattle.std.proofs.Common.{◌≡◌, ℕ, Bool, List, [], ◌∷◌, ◌++◌, refl, sym, ap, ◌∙◌}
-use Rattle.rdf_tokens.specs.Tokens.{Token}
-use Rattle.rdf_terms.specs.Terms.{Quad}
-use Rattle.rdf_lines.specs.declared.form.LineForm.{LineForm}
-use Rattle.rdf_tokens.specs.Leaves.{leaf_of}
+use Rattle.rdf_lines.proofs.Prelude.{◌≡◌, ℕ, Bool, List, [], ◌∷◌, ◌++◌, refl, sym, ap, ◌∙◌, Token, Quad, LineForm, leaf_of, Mode, Begin, Finished, Answer, goes, gives, refuses, accept, Run, ran, refused, with_quad, go_on, run}
 use Rattle.rdf_lines.proofs.PlainQuads.{IsPlain}
-use Rattle.rdf_lines.specs.Machine.{Mode, Begin, Finished, Answer, goes, gives, refuses, accept, Run, ran, refused, with_quad, go_on, run}
 use Rattle.rdf_lines.proofs.Complete.{complete}
 
 -- the run over a document gives out its quads

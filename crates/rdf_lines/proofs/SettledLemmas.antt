@@ -1,15 +1,8 @@
 -- The tokens settle the quads of a document and their marks, and so what is due.
-use Rattle.std.proofs.Common.{◌≡◌, ℕ, ◌+◌, List, [], ◌∷◌, ◌++◌, refl, sym, ap, ◌∙◌, length, append_assoc, Option, Some, None, arith, length-append}
-use Rattle.rdf_terms.specs.declared.kind.Kind.{Kind}
-use Rattle.rdf_terms.specs.declared.kind.Kind.TheVariants.{IriRef, Dot, LineEnd, End}
-use Rattle.rdf_terms.specs.Terms.{Quad, has_scheme}
-use Rattle.rdf_tokens.specs.Tokens.{Token}
-use Rattle.rdf_tokens.specs.Grammars.{Marked, unmarked}
-use Rattle.rdf_lines.specs.declared.form.LineForm.{LineForm}
+use Rattle.rdf_lines.proofs.Prelude.{◌≡◌, ℕ, ◌+◌, List, [], ◌∷◌, ◌++◌, refl, sym, ap, ◌∙◌, length, append_assoc, Option, Some, None, arith, length-append, Kind, IriRef, Dot, LineEnd, End, Quad, has_scheme, Token, Marked, unmarked, LineForm, Name, Ref, Lab, Object, Named, WithType, WithTag, Statement, Document, last, next, name_tokens, object_tokens, graph_tokens, head_tokens, statement_tokens, line_tokens, document_tokens, document_quads, any_iri, trees, TokensSettleTheQuads, TokensSettleWhatIsDue, DueBeginsTheQuads}
 use Rattle.rdf_tokens.specs.Leaves.{token}
-use Rattle.rdf_lines.specs.Lines.{Name, Ref, Lab, Object, Named, Plain, WithType, WithTag, Statement, Document, last, next, name_tokens, object_tokens, graph_tokens, head_tokens, statement_tokens, line_tokens, document_tokens, document_quads, any_iri, trees}
+use Rattle.rdf_lines.specs.Lines.{Plain}
 use Rattle.rdf_lines.specs.Lines as L
-use Rattle.rdf_lines.specs.Laws.{TokensSettleTheQuads, TokensSettleWhatIsDue, DueBeginsTheQuads}
 use Rattle.rdf_lines.proofs.LinesLemmas.{marked_document}
 use Rattle.rdf_lines.proofs.Runs.{same_quads, given_begin}
 use Rattle.rdf_lines.proofs.Viable.{ran_viable}

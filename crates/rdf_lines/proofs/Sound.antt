@@ -1,20 +1,9 @@
 -- What the machine accepts has a tree.
-use Rattle.std.proofs.Common.{◌≡◌, ℕ, Bool, true, List, [], ◌∷◌, ◌++◌, refl, sym, ap, ◌∙◌, subst, ⊎_elim, append_assoc, Some, None}
-use Rattle.std.proofs.lemmas.Bool.{cases_Bool, cond-true, cond-false}
-use Rattle.std.proofs.lemmas.List.{append-nil}
-use Rattle.rdf_terms.specs.declared.kind.Kind.{Kind}
-use Rattle.rdf_terms.specs.declared.kind.Kind.TheVariants.{IriRef, LabelNode, ShortString, LangTag, Carets, Dot, LineEnd, End}
-use Rattle.rdf_tokens.specs.Tokens.{Token}
-use Rattle.rdf_terms.specs.Terms.{Quad}
-use Rattle.rdf_lines.specs.declared.form.LineForm.{LineForm}
-use Rattle.rdf_lines.specs.declared.form.LineForm.TheVariants.{NTriples, NQuads}
-use Rattle.rdf_tokens.specs.Leaves.{Leaf, leaf_of, token, iri_of}
-use Rattle.rdf_lines.specs.Lines.{Name, Ref, Lab, Object, Named, Plain, WithType, WithTag, Statement, Line, Document, last, next, name_tokens, object_tokens, graph_tokens, statement_tokens, line_tokens, document_tokens, string_of, subject_of, term_of, quad_of, graph_fits}
-use Rattle.rdf_lines.specs.GoodTrees.{name_bound, object_bound, GoodStatement, GoodLine}
+use Rattle.rdf_lines.proofs.Prelude.{◌≡◌, ℕ, Bool, true, List, [], ◌∷◌, ◌++◌, refl, sym, ap, ◌∙◌, subst, ⊎_elim, append_assoc, Some, None, cases_Bool, cond-true, cond-false, append-nil, Kind, IriRef, LabelNode, ShortString, LangTag, Carets, Dot, LineEnd, End, Token, Quad, LineForm, NTriples, NQuads, Leaf, leaf_of, iri_of, Name, Ref, Lab, Object, Named, WithType, WithTag, Statement, Line, Document, last, next, name_tokens, object_tokens, graph_tokens, statement_tokens, line_tokens, document_tokens, string_of, subject_of, term_of, graph_fits, name_bound, object_bound, GoodStatement, GoodLine, Unexpected, Mode, Begin, AfterSubject, AfterPredicate, AfterString, AfterCarets, AfterObject, AfterGraph, AfterDot, Finished, goes, refuses, iri_refused, absolute, accept, Run, ran, refused, with_quad, go_on, run}
+use Rattle.rdf_tokens.specs.Leaves.{token}
+use Rattle.rdf_lines.specs.Lines.{Plain, quad_of}
 use Rattle.rdf_lines.proofs.PlainQuads.{plain_line, IsPlain}
 use Rattle.rdf_lines.specs.Lines as L
-use Rattle.rdf_terms.specs.declared.reason.Reason.TheVariants.{Unexpected}
-use Rattle.rdf_lines.specs.Machine.{Mode, Begin, AfterSubject, AfterPredicate, AfterString, AfterCarets, AfterObject, AfterGraph, AfterDot, Finished, goes, refuses, iri_refused, absolute, accept, Run, ran, refused, with_quad, go_on, run}
 
 -- what has been read of a line, as parts of its tree
 data Part : Type 0 where

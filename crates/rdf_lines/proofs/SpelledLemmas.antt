@@ -1,14 +1,7 @@
 -- What an IRIREF spells, and whether it is taken.
-use Rattle.std.proofs.Common.{◌≡◌, ℕ, ◌<◌, ◌≤◌, not, nat_lt, true, false, List, length, IsUtf8, arith, Some, ap}
-use Rattle.std.proofs.lemmas.Bool.{and_from, and_right, le-ltb, lt-ltb, cond-true}
-use Rattle.std.specs.Str.{chars}
-use Rattle.rdf_terms.specs.declared.reason.Reason.TheVariants.{RelativeIri, IriTooLong}
-use Rattle.rdf_terms.specs.Terms.{has_scheme, IsIri}
-use Rattle.rdf_terms.specs.Values.{iri_value}
+use Rattle.rdf_lines.proofs.Prelude.{◌≡◌, ℕ, ◌<◌, ◌≤◌, not, nat_lt, true, false, List, length, IsUtf8, arith, Some, ap, and_from, and_right, le-ltb, lt-ltb, cond-true, chars, RelativeIri, IriTooLong, has_scheme, IsIri, iri_value, byte_len, is_taken, iri_refused}
 use Rattle.rdf_terms.proofs.ValuesLemmas.{iri_value_characters}
-use Rattle.rdf_iri.specs.Texts.{byte_len}
 use Rattle.rdf_iri.proofs.ResolvedText.{byte_len-chars}
-use Rattle.rdf_lines.specs.Machine.{is_taken, iri_refused}
 
 -- an IRIREF whose value has a scheme means an absolute IRI
 pub is_iri : (w v : List ℕ) → iri_value w ≡ Some v → has_scheme v ≡ true → IsIri v

@@ -1,36 +1,12 @@
 -- What is written reads back as the same quads.
-use Rattle.std.proofs.Common.{◌≡◌, ℕ, ◌+◌, ◌≤◌, Bool, true, false, List, [], ◌∷◌, ◌++◌, refl, sym, ap, ◌∙◌, subst, ⊎_elim, append_assoc, Option, Some, None, length, nat_lt, arith, length-append, zero-add}
-use Rattle.std.specs.Prelude.{flat_map, option_map, unwrap_or, bytes_eq}
-use Rattle.std.specs.List.{AllByRecursion}
-use Rattle.std.proofs.lemmas.Bool.{cond-false, cases_Bool, le-ltb, and_left}
-use Rattle.std.proofs.lemmas.List.{append-nil}
-use Rattle.std.proofs.lemmas.Slice.Eq.{bytes_eq-Decides}
+use Rattle.rdf_lines.proofs.Prelude.{◌≡◌, ℕ, ◌+◌, ◌≤◌, Bool, true, false, List, [], ◌∷◌, ◌++◌, refl, sym, ap, ◌∙◌, subst, ⊎_elim, append_assoc, Option, Some, None, length, nat_lt, arith, length-append, zero-add, flat_map, option_map, unwrap_or, bytes_eq, AllByRecursion, cond-false, cases_Bool, le-ltb, and_left, append-nil, bytes_eq-Decides, Lines, Matches, Kind, kinds, any_shape, shape, kind_of, is_live, IriRef, LabelNode, ShortString, LangTag, Carets, Dot, LineEnd, End, is_fit, iri_value, string_value, Place, past, Token, tokens, step, over, with_tokens, ended, complete, stop, Label, Anon, Cell, Lang, Typed, Subject, Blank, Term, Resource, Literal, Quad, xsd_string, has_scheme, all_have, IsIri, IsLabel, IsTag, IsSubject, IsTerm, IsGraph, IsQuad, Leaf, iri_of, Name, Ref, Lab, Object, Named, WithType, WithTag, Statement, Line, Document, last, next, name_tokens, object_tokens, graph_tokens, statement_tokens, line_tokens, document_tokens, string_of, subject_of, term_of, name_bound, object_bound, graph_bound, GoodStatement, GoodDocument, NQuads, Escapes, Kept, CanWrite, written, escaped, iri_text, node_text, subject_text, string_text, type_text, term_text, space, graph_text, quad_text, CanWriteSubject, CanWriteTerm, CanWriteGraph, TermShort, GraphShort, TokensWithin, at_stop, uses, live-matches}
 use Rattle.rdf_terms.specs.Classes.{has, scalar}
-use Rattle.rdf_terms.specs.declared.kind.Dialect.TheVariants.{Lines}
-use Rattle.rdf_terms.specs.Regex.{Matches}
-use Rattle.rdf_terms.specs.declared.kind.Kind.{Kind}
-use Rattle.rdf_terms.specs.Shapes.{kinds, any_shape, shape, kind_of, is_live}
-use Rattle.rdf_terms.specs.declared.kind.Kind.TheVariants.{IriRef, LabelNode, ShortString, LangTag, Carets, Dot, LineEnd, End}
-use Rattle.rdf_terms.specs.Values.{is_fit, iri_value, string_value}
-use Rattle.rdf_tokens.specs.Tokens.{Place, Tail as Behind, past, Token, tokens, step, over, blank, with_tokens}
-use Rattle.rdf_tokens.specs.Tokens.Tail.{ended}
-use Rattle.rdf_tokens.specs.Tokens.Outcome.{complete}
-use Rattle.rdf_tokens.specs.Tokens.Step.{stop}
-use Rattle.rdf_terms.specs.Terms.{Label, Anon, Cell, Lang, Typed, Subject, Iri, Blank, Term, Resource, Literal, Quad, xsd_string, has_scheme, all_have, IsIri, IsLabel, IsTag, IsSubject, IsTerm, IsGraph, IsQuad}
+use Rattle.rdf_tokens.specs.Tokens.{Tail as Behind, blank}
+use Rattle.rdf_terms.specs.Terms.{Iri}
 use Rattle.rdf_lines.specs.Lines as L
-use Rattle.rdf_tokens.specs.Leaves.{Leaf, token, iri_of}
-use Rattle.rdf_lines.specs.Lines.{Name, Ref, Lab, Object, Named, Plain, WithType, WithTag, Statement, Line, Document, last, next, name_tokens, object_tokens, graph_tokens, statement_tokens, line_tokens, document_tokens, string_of, subject_of, term_of, quad_of}
-use Rattle.rdf_lines.specs.GoodTrees.{name_bound, object_bound, graph_bound, GoodStatement, GoodDocument}
+use Rattle.rdf_tokens.specs.Leaves.{token}
+use Rattle.rdf_lines.specs.Lines.{Plain, quad_of}
 use Rattle.rdf_lines.proofs.PlainQuads.{plain_quads, IsPlain}
-use Rattle.rdf_lines.specs.declared.form.LineForm.TheVariants.{NQuads}
-use Rattle.rdf_lines.specs.declared.form.Escapes.{Escapes}
-use Rattle.rdf_lines.specs.declared.form.Style.TheVariants.{Kept}
-use Rattle.rdf_lines.specs.Writing.{CanWrite, written, escaped, iri_text, node_text, subject_text, string_text, type_text, term_text, space, graph_text, quad_text}
-use Rattle.rdf_lines.specs.NodeNames.{CanWriteSubject, CanWriteTerm, CanWriteGraph}
-use Rattle.rdf_lines.specs.Laws.{TermShort, GraphShort, TokensWithin}
-use Rattle.rdf_tokens.proofs.TokensLemmas.{at_stop}
-use Rattle.rdf_terms.proofs.UsedCharacters.{uses}
-use Rattle.rdf_terms.proofs.ShapesLemmas.{live-matches}
 use Rattle.rdf_lines.proofs.NextToken.{Cut, cut_dead, shape_at, kind_at, cut_by_other, cut_by_shape, cut_by_dead, next_token, skip_space}
 use Rattle.rdf_lines.proofs.WritingLemmas.{begins_iri, begins_label, begins_string, begins_tag, iri_shape, iri_fit, iri_meant, string_shape, string_ends, string_fit, string_meant, inside_one}
 use Rattle.rdf_lines.proofs.LineEnds.{past-append}

@@ -1,15 +1,5 @@
 -- A document of a line format is its lines, and without its bad lines it is the others.
-use Rattle.std.proofs.Common.{◌≡◌, ℕ, ◌≤◌, Bool, true, false, List, [], ◌∷◌, ◌++◌, inl, inr, refl, sym, ap, ◌∙◌, subst, length, arith, length-append}
-use Rattle.std.specs.List.{concat}
-use Rattle.std.proofs.lemmas.Bool.{cond_both}
-use Rattle.std.proofs.lemmas.List.{append-nil}
-use Rattle.rdf_terms.specs.Terms.{Quad}
-use Rattle.rdf_tokens.specs.Tokens.{is_line_end}
-use Rattle.rdf_tokens.specs.Good.{good, has_byte_order_mark, most_bytes}
-use Rattle.rdf_tokens.specs.Grammars.{Language}
-use Rattle.rdf_lines.specs.declared.form.LineForm.{LineForm}
-use Rattle.rdf_lines.specs.Documents.{in_lines}
-use Rattle.rdf_lines.specs.SplitLines.{put_byte, split_lines, IsGoodLine, AreGoodLines, Sifts, DocumentsAreTheirLines, GoodLinesAreRead}
+use Rattle.rdf_lines.proofs.Prelude.{◌≡◌, ℕ, ◌≤◌, Bool, true, false, List, [], ◌∷◌, ◌++◌, inl, inr, refl, sym, ap, ◌∙◌, subst, length, arith, length-append, concat, cond_both, append-nil, Quad, is_line_end, good, has_byte_order_mark, most_bytes, Language, LineForm, in_lines, put_byte, split_lines, IsGoodLine, AreGoodLines, Sifts, DocumentsAreTheirLines, GoodLinesAreRead}
 use Rattle.rdf_lines.proofs.LineEnds.{IsEnd, tested_end}
 use Rattle.rdf_lines.proofs.DocumentLines.{IsRun, split, joined, mark_same, accepted_run, run_accepted, nothing_run, nothing_unmarked, run_utf8}
 

@@ -1,11 +1,5 @@
 -- Where nothing is put, a token that is accepted leaves the sink as it is, and so does one that is not.
-use Rattle.std.proofs.Common.{◌≡◌, Bool, inl, refl, sym, subst, Result, Ok, Err}
-use Rattle.std.specs.Prelude.{IfOk, IfErr}
-use Rattle.rdf_terms.specs.declared.reason.Reason.{Reason}
-use Rattle.rdf_terms.specs.declared.reason.Reason.TheVariants.{Memory, Unexpected, RelativeIri, IriTooLong}
-use Rattle.rdf_terms.specs.Terms.{Quad}
-use Rattle.rdf_lines.specs.Machine.{Mode, Answer, goes}
-use Rattle.rdf_lines.specs.States.{Declines, Does, Fails}
+use Rattle.rdf_lines.proofs.Prelude.{◌≡◌, Bool, inl, refl, sym, subst, Result, Ok, Err, IfOk, IfErr, Reason, Memory, Unexpected, RelativeIri, IriTooLong, Quad, Mode, Answer, goes, Declines, Does, Fails}
 
 -- the answers are the same for all forms, or for all rules
 pub does_goes : {S X E Z : Type 0} (takes : S → Quad → S → Type 0) (a : Z → Answer) (f : Z) (sink : S) (mode : X → Mode) (r : Result X E) →

@@ -1,18 +1,9 @@
 -- A character as UCHAR: its digits, its shape, and what it means.
-use Rattle.std.proofs.Common.{◌≡◌, ℕ, ◌+◌, ◌*◌, ◌/◌, ◌%◌, ◌^◌, ◌<◌, ◌≤◌, true, false, List, [], ◌∷◌, nat_le, inl, inr, length, refl, sym, ap, ◌∙◌, arith}
-use Rattle.std.specs.List.{AllByRecursion}
-use Rattle.std.proofs.lemmas.Bool.{cond_both, and_from}
-use Rattle.std.proofs.lemmas.Bool.Decides.{nat_tests}
+use Rattle.rdf_lines.proofs.Prelude.{◌≡◌, ℕ, ◌+◌, ◌*◌, ◌/◌, ◌%◌, ◌^◌, ◌<◌, ◌≤◌, true, false, List, [], ◌∷◌, nat_le, inl, inr, length, refl, sym, ap, ◌∙◌, arith, AllByRecursion, cond_both, and_from, nat_tests, hex_digit, Regex, Matches, hex, all_have, Inside, hex_value, hex_number, MayMean, IsNumberEscape, Escapes, Ascii, hex_character, hex_digits, uchar, written}
 use Rattle.rdf_terms.specs.Classes.{has, scalar}
-use Rattle.rdf_terms.specs.Classes.Class.{hex_digit}
-use Rattle.rdf_terms.specs.Regex.{Regex, Matches, ◌·◌}
-use Rattle.rdf_terms.specs.Shapes.{hex}
+use Rattle.rdf_terms.specs.Regex.{◌·◌}
 use Rattle.rdf_terms.specs.Shapes as shapes
-use Rattle.rdf_terms.specs.Terms.{all_have}
-use Rattle.rdf_terms.specs.Pieces.{Inside, hex_value, hex_number, MayMean, IsNumberEscape}
-use Rattle.rdf_lines.specs.declared.form.Escapes.{Escapes}
-use Rattle.rdf_lines.specs.declared.form.Escapes.TheVariants.{Plain, Ascii}
-use Rattle.rdf_lines.specs.Writing.{hex_character, hex_digits, uchar, written}
+use Rattle.rdf_lines.specs.declared.form.Escapes.TheVariants.{Plain}
 
 -- the digits of the two lengths
 abbrev pub four : ℕ → List ℕ

@@ -1,22 +1,10 @@
 -- The machine accepts some tokens one by one exactly if some document begins with them: each mode has a completion.
-use Rattle.std.proofs.Common.{◌≡◌, ℕ, Bool, true, List, [], ◌∷◌, ◌++◌, refl, sym, ap, ◌∙◌, Some, None}
-use Rattle.std.specs.Prelude.{codes}
-use Rattle.std.specs.List.{All}
-use Rattle.std.proofs.lemmas.List.Elements.{All-nil, All-cons}
+use Rattle.rdf_lines.proofs.Prelude.{◌≡◌, ℕ, Bool, true, List, [], ◌∷◌, ◌++◌, refl, sym, ap, ◌∙◌, Some, None, codes, All, All-nil, All-cons, IriRef, Dot, End, Reason, Token, first_place, Marked, Viable, CompletedWith, Resource, Literal, Typed, Quad, xsd_string, has_scheme, LineForm, Leaf, leaf_of, IsDocument, document_quads, any_iri, IsClosing, BeginningsAreCompleted, Mode, Begin, AfterSubject, AfterPredicate, AfterString, AfterCarets, AfterObject, AfterGraph, AfterDot, Finished, refuses, quad, accept, ran, refused, go_on, run}
 use Rattle.rdf_terms.specs.Classes.{has}
-use Rattle.rdf_terms.specs.declared.kind.Kind.TheVariants.{IriRef, Dot, End}
-use Rattle.rdf_terms.specs.declared.reason.Reason.{Reason}
-use Rattle.rdf_tokens.specs.Tokens.{Token}
-use Rattle.rdf_tokens.specs.Good.{first_place}
-use Rattle.rdf_tokens.specs.Grammars.{Marked, Viable, CompletedWith}
-use Rattle.rdf_terms.specs.Terms.{Iri, Resource, Literal, Typed, Quad, xsd_string, has_scheme}
-use Rattle.rdf_lines.specs.declared.form.LineForm.{LineForm}
-use Rattle.rdf_tokens.specs.Leaves.{Leaf, leaf_of, token}
-use Rattle.rdf_lines.specs.Lines.{IsDocument, document_quads, any_iri}
-use Rattle.rdf_lines.specs.Laws.{IsClosing, BeginningsAreCompleted}
+use Rattle.rdf_terms.specs.Terms.{Iri}
+use Rattle.rdf_tokens.specs.Leaves.{token}
 use Rattle.rdf_lines.proofs.LinesLemmas.{good_document, document_good}
 use Rattle.rdf_lines.proofs.PlainQuads.{plain_quads}
-use Rattle.rdf_lines.specs.Machine.{Mode, Begin, AfterSubject, AfterPredicate, AfterString, AfterCarets, AfterObject, AfterGraph, AfterDot, Finished, refuses, quad, accept, ran, refused, go_on, run}
 use Rattle.rdf_lines.proofs.Sound.{sound}
 use Rattle.rdf_lines.proofs.Runs.{run_document, run_append, run_one, with_quads, then, then_ran}
 

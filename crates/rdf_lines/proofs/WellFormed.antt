@@ -1,38 +1,17 @@
 -- The quads of a line document are well formed, and each of their nodes has a label.
-use Rattle.std.proofs.Common.{◌≡◌, ℕ, zero, suc, ◌+◌, ◌-◌, ◌*◌, Bool, true, List, [], ◌∷◌, ◌++◌, ◌==◌, drop, take, length, Option, Some, None, option_map, unwrap_or, refl, subst, ⊎_elim}
-use Rattle.std.specs.List.{All, AllByRecursion}
-use Rattle.std.proofs.lemmas.List.Elements.{All-head, All-tail}
-use Rattle.std.proofs.lemmas.Bool.{and_parts, and_from, cond_both, false≢true}
+use Rattle.rdf_lines.proofs.Prelude.{◌≡◌, ℕ, zero, suc, ◌+◌, ◌-◌, ◌*◌, Bool, true, List, [], ◌∷◌, ◌++◌, ◌==◌, drop, take, length, Option, Some, None, option_map, unwrap_or, refl, subst, ⊎_elim, All, AllByRecursion, All-head, All-tail, and_parts, and_from, cond_both, false≢true, hex_digit, Regex, Matches, Lines, Kind, IriRef, LabelNode, ShortString, LangTag, Dot, LineEnd, End, shape, Shape, EscapeState, outside, slash, Move, leads, means, fails, of_string, letter_move, hex_value, digit_move, move, go, value, iri_value, string_value, inside, all_have, has_scheme, xsd_string, IsIri, IsSubject, IsTerm, IsGraph, IsQuad, uses, all_used, Token, tokens_of, IsToken, LineForm, Kept, Leaf, Name, Ref, Lab, Object, Named, WithType, WithTag, Statement, last, next, name_tokens, object_tokens, graph_tokens, statement_tokens, document_tokens, string_of, subject_of, term_of, name_bound, object_bound, graph_bound, GoodStatement, GoodDocument, CanWrite, Writable, CanWriteSubject, CanWriteTerm, CanWriteGraph, DocumentIsWritable, label_in, tag_in}
 use Rattle.rdf_terms.specs.Classes.{has, scalar}
-use Rattle.rdf_terms.specs.Classes.Class.{hex_digit}
-use Rattle.rdf_terms.specs.Regex.{Regex, Matches}
-use Rattle.rdf_terms.specs.declared.kind.Dialect.TheVariants.{Lines}
-use Rattle.rdf_terms.specs.declared.kind.Kind.{Kind}
-use Rattle.rdf_terms.specs.declared.kind.Kind.TheVariants.{IriRef, LabelNode, ShortString, LangTag, Dot, LineEnd, End}
-use Rattle.rdf_terms.specs.Shapes.{shape, Shape}
-use Rattle.rdf_terms.specs.Values.{EscapeState, outside, slash, digits, Move, leads, means, fails, of_string, letter_move, hex_value, digit_move, move, go, value, iri_value, string_value, inside}
+use Rattle.rdf_terms.specs.Values.{digits}
 use Rattle.rdf_terms.specs.Known.{known_chars}
 use Rattle.rdf_terms.specs.declared.constants.Known.TheVariants.{XsdString}
-use Rattle.rdf_terms.specs.Terms.{all_have, has_scheme, xsd_string, IsIri, IsSubject, IsTerm, IsGraph, IsQuad}
 use Rattle.rdf_terms.proofs.KnownLemmas.{IsIri-known_chars}
-use Rattle.rdf_terms.proofs.UsedCharacters.{uses, all_used}
-use Rattle.rdf_tokens.specs.Tokens.{Token}
-use Rattle.rdf_tokens.specs.Good.{tokens_of}
-use Rattle.rdf_tokens.specs.Scans.{IsToken}
 use Rattle.rdf_tokens.proofs.LawLemmas.{have_shapes}
-use Rattle.rdf_lines.specs.declared.form.LineForm.{LineForm}
-use Rattle.rdf_lines.specs.declared.form.Style.TheVariants.{Kept}
-use Rattle.rdf_tokens.specs.Leaves.{Leaf, token}
-use Rattle.rdf_lines.specs.Lines.{Name, Ref, Lab, Object, Named, Plain, WithType, WithTag, Statement, Document as Tree, last, next, name_tokens, object_tokens, graph_tokens, statement_tokens, document_tokens, string_of, subject_of, term_of, quad_of}
-use Rattle.rdf_lines.specs.GoodTrees.{name_bound, object_bound, graph_bound, GoodStatement, GoodDocument}
+use Rattle.rdf_tokens.specs.Leaves.{token}
+use Rattle.rdf_lines.specs.Lines.{Plain, Document as Tree, quad_of}
 use Rattle.rdf_lines.proofs.GoodTreesLemmas.{split}
 use Rattle.rdf_lines.proofs.PlainQuads.{plain_quads}
 use Rattle.rdf_lines.specs.Lines as L
-use Rattle.rdf_lines.specs.Writing.{CanWrite, Writable}
-use Rattle.rdf_lines.specs.NodeNames.{CanWriteSubject, CanWriteTerm, CanWriteGraph}
-use Rattle.rdf_lines.specs.Laws.{DocumentIsWritable}
 use Rattle.rdf_lines.proofs.LinesLemmas.{without_marks}
-use Rattle.rdf_terms.proofs.SpelledLemmas.{label_in, tag_in}
 use Rattle.rdf_lines.proofs.SpelledLemmas.{is_iri}
 use Rattle.rdf_lines.proofs.WrittenText.{uses_scalar}
 

@@ -1,25 +1,8 @@
 -- Lines that end in CR and LF are the written ones, but for their CRs.
-use Rattle.std.proofs.Common.{◌≡◌, ℕ, ◌≤◌, ◌==◌, Bool, true, false, not, cond, List, [], ◌∷◌, ◌++◌, refl, sym, ap, ◌∙◌, ⊎_elim, Option, Some, None, arith}
-use Rattle.std.specs.Prelude.{flat_map, bytes_eq, encode_utf8_all}
-use Rattle.std.specs.List.{AllByRecursion}
-use Rattle.std.proofs.Math.Utf8.{encode, encodes}
-use Rattle.std.proofs.lemmas.Bool.{and_from, and_parts, cases_Bool, cases_lt, cond-true, cond-false, eqb-true, false≢true}
-use Rattle.std.proofs.lemmas.Bool.Decides.{nat_tests}
-use Rattle.std.proofs.lemmas.List.Elements.{filter-append}
-use Rattle.std.proofs.lemmas.Str.{encodes-append, encode_ascii}
+use Rattle.rdf_lines.proofs.Prelude.{◌≡◌, ℕ, ◌≤◌, ◌==◌, Bool, true, false, not, cond, List, [], ◌∷◌, ◌++◌, refl, sym, ap, ◌∙◌, ⊎_elim, Option, Some, None, arith, flat_map, bytes_eq, encode_utf8_all, AllByRecursion, encode, encodes, and_from, and_parts, cases_Bool, cases_lt, cond-true, cond-false, eqb-true, false≢true, nat_tests, filter-append, encodes-append, encode_ascii, iri_char, Lines, Regex, Matches, label_name, tag_name, Label, Anon, Cell, Lang, Typed, Subject, Blank, Term, Resource, Literal, Quad, xsd_string, all_have, IsIri, IsSubject, IsTerm, IsGraph, IsQuad, uses, all_used, Lf, CrLf, Kept, statement_text, ended_line, ended_lines, without_crs, CanonicalLinesAreWritten, CanWrite, written, escaped, iri_text, subject_text, string_text, type_text, term_text, space, graph_text, quad_text, CanWriteSubject, CanWriteTerm, CanWriteGraph}
 use Rattle.rdf_terms.specs.Classes.{has}
-use Rattle.rdf_terms.specs.Classes.Class.{iri_char}
-use Rattle.rdf_terms.specs.declared.kind.Dialect.TheVariants.{Lines}
-use Rattle.rdf_terms.specs.Regex.{Regex, Matches}
-use Rattle.rdf_terms.specs.Shapes.{label_name, tag_name}
-use Rattle.rdf_terms.specs.Terms.{Label, Anon, Cell, Lang, Typed, Subject, Iri, Blank, Term, Resource, Literal, Quad, xsd_string, all_have, IsIri, IsSubject, IsTerm, IsGraph, IsQuad}
-use Rattle.rdf_terms.proofs.UsedCharacters.{uses, all_used}
-use Rattle.rdf_lines.specs.declared.form.LineEnding.TheVariants.{Lf, CrLf}
+use Rattle.rdf_terms.specs.Terms.{Iri}
 use Rattle.rdf_lines.specs.declared.form.Escapes.TheVariants.{Plain}
-use Rattle.rdf_lines.specs.declared.form.Style.TheVariants.{Kept}
-use Rattle.rdf_lines.specs.Canonical.{statement_text, ended_line, ended_lines, without_crs, CanonicalLinesAreWritten}
-use Rattle.rdf_lines.specs.Writing.{CanWrite, written, escaped, iri_text, subject_text, string_text, type_text, term_text, space, graph_text, quad_text}
-use Rattle.rdf_lines.specs.NodeNames.{CanWriteSubject, CanWriteTerm, CanWriteGraph}
 use Rattle.rdf_lines.proofs.CanonicalLines.{written_quads, text_kept}
 use Rattle.rdf_lines.proofs.EncodedLine.{high_bytes, low}
 use Rattle.rdf_lines.proofs.EscapedRuns.{each}

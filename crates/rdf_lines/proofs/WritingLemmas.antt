@@ -1,27 +1,10 @@
 -- Each kind of written text has its shape, is fit, and means what was written.
-use Rattle.std.proofs.Common.{◌≡◌, ◌≢◌, ℕ, ◌-◌, ◌*◌, Bool, true, false, cond, List, [], ◌∷◌, ◌++◌, ◌==◌, inl, inr, refl, sym, ap, ◌∙◌, subst, ⊎_elim, append_assoc, Some, length, take, drop, is_some, arith, length-append}
-use Rattle.std.specs.Prelude.{flat_map}
-use Rattle.std.proofs.lemmas.Bool.{cases_Bool, cond-true, cond-false, false≢true, and_parts, eqb-true, eq-eqb}
-use Rattle.std.proofs.lemmas.Bool.Decides.{nat_tests}
-use Rattle.std.proofs.lemmas.List.{take_at}
+use Rattle.rdf_lines.proofs.Prelude.{◌≡◌, ◌≢◌, ℕ, ◌-◌, ◌*◌, Bool, true, false, cond, List, [], ◌∷◌, ◌++◌, ◌==◌, inl, inr, refl, sym, ap, ◌∙◌, subst, ⊎_elim, append_assoc, Some, length, take, drop, is_some, arith, length-append, flat_map, cases_Bool, cond-true, cond-false, false≢true, and_parts, eqb-true, eq-eqb, nat_tests, take_at, Lines, the, iri_char, plain_double, escape_letter, Regex, Matches, after, possible, after_all, many, Kind, fixed, shaped, shape, echar, hex, matches-any, IriRef, LabelNode, ShortString, LangTag, of_string, of_iri, IsPiece, Means, is_fit, inside, iri_value, string_value, all_have, Escapes, uchar, written, escaped, iri_text, string_text, matches-after, matches-after_all, clean, matches-clean}
 use Rattle.rdf_terms.specs.Classes.{has, scalar}
-use Rattle.rdf_terms.specs.declared.kind.Dialect.TheVariants.{Lines}
-use Rattle.rdf_terms.specs.Classes.Class.{the, iri_char, plain_double, escape_letter}
-use Rattle.rdf_terms.specs.Regex.{Regex, Matches, after, possible, after_all, ◌·◌, ◌∣◌}
-use Rattle.rdf_terms.specs.Regex.Regex.{one, many, empty}
-use Rattle.rdf_terms.specs.declared.kind.Kind.{Kind}
-use Rattle.rdf_terms.specs.Shapes.{fixed, shaped, shape, echar, hex}
+use Rattle.rdf_terms.specs.Regex.{◌·◌, ◌∣◌}
+use Rattle.rdf_terms.specs.Regex.Regex.{one, empty}
 use Rattle.rdf_terms.specs.Shapes as shapes
-use Rattle.rdf_terms.proofs.ShapesLemmas.{matches-any}
-use Rattle.rdf_terms.specs.declared.kind.Kind.TheVariants.{IriRef, LabelNode, ShortString, LangTag}
-use Rattle.rdf_terms.specs.Pieces.{of_string, of_iri, IsPiece, Means}
-use Rattle.rdf_terms.specs.Values.{is_fit, inside, iri_value, string_value}
-use Rattle.rdf_terms.specs.Terms.{all_have}
-use Rattle.rdf_lines.specs.declared.form.Escapes.{Escapes}
-use Rattle.rdf_lines.specs.Writing.{uchar, written, escaped, iri_text, string_text}
 use Rattle.rdf_terms.proofs.PiecesLemmas.{iri_means, string_means}
-use Rattle.rdf_terms.proofs.RegexLemmas.{matches-after, matches-after_all}
-use Rattle.rdf_terms.proofs.UsedCharacters.{clean, matches-clean}
 use Rattle.rdf_lines.proofs.NextToken.{Begins}
 use Rattle.rdf_lines.proofs.UcharLemmas.{four, eight, written_cases, uchar_cases, uchar_shape, uchar_meant}
 

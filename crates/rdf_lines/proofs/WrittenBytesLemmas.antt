@@ -1,8 +1,5 @@
 -- Parts that are appended in turn, and what stands in front of them.
-use Rattle.std.proofs.Common.{◌≡◌, ℕ, ◌+◌, List, [], ◌∷◌, ◌++◌, append_assoc, Result, Ok, Err, OnOk, OnErr, IfOk, is_ok, if◌then◌else◌, take, length, sym, ap, ◌∙◌, arith, length-append}
-use Rattle.std.proofs.lemmas.List.{append-nil, take-take, take_all}
-use Rattle.std.proofs.Math.Seq.{take-append_seam}
-use Rattle.rdf_lines.specs.WrittenBytes.{BeginsWith}
+use Rattle.rdf_lines.proofs.Prelude.{◌≡◌, ℕ, ◌+◌, List, [], ◌∷◌, ◌++◌, append_assoc, Result, Ok, Err, OnOk, OnErr, IfOk, is_ok, if◌then◌else◌, take, length, sym, ap, ◌∙◌, arith, length-append, append-nil, take-take, take_all, take-append_seam, BeginsWith}
 
 -- bytes that grew still begin with what they began with
 pub begins_with_front : (a b w c : List ℕ) → b ≡ a ++ w → BeginsWith b c → BeginsWith a c

@@ -1,37 +1,13 @@
 -- The lines of a document's quads keep limits that are a little higher than the document's.
-use Rattle.std.proofs.Common.{◌≡◌, ℕ, ◌+◌, ◌-◌, ◌*◌, ◌<◌, ◌≤◌, true, List, [], ◌∷◌, ◌++◌, length, drop, refl, ap, subst, ⊎_elim, Option, Some, None, option_map, arith, length-append}
-use Rattle.std.specs.Prelude.{map, flat_map, ◌==◌}
-use Rattle.std.specs.List.{All, AllByRecursion}
-use Rattle.std.proofs.lemmas.List.{length-drop}
-use Rattle.std.proofs.lemmas.List.Elements.{All-head, All-tail}
-use Rattle.std.proofs.lemmas.Bool.{cases_lt, cond_both}
-use Rattle.std.proofs.lemmas.Bool.Decides.{nat_tests}
-use Rattle.std.proofs.lemmas.Str.{length-encode, len_utf8_bounds}
-use Rattle.std.proofs.Math.Utf8.{encode, encodes}
+use Rattle.rdf_lines.proofs.Prelude.{◌≡◌, ℕ, ◌+◌, ◌-◌, ◌*◌, ◌<◌, ◌≤◌, true, List, [], ◌∷◌, ◌++◌, length, drop, refl, ap, subst, ⊎_elim, Option, Some, None, option_map, arith, length-append, map, flat_map, ◌==◌, All, AllByRecursion, length-drop, All-head, All-tail, cases_lt, cond_both, nat_tests, length-encode, len_utf8_bounds, encode, encodes, Lines, IriRef, LabelNode, ShortString, LangTag, Dot, LineEnd, End, Quad, xsd_string, string_short, byte_len, Token, tokens_of, PassesNone, IsDocumentOf, IsWhole, LineForm, Escapes, Kept, Leaf, leaf_of, iri_of, Name, Ref, Lab, Object, Named, WithType, WithTag, Statement, last, next, name_tokens, object_tokens, graph_tokens, statement_tokens, document_tokens, string_of, subject_of, term_of, Passes, in_lines, Form, uchar, written, escaped, iri_text, subject_text, string_text, rename, Writable, rename_subject, rename_term, string_width, iri_width, WrittenDocumentIsRead, SubjectWithin, TermWithin, GraphWithin, IrisWithin, TermShort, GraphShort, TokensWithin}
 use Rattle.std.proofs.Math.Nat.{mul-suc, mul-add}
 use Rattle.std.specs.Char.{len_utf8}
-use Rattle.rdf_terms.specs.declared.kind.Dialect.TheVariants.{Lines}
-use Rattle.rdf_terms.specs.declared.kind.Kind.TheVariants.{IriRef, LabelNode, ShortString, LangTag, Dot, LineEnd, End}
-use Rattle.rdf_terms.specs.Terms.{Quad, xsd_string}
-use Rattle.rdf_terms.proofs.SpelledLemmas.{string_short}
-use Rattle.rdf_iri.specs.Texts.{byte_len}
-use Rattle.rdf_tokens.specs.Tokens.{Token}
-use Rattle.rdf_tokens.specs.Good.{tokens_of}
-use Rattle.rdf_tokens.specs.Grammars.{PassesNone, IsDocumentOf, IsWhole}
 use Rattle.rdf_tokens.proofs.LimitLemmas.{no_longer}
-use Rattle.rdf_lines.specs.declared.form.LineForm.{LineForm}
-use Rattle.rdf_lines.specs.declared.form.Escapes.{Escapes}
 use Rattle.rdf_lines.specs.declared.form.Escapes.TheVariants as escapes
-use Rattle.rdf_lines.specs.declared.form.Style.TheVariants.{Kept}
-use Rattle.rdf_tokens.specs.Leaves.{Leaf, leaf_of, token, iri_of}
-use Rattle.rdf_lines.specs.Lines.{Name, Ref, Lab, Object, Named, Plain, WithType, WithTag, Statement, Document as Tree, last, next, name_tokens, object_tokens, graph_tokens, statement_tokens, document_tokens, string_of, subject_of, term_of, quad_of}
+use Rattle.rdf_tokens.specs.Leaves.{token}
+use Rattle.rdf_lines.specs.Lines.{Plain, Document as Tree, quad_of}
 use Rattle.rdf_lines.proofs.PlainQuads.{plain_quads}
 use Rattle.rdf_lines.specs.Lines as L
-use Rattle.rdf_lines.specs.Documents.{Passes, in_lines}
-use Rattle.rdf_lines.specs.NodePrefixes.{Form}
-use Rattle.rdf_lines.specs.Writing.{uchar, written, escaped, iri_text, subject_text, string_text, rename, Writable}
-use Rattle.rdf_lines.specs.NodeNames.{rename_subject, rename_term}
-use Rattle.rdf_lines.specs.Laws.{string_width, iri_width, WrittenDocumentIsRead, SubjectWithin, TermWithin, GraphWithin, IrisWithin, TermShort, GraphShort, TokensWithin}
 use Rattle.rdf_lines.proofs.LinesLemmas.{without_marks}
 use Rattle.rdf_lines.proofs.UcharLemmas.{written_cases, uchar_cases}
 use Rattle.rdf_lines.proofs.FormReadBack.{form_text_read}

@@ -1,31 +1,10 @@
 -- The written bytes are good text.
-use Rattle.std.proofs.Common.{◌≡◌, ℕ, Bool, true, false, cond, List, [], ◌∷◌, ◌++◌, ◌==◌, refl, ap, ◌∙◌, ⊎_elim, length, take, drop, Option, Some, None, arith}
-use Rattle.std.specs.Prelude.{flat_map, encode_utf8_all, bytes_eq}
-use Rattle.std.specs.List.{AllByRecursion}
-use Rattle.std.specs.Str.{chars}
-use Rattle.std.specs.Str.Lossy.{utf8_valid_len}
-use Rattle.std.proofs.Math.Utf8.{encodes, scalars}
+use Rattle.rdf_lines.proofs.Prelude.{◌≡◌, ℕ, Bool, true, false, cond, List, [], ◌∷◌, ◌++◌, ◌==◌, refl, ap, ◌∙◌, ⊎_elim, length, take, drop, Option, Some, None, arith, flat_map, encode_utf8_all, bytes_eq, AllByRecursion, chars, utf8_valid_len, encodes, scalars, cases_Bool, cond-true, cond-false, and_parts, and_from, or_cases, false≢true, eq-eqb, nat_tests, take_all, utf8_valid_len-IsUtf8, chars-encodes, Class, Lines, iri_char, Regex, Matches, nothing, many, label_name, tag_name, good, tail_of, mark, has_byte_order_mark, tokens_of, first_place, past, tokens, ended, Label, Anon, Cell, Lang, Typed, Subject, Blank, Term, Resource, Literal, Quad, xsd_string, all_have, IsIri, IsSubject, IsTerm, IsGraph, IsQuad, Escapes, Kept, uchar, written, escaped, CanWrite, iri_text, subject_text, string_text, type_text, term_text, space, graph_text, quad_text, CanWriteSubject, CanWriteTerm, CanWriteGraph, uses, all_used}
 use Rattle.std.proofs.Math.Utf8.{scalar as utf8_scalar}
-use Rattle.std.proofs.lemmas.Bool.{cases_Bool, cond-true, cond-false, and_parts, and_from, or_cases, false≢true, eq-eqb}
-use Rattle.std.proofs.lemmas.Bool.Decides.{nat_tests}
-use Rattle.std.proofs.lemmas.List.{take_all}
-use Rattle.std.proofs.lemmas.Str.{utf8_valid_len-IsUtf8, chars-encodes}
 use Rattle.rdf_terms.specs.declared.kind.Dialect.{Dialect}
-use Rattle.rdf_terms.specs.Classes.{Class, has, scalar}
-use Rattle.rdf_terms.specs.declared.kind.Dialect.TheVariants.{Lines}
-use Rattle.rdf_terms.specs.Classes.Class.{iri_char}
-use Rattle.rdf_terms.specs.Regex.{Regex, Matches}
-use Rattle.rdf_terms.specs.Regex.Regex.{nothing, empty, one, ◌·◌, ◌∣◌, many}
-use Rattle.rdf_terms.specs.Shapes.{label_name, tag_name}
-use Rattle.rdf_tokens.specs.Good.{good, tail_of, mark, has_byte_order_mark, tokens_of, first_place}
-use Rattle.rdf_tokens.specs.Tokens.{past, tokens}
-use Rattle.rdf_tokens.specs.Tokens.Tail.{ended}
-use Rattle.rdf_terms.specs.Terms.{Label, Anon, Cell, Lang, Typed, Subject, Iri, Blank, Term, Resource, Literal, Quad, xsd_string, all_have, IsIri, IsSubject, IsTerm, IsGraph, IsQuad}
-use Rattle.rdf_lines.specs.declared.form.Escapes.{Escapes}
-use Rattle.rdf_lines.specs.declared.form.Style.TheVariants.{Kept}
-use Rattle.rdf_lines.specs.Writing.{uchar, written, escaped, CanWrite, iri_text, subject_text, string_text, type_text, term_text, space, graph_text, quad_text}
-use Rattle.rdf_lines.specs.NodeNames.{CanWriteSubject, CanWriteTerm, CanWriteGraph}
-use Rattle.rdf_terms.proofs.UsedCharacters.{uses, all_used}
+use Rattle.rdf_terms.specs.Classes.{has, scalar}
+use Rattle.rdf_terms.specs.Regex.Regex.{empty, one, ◌·◌, ◌∣◌}
+use Rattle.rdf_terms.specs.Terms.{Iri}
 use Rattle.rdf_lines.proofs.AsciiLemmas.{low_scalars}
 use Rattle.rdf_lines.proofs.UcharLemmas.{written_cases, uchar_low}
 use Rattle.rdf_lines.proofs.SpelledLine.{Written, upto_subject, upto_predicate, upto_object, upto_graph}

@@ -1,19 +1,8 @@
 -- A token is refused for one reason.
-use Rattle.std.proofs.Common.{◌≡◌, ◌⊎◌, inl, inr, false, List, [], ◌∷◌, ◌++◌, Some, None, refl, sym, ap, ◌∙◌, subst, ⊎_elim, append_assoc, arith}
-use Rattle.rdf_terms.specs.declared.kind.Kind.{Kind}
-use Rattle.rdf_terms.specs.declared.kind.Kind.TheVariants.{IriRef, PnameNs, PnameLn, OpenBracket, OpenParen}
-use Rattle.rdf_terms.specs.declared.reason.Reason.{Reason}
-use Rattle.rdf_terms.specs.declared.reason.Reason.TheVariants.{Unexpected, TooDeep, Unbound, NoBase, IriTooLong, TooManyBindings}
-use Rattle.rdf_tokens.specs.Tokens.{Token}
-use Rattle.rdf_tokens.specs.Grammars.{Shaped, Viable}
-use Rattle.rdf_tokens.specs.Leaves.{Leaf, leaf_of}
-use Rattle.rdf_iri.specs.Scope.{InForce}
-use Rattle.rdf_trig.specs.declared.form.DocForm.{DocForm}
-use Rattle.rdf_trig.specs.Documents.{InTree, IsDeep, IsLong, IsOneMore, StandsFor, documents, opens, trees}
-use Rattle.rdf_trig.specs.Events.{Use, document_events, event_quads, itself, tokens}
+use Rattle.rdf_read_back.proofs.Prelude.{◌≡◌, ◌⊎◌, inl, inr, false, List, [], ◌∷◌, ◌++◌, Some, None, refl, sym, ap, ◌∙◌, subst, ⊎_elim, append_assoc, arith, Kind, IriRef, PnameNs, PnameLn, OpenBracket, OpenParen, Reason, Unexpected, TooDeep, Unbound, NoBase, IriTooLong, TooManyBindings, Token, Shaped, Viable, Leaf, leaf_of, InForce, DocForm, InTree, IsDeep, IsLong, IsOneMore, StandsFor, documents, opens, trees, Use, document_events, event_quads, itself, Reply, No, Go, Start, depth, in_default}
+use Rattle.rdf_trig.specs.Events.{tokens}
 use Rattle.rdf_trig.specs.Refusals.{Blamed}
-use Rattle.rdf_trig.specs.Machine.{Reply, No, Go, Start, depth, step}
-use Rattle.rdf_trig.specs.Quads.{in_default}
+use Rattle.rdf_trig.specs.Machine.{step}
 use Rattle.rdf_trig.proofs.machine.DepthAndSense.{Facts, IsUse, step_facts}
 use Rattle.rdf_trig.proofs.machine.ViableTokens.{Stand, any_passing, begins_reached, on_reply, reach, reach-snoc, stand, step_on, and_on}
 use Rattle.rdf_trig.proofs.trees.BoundNames.{settled}

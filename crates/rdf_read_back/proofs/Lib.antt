@@ -1,3 +1,4 @@
+mod Prelude
 -- What is written for a document of Turtle or TriG is read back, and each law at a document.
 pub mod WrittenParts
 pub mod WrittenSteps

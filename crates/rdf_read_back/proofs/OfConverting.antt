@@ -1,34 +1,20 @@
 -- What a conversion has written is read to its end, whatever its format.
-use Rattle.std.proofs.Common.{ℕ, ◌+◌, ◌*◌, ◌≤◌, List, length, Option, Some, None, arith}
-use Rattle.std.specs.Prelude.{map, IfSome}
-use Rattle.std.specs.List.{AllByRecursion}
-use Rattle.rdf_terms.specs.Terms.{Quad}
-use Rattle.rdf_tokens.specs.Scans.{most_bytes}
-use Rattle.rdf_iri.specs.Texts.{byte_len}
-use Rattle.rdf_tokens.specs.Grammars.{IsDocumentOf, IsReadToItsEnd, IsWhole}
+use Rattle.rdf_read_back.proofs.Prelude.{ℕ, ◌+◌, ◌*◌, ◌≤◌, List, length, Option, Some, None, arith, map, IfSome, AllByRecursion, Quad, most_bytes, byte_len, IsDocumentOf, IsReadToItsEnd, IsWhole, in_lines, Kept, Tagged, IrisWithin, TokensWithin, iri_width, Writable, iri_text, rename, DocForm, Turtle, TriG, language, ConvertedIsRead, IsJob, Suffice}
 use Rattle.rdf_driver.specs.declared.summary.Summary.{Summary}
 use Rattle.rdf_lines.specs.declared.form.LineForm.TheVariants.{NQuads}
 use Rattle.rdf_lines.specs.declared.form.LineForm.TheVariants as line
-use Rattle.rdf_lines.specs.Documents.{in_lines}
 use Rattle.rdf_lines.specs.declared.form.LineForm.{LineForm}
 use Rattle.rdf_lines.specs.declared.form.Style.{Style}
-use Rattle.rdf_lines.specs.declared.form.Style.TheVariants.{Kept, Tagged}
-use Rattle.rdf_lines.specs.Laws.{IrisWithin, TokensWithin, iri_width}
-use Rattle.rdf_lines.specs.Writing.{Writable, iri_text, rename}
 use Rattle.rdf_lines.proofs.FormReadBack.{form_text_read}
 use Rattle.rdf_lines.proofs.WrittenLimits.{fitting as lines_fit, written_iri}
 use Rattle.rdf_stream.specs.declared.form.Form.{Form}
 use Rattle.rdf_stream.specs.declared.form.Form.TheVariants as form
-use Rattle.rdf_trig.specs.declared.form.DocForm.{DocForm}
-use Rattle.rdf_trig.specs.declared.form.DocForm.TheVariants.{Turtle, TriG}
-use Rattle.rdf_trig.specs.Language.{language}
 use Rattle.rdf_stream.specs.Converts.{Accepts}
 use Rattle.rdf_stream.specs.Jobs.{JobRead}
 use Rattle.rdf_stream.specs.Kinds.{kind_of}
 use Rattle.rdf_stream.specs.Languages.{conversion_by, lines_of, tree_job, written_form}
 use Rattle.rdf_stream.specs.Graphs.{all_in_graph}
 use Rattle.rdf_stream.proofs.ConvertingLemmas.{placed_writable}
-use Rattle.rdf_read_back.specs.Laws.{ConvertedIsRead, IsJob, Suffice}
 use Rattle.rdf_read_back.proofs.PlacedLimits.{placed_iris, placed_shorts}
 use Rattle.rdf_read_back.proofs.WrittenLimits.{fitting as trees_fit}
 

@@ -1,35 +1,18 @@
 -- The laws of written documents at a document with a node that has no label: `<a:> <a:> [].` and a line feed.
-use Rattle.std.proofs.Common.{◌≡◌, ℕ, true, List, [], ◌∷◌, Some, None, refl, sym, subst, lit≤}
-use Rattle.std.specs.Prelude.{codes, encode_utf8_all}
+use Rattle.rdf_read_back.proofs.Prelude.{◌≡◌, ℕ, true, List, [], ◌∷◌, Some, None, refl, sym, subst, lit≤, codes, encode_utf8_all, IriRef, Dot, OpenBracket, CloseBracket, End, Anon, Blank, Resource, Quad, Token, read, InForce, token, Plain, Tagged, Writable, in_lines, Turtle, reference_in, name_in, is_full, in_default, documents, Passes, Over, State, at_start, ran, accept_all, language, HasIris, IsFront, reading_of, IsDocumentOf, IsWhole, IsReadToItsEnd}
 use Rattle.std.proofs.Math.Utf8.{encode}
 use Rattle.std.specs.Str.{chars, is_utf8}
 use Rattle.std.specs.Str.Lossy.{utf8_valid_len, utf8_error_len}
 use Rattle.std.specs.Fmt.{digits}
-use Rattle.rdf_terms.specs.declared.kind.Kind.TheVariants.{IriRef, Dot, OpenBracket, CloseBracket, End}
 use Rattle.rdf_terms.specs.Classes.{has}
 use Rattle.rdf_terms.specs.Shapes.{shape, kind_of, is_live}
 use Rattle.rdf_terms.specs.Values.{is_fit}
-use Rattle.rdf_terms.specs.Terms.{Anon, Blank, Resource, Quad}
 use Rattle.rdf_terms.specs.Terms as term
-use Rattle.rdf_tokens.specs.Tokens.{Token, step, read, tokens}
+use Rattle.rdf_tokens.specs.Tokens.{step, tokens}
 use Rattle.rdf_tokens.specs.Good.{tokens_of}
-use Rattle.rdf_iri.specs.Scope.{InForce}
 use Rattle.rdf_iri.specs.Resolve.{resolved}
-use Rattle.rdf_tokens.specs.Leaves.{token}
 use Rattle.rdf_lines.specs.declared.form.LineForm.TheVariants.{NQuads}
-use Rattle.rdf_lines.specs.declared.form.Escapes.TheVariants.{Plain}
-use Rattle.rdf_lines.specs.declared.form.Style.TheVariants.{Tagged}
 use Rattle.rdf_lines.specs.NodePrefixes.{Form, text_in}
-use Rattle.rdf_lines.specs.Writing.{Writable}
-use Rattle.rdf_lines.specs.Documents.{in_lines}
-use Rattle.rdf_trig.specs.declared.form.DocForm.TheVariants.{Turtle}
-use Rattle.rdf_trig.specs.Names.{reference_in, name_in, is_full}
-use Rattle.rdf_trig.specs.Quads.{in_default}
-use Rattle.rdf_trig.specs.Documents.{documents, Passes}
-use Rattle.rdf_trig.specs.Machine.{Over, State, at_start, ran, accept_all}
-use Rattle.rdf_trig.specs.Language.{language}
-use Rattle.rdf_read_back.specs.Laws.{HasIris}
-use Rattle.rdf_tokens.specs.Grammars.{IsFront, reading_of, IsDocumentOf, IsWhole, IsReadToItsEnd}
 use Rattle.rdf_trig.proofs.examples.Documents.{leaf, quad}
 use Rattle.rdf_trig.proofs.theorems.StatedLaws.{begins}
 use Rattle.rdf_trig.proofs.machine.ExactDocuments.{accepted_document}

@@ -1,14 +1,8 @@
 -- Quads that are written in a graph keep the limits that its IRI keeps.
-use Rattle.std.proofs.Common.{ℕ, ◌≤◌, List, [], ◌∷◌, length, Option, Some, None, option_map}
-use Rattle.std.specs.Prelude.{map, IfSome}
-use Rattle.std.specs.List.{AllByRecursion}
-use Rattle.rdf_terms.specs.Terms.{Subject, Quad}
-use Rattle.rdf_iri.specs.Texts.{byte_len}
-use Rattle.rdf_lines.specs.declared.form.Escapes.{Escapes}
+use Rattle.rdf_read_back.proofs.Prelude.{ℕ, ◌≤◌, List, [], ◌∷◌, length, Option, Some, None, option_map, map, IfSome, AllByRecursion, Quad, byte_len, Escapes, iri_text, rename, GraphShort, GraphWithin, IrisWithin, TokensWithin}
+use Rattle.rdf_terms.specs.Terms.{Subject}
 use Rattle.rdf_lines.specs.declared.form.Style.{Style}
-use Rattle.rdf_lines.specs.Writing.{iri_text, rename}
 use Rattle.rdf_lines.specs.NodeNames.{rename_subject}
-use Rattle.rdf_lines.specs.Laws.{GraphShort, GraphWithin, IrisWithin, TokensWithin}
 use Rattle.rdf_stream.specs.Graphs.{all_in_graph, in_graph, or_graph}
 
 module _ (s : Style) (e : Escapes) (n : ℕ) where

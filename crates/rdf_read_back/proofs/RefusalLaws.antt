@@ -1,9 +1,6 @@
 -- The laws of refusals, for each format.
-use Rattle.std.proofs.Common.{◌≡◌, ℕ, Bool, List, refl}
-use Rattle.rdf_terms.specs.declared.reason.Reason.{Reason}
-use Rattle.rdf_terms.specs.declared.reason.Reason.TheVariants.{Unexpected, RelativeIri, IriTooLong}
-use Rattle.rdf_tokens.specs.Tokens.{Place, Token}
-use Rattle.rdf_tokens.specs.Grammars.{Refused, reading_of}
+use Rattle.rdf_read_back.proofs.Prelude.{◌≡◌, ℕ, Bool, List, refl, Reason, Unexpected, RelativeIri, IriTooLong, Token, Refused, reading_of, RefusedOnce, RefusedInMore}
+use Rattle.rdf_tokens.specs.Tokens.{Place}
 use Rattle.rdf_tokens.proofs.LanguageLemmas.{EndsAtBlame, refused_in_more}
 use Rattle.rdf_lines.specs.declared.form.LineForm.{LineForm}
 use Rattle.rdf_lines.specs.declared.form.LineForm.TheVariants as line
@@ -16,7 +13,6 @@ use Rattle.rdf_stream.specs.declared.form.Form.TheVariants as form
 use Rattle.rdf_stream.specs.Jobs.{JobRead}
 use Rattle.rdf_stream.specs.Kinds.{kind_of}
 use Rattle.rdf_stream.specs.Languages.{conversion_by, tree_job}
-use Rattle.rdf_read_back.specs.Laws.{RefusedOnce, RefusedInMore}
 use Rattle.rdf_read_back.proofs.RefusedOnce.{refused_once}
 use Rattle.rdf_read_back.proofs.BlamedOnce.{blamed_once}
 

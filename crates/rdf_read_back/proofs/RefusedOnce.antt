@@ -1,11 +1,8 @@
 -- A reading is refused once: for one reason, at one place.
-use Rattle.std.proofs.Common.{◌≡◌, List, [], ◌∷◌, ◌++◌, ◌⊎◌, inl, inr, ⊎_elim, length, take, drop, refl, sym, ap, subst, ◌∙◌, arith, length-append}
+use Rattle.rdf_read_back.proofs.Prelude.{◌≡◌, List, [], ◌∷◌, ◌++◌, ◌⊎◌, inl, inr, ⊎_elim, length, take, drop, refl, sym, ap, subst, ◌∙◌, arith, length-append, Reason, BadUtf8, NoToken, BadEscape, TokenTooLong, DocumentTooLong, Memory, Ended, Sink, Outcome, Reading, Token, IsFront, LanguageOf, MarkedItem, RefusedIn, RefusesAt, StopsAt}
 use Rattle.std.proofs.Math.Seq.{take-append_seam}
-use Rattle.rdf_terms.specs.declared.reason.Reason.{Reason}
-use Rattle.rdf_terms.specs.declared.reason.Reason.TheVariants.{BadUtf8, NoToken, BadEscape, TokenTooLong, DocumentTooLong, Memory, Ended, Sink}
-use Rattle.rdf_tokens.specs.Tokens.{Outcome, Place, Reading, Token}
+use Rattle.rdf_tokens.specs.Tokens.{Place}
 use Rattle.rdf_tokens.specs.Tokens.Outcome.{undecided, complete, token_too_long, bad_utf8, no_token, bad_escape}
-use Rattle.rdf_tokens.specs.Grammars.{IsFront, LanguageOf, MarkedItem, RefusedIn, RefusesAt, StopsAt}
 
 -- the reason of an outcome that is a stop
 abbrev stop_reason : Outcome → Reason

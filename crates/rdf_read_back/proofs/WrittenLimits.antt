@@ -1,33 +1,16 @@
 -- What is written for a document is read to its end, with limits that are a little higher.
-use Rattle.std.proofs.Common.{◌≡◌, ℕ, ◌+◌, ◌*◌, ◌^◌, ◌≤◌, true, List, [], ◌∷◌, ◌++◌, length, Option, Some, None, option_map, inl, inr, ⊎_elim, refl, sym, ap, ◌∙◌, subst, append_assoc, arith, lit≤}
+use Rattle.rdf_read_back.proofs.Prelude.{◌≡◌, ℕ, ◌+◌, ◌*◌, ◌^◌, ◌≤◌, true, List, [], ◌∷◌, ◌++◌, length, Option, Some, None, option_map, inl, inr, ⊎_elim, refl, sym, ap, ◌∙◌, subst, append_assoc, arith, lit≤, map, IfSome, AllByRecursion, Tail, Lang, Typed, Blank, Term, Resource, Literal, Quad, IsSubject, IsTail, IsTerm, IsGraph, Token, IsToken, most_bytes, unmarked, PassesNone, reading_of, IsDocumentOf, IsWhole, byte_len, InForce, Escapes, Plain, Tagged, Writable, subject_text, rename, string_width, iri_width, SubjectWithin, TailWithin, TermWithin, GraphWithin, IrisWithin, TailShort, TermShort, GraphShort, TokensWithin, DocForm, Use, itself, stands, binds, Event, Took, Gave, Bound, document_events, IsLong, Passes, InTree, language, HasIris, DocumentIsWritable, WrittenDocumentIsRead}
 use Rattle.std.proofs.lemmas.Bool.{cases_lt}
-use Rattle.std.specs.Prelude.{map, IfSome}
-use Rattle.std.specs.List.{AllByRecursion}
 use Rattle.rdf_terms.specs.declared.kind.Dialect.TheVariants.{Turtle as turtle}
-use Rattle.rdf_terms.specs.Terms.{Tail, Lang, Typed, Blank, Term, Resource, Literal, Quad, IsSubject, IsTail, IsTerm, IsGraph}
 use Rattle.rdf_terms.specs.Terms as term
-use Rattle.rdf_tokens.specs.Tokens.{Token}
-use Rattle.rdf_tokens.specs.Scans.{IsToken, most_bytes}
-use Rattle.rdf_tokens.specs.Grammars.{unmarked, PassesNone, reading_of, IsDocumentOf, IsWhole}
 use Rattle.rdf_tokens.specs.Laws.{StandsIn}
 use Rattle.rdf_tokens.proofs.LawLemmas.{have_shapes, places}
 use Rattle.rdf_tokens.proofs.LimitLemmas.{no_longer}
-use Rattle.rdf_iri.specs.Texts.{byte_len}
-use Rattle.rdf_iri.specs.Scope.{InForce}
-use Rattle.rdf_lines.specs.declared.form.Escapes.{Escapes}
-use Rattle.rdf_lines.specs.declared.form.Escapes.TheVariants.{Plain}
-use Rattle.rdf_lines.specs.declared.form.Style.TheVariants.{Tagged}
-use Rattle.rdf_lines.specs.Writing.{Writable, subject_text, rename}
 use Rattle.rdf_lines.specs.NodeNames.{CanWriteSubject, CanWriteTerm, CanWriteGraph, rename_subject, rename_term}
-use Rattle.rdf_lines.specs.Laws.{string_width, iri_width, SubjectWithin, TailWithin, TermWithin, GraphWithin, IrisWithin, TailShort, TermShort, GraphShort, TokensWithin}
 use Rattle.rdf_lines.proofs.FormReadBack.{form_text_read}
 use Rattle.rdf_lines.proofs.WellFormed.{each}
-use Rattle.rdf_trig.specs.declared.form.DocForm.{DocForm}
 use Rattle.rdf_trig.specs.Trees.{Document}
-use Rattle.rdf_trig.specs.Events.{Use, itself, stands, binds, Event, Took, Gave, tokens, Bound, document_events}
-use Rattle.rdf_trig.specs.Documents.{IsLong, Passes, InTree}
-use Rattle.rdf_trig.specs.Language.{language}
-use Rattle.rdf_read_back.specs.Laws.{HasIris, DocumentIsWritable, WrittenDocumentIsRead}
+use Rattle.rdf_trig.specs.Events.{tokens}
 use Rattle.rdf_trig.proofs.trees.Senses.{tokens_after}
 use Rattle.rdf_read_back.proofs.WrittenParts.{Room, FitSubject, FitTail, FitTerm, GoodToken, Within}
 use Rattle.rdf_read_back.proofs.WrittenSteps.{AllWithin, AllFit, tree_fits}

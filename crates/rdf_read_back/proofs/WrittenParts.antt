@@ -1,7 +1,5 @@
 -- What the machine gives out is well formed, and as it is written none of its tokens is much longer than one that was read.
-use Rattle.std.proofs.Common.{◌≡◌, ◌≢◌, ℕ, ◌+◌, ◌*◌, ◌^◌, ◌<◌, ◌≤◌, Bool, true, false, cond, List, [], ◌∷◌, ◌++◌, ◌==◌, nat_le, length, Option, Some, None, option_map, unwrap_or, refl, sym, ap, ◌∙◌, subst, ⊎_elim, arith, lit<, lit≤, length-append, length-drop}
-use Rattle.std.specs.Prelude.{codes, flat_map, decimal, IfSome}
-use Rattle.std.specs.List.{AllByRecursion}
+use Rattle.rdf_read_back.proofs.Prelude.{◌≡◌, ◌≢◌, ℕ, ◌+◌, ◌*◌, ◌^◌, ◌<◌, ◌≤◌, Bool, true, false, cond, List, [], ◌∷◌, ◌++◌, ◌==◌, nat_le, length, Option, Some, None, option_map, unwrap_or, refl, sym, ap, ◌∙◌, subst, ⊎_elim, arith, lit<, lit≤, length-append, length-drop, codes, flat_map, decimal, IfSome, AllByRecursion, Kind, LabelNode, ShortString, LongString, Integer, Decimal, Double, End, Node, Label, Anon, Cell, Lang, Typed, Blank, Term, Resource, Literal, Quad, all_have, has_scheme, IsIri, IsNode, IsTag, Token, IsToken, byte_len, equal, InForce, bound_to, Leaf, leaf_of, token, iri_of, Escapes, Plain, Ascii, Tagged, string_width, iri_width, uchar, written, escaped, rename_node, node_text, iri_text, string_text, reference_in, name_in, prefix_of, local_of, with_base, with_binding, stated, named, resource, labelled, short_value, long_value, tag_of, typed_literal, Use, itself, stands, binds, HasIris}
 use Rattle.std.proofs.Math.Utf8.{encode}
 use Rattle.std.proofs.lemmas.Fmt.{length-decimal-le}
 use Rattle.std.proofs.lemmas.Bool.{cond-true, cond-false, cond_both, eqb-true, false≢true}
@@ -10,39 +8,23 @@ use Rattle.rdf_terms.specs.Classes.{has, scalar}
 use Rattle.rdf_terms.specs.Classes.Class.{iri_char}
 use Rattle.rdf_terms.specs.Regex.{Regex, Matches}
 use Rattle.rdf_terms.specs.declared.kind.Dialect.TheVariants.{Turtle as turtle}
-use Rattle.rdf_terms.specs.declared.kind.Kind.{Kind}
-use Rattle.rdf_terms.specs.declared.kind.Kind.TheVariants.{LabelNode, ShortString, LongString, Integer, Decimal, Double, End}
 use Rattle.rdf_terms.specs.Shapes.{shape, Shape}
 use Rattle.rdf_terms.specs.Values.{iri_value, local_value, inside}
 use Rattle.rdf_terms.specs.Known.{known_chars}
 use Rattle.rdf_terms.specs.declared.constants.Known.{Known}
 use Rattle.rdf_terms.specs.declared.constants.Known.TheVariants.{RdfType, RdfFirst, RdfRest, RdfNil, XsdString, XsdInteger, XsdDecimal, XsdDouble, XsdBoolean}
-use Rattle.rdf_terms.specs.Terms.{Node, Label, Anon, Cell, Lang, Typed, Blank, Term, Resource, Literal, Quad, all_have, has_scheme, IsIri, IsNode, IsTag}
 use Rattle.rdf_terms.specs.Terms as term
 use Rattle.rdf_terms.proofs.KnownLemmas.{IsIri-known_chars}
 use Rattle.rdf_terms.proofs.ValuesLemmas.{iri_value_characters}
 use Rattle.rdf_terms.proofs.LocalLemmas.{local-means}
 use Rattle.rdf_terms.proofs.UsedCharacters.{uses, all_used}
-use Rattle.rdf_tokens.specs.Tokens.{Token}
-use Rattle.rdf_tokens.specs.Scans.{IsToken}
-use Rattle.rdf_iri.specs.Texts.{byte_len, equal, after}
+use Rattle.rdf_iri.specs.Texts.{after}
 use Rattle.rdf_iri.specs.Resolve.{resolved, based}
-use Rattle.rdf_iri.specs.Scope.{InForce, bound_to}
 use Rattle.rdf_iri.proofs.ResolvedText.{IsIri-target}
 use Rattle.rdf_iri.proofs.ScopeLemmas.{IsIri-append}
-use Rattle.rdf_tokens.specs.Leaves.{Leaf, leaf_of, token, iri_of}
-use Rattle.rdf_lines.specs.declared.form.Escapes.{Escapes}
-use Rattle.rdf_lines.specs.declared.form.Escapes.TheVariants.{Plain, Ascii}
-use Rattle.rdf_lines.specs.declared.form.Style.TheVariants.{Tagged}
-use Rattle.rdf_lines.specs.Laws.{string_width, iri_width}
-use Rattle.rdf_lines.specs.Writing.{uchar, written, escaped, rename_node, node_text, iri_text, string_text}
 use Rattle.rdf_lines.proofs.WellFormed.{matched_scalar, string_scalars}
 use Rattle.rdf_terms.proofs.SpelledLemmas.{label_in, string_short}
 use Rattle.rdf_lines.proofs.WrittenLimits.{written_string, written_iri, string_room, iri_room, token_room}
-use Rattle.rdf_trig.specs.Names.{reference_in, name_in, prefix_of, local_of, with_base, with_binding}
-use Rattle.rdf_trig.specs.Quads.{stated, named, resource, labelled, short_value, long_value, tag_of, typed_literal}
-use Rattle.rdf_trig.specs.Events.{Use, itself, stands, binds}
-use Rattle.rdf_read_back.specs.Laws.{HasIris}
 use Rattle.rdf_trig.specs.Spelled.{SpellsTag}
 use Rattle.rdf_trig.proofs.trees.NamesLemmas.{binds_prefix}
 use Rattle.rdf_trig.proofs.code.SpelledLemmas.{spelled_tag}

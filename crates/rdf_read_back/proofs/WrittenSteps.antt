@@ -1,28 +1,14 @@
 -- Each step of the machine gives quads that can be written within the limits, and keeps parts of quads that can.
-use Rattle.std.proofs.Common.{◌≡◌, ◌≢◌, ℕ, ◌+◌, ◌^◌, ◌<◌, true, List, [], ◌∷◌, Option, Some, None, sym, subst, refl}
-use Rattle.std.specs.Prelude.{codes, IfSome}
-use Rattle.std.specs.List.{AllByRecursion}
-use Rattle.rdf_terms.specs.declared.kind.Kind.{Kind}
-use Rattle.rdf_terms.specs.declared.kind.Kind.TheVariants.{IriRef, LabelNode, ShortString, LongString, LangTag, Carets, Dot, Integer, Decimal, Double, True, False, A, AtPrefix, AtBase, Prefix, Base, Graph, PnameNs, PnameLn, Semicolon, Comma, OpenBracket, CloseBracket, OpenParen, CloseParen, OpenBrace, CloseBrace, End}
+use Rattle.rdf_read_back.proofs.Prelude.{◌≡◌, ◌≢◌, ℕ, ◌+◌, ◌^◌, ◌<◌, true, List, [], ◌∷◌, Option, Some, None, sym, subst, refl, codes, IfSome, AllByRecursion, Kind, IriRef, LabelNode, ShortString, LongString, LangTag, Carets, Dot, Integer, Decimal, Double, True, False, A, AtPrefix, AtBase, Prefix, Base, Graph, PnameNs, PnameLn, Semicolon, Comma, OpenBracket, CloseBracket, OpenParen, CloseParen, OpenBrace, CloseBrace, End, Node, Anon, Cell, Blank, Term, Quad, IsIri, Token, unmarked, InForce, Leaf, leaf_of, DocForm, Turtle, TriG, prefix_of, reference_in, name_in, Setting, in_default, named, node, resource, anon_at, labelled, tag_of, plain_literal, tagged_literal, typed_literal, cell_at, rest_quad, itself, Event, Took, Gave, give, event_quads, document_events, Topic, sized, unsized, Level, Top, InBlock, Listed, InCollection, Around, Statement, InPropertyList, Up, At, Spelling, Dotted, Sparql, Mode, Start, Over, WantPrefix, WantPrefixIri, WantBaseIri, WantDot, AfterLabel, GraphWord, GraphBracket, WantBrace, Inside, Want, After, AfterText, WantType, PropertyListStart, CollectionStart, WantVerb, AfterSemicolon, AfterPropertyList, Reply, No, Go, subject_at, verb_at, quad_at, quad_up, nil, iri_object_at, literal_at, object_start, type_at, want_type, verb_is, verb_start, after_subject, node_closed, property_list_closed, collection_closed, predicate_list_end, after_semicolon, tag_at, after_text, property_list_start, collection_start, after_property_list, subject_is, subject_start, start, want_brace, after_label, graph_is, graph_word, graph_bracket, directive_end, want_prefix, want_prefix_iri, want_base_iri, want_dot, waiting, stop, fronted, go_on, run, HasIris}
 use Rattle.rdf_terms.specs.Known.{known_chars}
 use Rattle.rdf_terms.specs.declared.constants.Known.{Known}
 use Rattle.rdf_terms.specs.declared.constants.Known.TheVariants.{RdfType, RdfFirst, RdfRest, RdfNil, XsdString, XsdInteger, XsdDecimal, XsdDouble, XsdBoolean}
-use Rattle.rdf_terms.specs.Terms.{Node, Anon, Cell, Blank, Term, Quad, IsIri}
 use Rattle.rdf_terms.specs.Terms as term
-use Rattle.rdf_tokens.specs.Tokens.{Token}
-use Rattle.rdf_tokens.specs.Grammars.{unmarked}
-use Rattle.rdf_iri.specs.Scope.{InForce}
-use Rattle.rdf_tokens.specs.Leaves.{Leaf, leaf_of}
-use Rattle.rdf_trig.specs.declared.form.DocForm.{DocForm}
-use Rattle.rdf_trig.specs.declared.form.DocForm.TheVariants.{Turtle, TriG}
-use Rattle.rdf_trig.specs.Names.{prefix_of, reference_in, name_in}
 use Rattle.rdf_trig.specs.Trees.{Document}
-use Rattle.rdf_trig.specs.Quads.{Setting, in_default, in_graph, named, node, resource, anon_at, labelled, tag_of, plain_literal, tagged_literal, typed_literal, cell_at, rest_quad}
-use Rattle.rdf_trig.specs.Events.{itself, Event, Took, Gave, give, event_quads, document_events, tokens}
-use Rattle.rdf_trig.specs.Machine.{Topic, sized, unsized, Level, Top, InBlock, Place, Listed, InCollection, Around, Statement, InPropertyList, Up, Subject, At, Spelling, Dotted, Sparql, Mode, Start, Over, WantPrefix, WantPrefixIri, WantBaseIri, WantDot, AfterLabel, GraphWord, GraphBracket, WantBrace, Inside, Want, After, AfterText, WantType, PropertyListStart, CollectionStart, WantVerb, AfterSemicolon, AfterPropertyList, Reply, No, Go, subject_at, verb_at, quad_at, quad_up, nil, iri_object_at, literal_at, object_start, type_at, want_type, verb_is, verb_start, after_subject, node_closed, property_list_closed, collection_closed, predicate_list_end, after_semicolon, after, tag_at, after_text, property_list_start, collection_start, after_property_list, subject_is, subject_start, start, inside, want_brace, after_label, graph_is, graph_word, graph_bracket, directive_end, want_prefix, want_prefix_iri, want_base_iri, want_dot, step, waiting}
-use Rattle.rdf_trig.specs.Machine.{stop, fronted, go_on, run}
+use Rattle.rdf_trig.specs.Quads.{in_graph}
+use Rattle.rdf_trig.specs.Events.{tokens}
+use Rattle.rdf_trig.specs.Machine.{Place, Subject, after, inside, step}
 use Rattle.rdf_trig.specs.Spelled.{SpellsTag}
-use Rattle.rdf_read_back.specs.Laws.{HasIris}
 use Rattle.rdf_trig.proofs.machine.Soundness.{unput}
 use Rattle.rdf_trig.proofs.machine.ViableTokens.{run_tree}
 use Rattle.rdf_read_back.proofs.WrittenParts.{Room, FitIri, FitSubject, FitWord, FitTerm, FitQuad, Good, GoodToken, Within, known_fits, named_fits, subject_named, resource_fits, typed_fits, stated_fits, anon_fits, cell_fits, label_fits, short_fits, long_fits, integer_fits, decimal_fits, double_fits, true_fits, false_fits, tag_fits, reference_iri, name_iri, base_iris, binding_iris}

@@ -1,28 +1,11 @@
 -- A whole check, from what its run has done.
-use Rattle.std.proofs.Common.{◌≡◌, ◌≤◌, ℕ, ◌+◌, Bool, true, false, List, [], ◌++◌, length, take, Option, IfSome, refl, sym, ap, subst, ⊎_elim, ◌∙◌, arith, length-append}
-use Rattle.std.proofs.lemmas.Bool.{false≢true}
-use Rattle.std.proofs.KnownBytes.{Consumes-whole}
-use Rattle.rdf_terms.specs.declared.reason.Reason.{Reason}
+use Rattle.rdf_stream.proofs.Prelude.{◌≡◌, ◌≤◌, ℕ, ◌+◌, Bool, true, false, List, [], ◌++◌, length, take, Option, IfSome, refl, sym, ap, subst, ⊎_elim, ◌∙◌, arith, length-append, false≢true, Consumes-whole, Reason, Quad, Place, most_bytes, place_of, GoesOn, Language, EndsAtBlame, refused_in_more, Summary, Driven, FeedFails, Feeds, FinishFails, Finishes, HasRead, in_words, StreamFault, CheckStops, IsRefusedFor, IsAccepted, BeginsToRead, CheckEnds, CheckHalts, ChecksNoMore, HasChecked, IsChecking, HasGiven, Stands, IsOfDocument, IsRefusal, fault_by, ReadStops, ReadsAll, SourceFails}
 use Rattle.rdf_terms.specs.declared.reason.Reason.TheVariants as reason
-use Rattle.rdf_terms.specs.Terms.{Quad}
-use Rattle.rdf_tokens.specs.Tokens.{Place}
-use Rattle.rdf_tokens.specs.Scans.{most_bytes, place_of}
-use Rattle.rdf_tokens.specs.Grammars.{GoesOn, Language}
-use Rattle.rdf_tokens.proofs.LanguageLemmas.{EndsAtBlame, refused_in_more}
-use Rattle.rdf_driver.specs.declared.summary.Summary.{Summary}
-use Rattle.rdf_driver.specs.Readers.{Driven, FeedFails, Feeds, FinishFails, Finishes, HasRead}
-use Rattle.rdf_driver.specs.Words.{Words, in_words}
+use Rattle.rdf_driver.specs.Words.{Words}
 use Rattle.rdf_driver.proofs.PromiseLemmas.{read_goes_on}
 use Rattle.rdf_stream.specs.declared.checks.NoQuads.{NoQuads}
-use Rattle.rdf_stream.specs.declared.fault.StreamFault.{StreamFault}
 use Rattle.rdf_stream.specs.declared.fault.StreamFault.TheVariants as stream
-use Rattle.rdf_stream.specs.Checks.{CheckStops, IsRefusedFor, IsAccepted}
-use Rattle.rdf_stream.specs.CheckRuns.{BeginsToRead, CheckEnds, CheckHalts, ChecksNoMore, HasChecked, IsChecking}
-use Rattle.rdf_stream.specs.Devices.{HasGiven, Reading}
-use Rattle.rdf_stream.specs.ExpectedRuns.{Stands}
-use Rattle.rdf_stream.specs.Faults.{IsOfDocument, IsRefusal}
-use Rattle.rdf_stream.specs.RunFaults.{fault_by}
-use Rattle.rdf_stream.specs.Pieces.{ReadStops, ReadsAll, SourceFails}
+use Rattle.rdf_stream.specs.Devices.{Reading}
 use Rattle.rdf_stream.proofs.PiecesLemmas.{all_given, same_front, too_long_more}
 
 -- a sink that only counts stays as it is

@@ -1,51 +1,23 @@
 -- A piece more, the end, or an error within one: what the drain has then.
-use Rattle.std.proofs.Common.{◌≡◌, ◌≤◌, ◌<◌, ℕ, Bool, true, false, List, [], ◌∷◌, ◌++◌, ◌⊎◌, ◌||◌, ◌&&◌, ◌==◌, length, take, drop, Option, None, Some, IfSome, refl, sym, ap, subst, ◌∙◌, append_assoc, ⊎_elim, arith}
-use Rattle.std.proofs.lemmas.List.{append-nil, map-id, take-append-drop}
-use Rattle.std.proofs.lemmas.Bool.{false≢true, and_parts, eqb-true}
-use Rattle.std.specs.Prelude.{encode_utf8_all}
-use Rattle.std.specs.Str.{chars}
-use Rattle.std.proofs.lemmas.Str.{chars-nil, encodes-append}
-use Rattle.std.specs.Io.KnownBytes.{Appends}
-use Rattle.std.specs.List.{AllByRecursion}
+use Rattle.rdf_stream.proofs.Prelude.{◌≡◌, ◌≤◌, ◌<◌, ℕ, Bool, true, false, List, [], ◌∷◌, ◌++◌, ◌⊎◌, ◌||◌, ◌&&◌, ◌==◌, length, take, drop, Option, None, Some, IfSome, refl, sym, ap, subst, ◌∙◌, append_assoc, ⊎_elim, arith, append-nil, map-id, take-append-drop, false≢true, and_parts, eqb-true, encode_utf8_all, chars, chars-nil, encodes-append, Appends, AllByRecursion, Reason, Quad, Subject, IsGraph, IsIri, IsQuad, Place, Token, tokens_of, BeginsDue, Due, LanguageOf, PassesNone, RefusedIn, reading_of, most_bytes, due_more, Summary, Driven, FeedFails, Feeds, FinishFails, Finishes, HasRead, LeavesOff, piece_reading, in_words, Style, CanWrite, Writable, AreLines, ConversionOf, lines_of, StreamFault, LineOut, OutputView, Able, Writer, conversion, lines_by, of_quads, output_of, HandedOver, HaltsFor, HasPut, IsConverting, IsPutting, RunEnds, RunHalts, IsConvertible, Reports, ReportsFault, ReportsWrite, Accepts, RefusesDocument, WritesDue, WritesSome, AppendsFront, fault_by, Leaves, Moves, PutHalts, SameOut, Writes, IsAsciiText, PassesText}
 use Rattle.rdf_terms.specs.declared.kind.Kind.{Kind}
-use Rattle.rdf_terms.specs.declared.reason.Reason.{Reason}
 use Rattle.rdf_terms.specs.declared.reason.Reason.TheVariants as reason
-use Rattle.rdf_terms.specs.Terms.{Quad, Subject, IsGraph, IsIri, IsQuad}
 use Rattle.rdf_terms.proofs.TermsLemmas.{IsIri-had}
-use Rattle.rdf_tokens.specs.Tokens.{Place, Token, Reading}
-use Rattle.rdf_tokens.specs.Good.{tokens_of}
-use Rattle.rdf_tokens.specs.Grammars.{BeginsDue, Due, LanguageOf, PassesNone, RefusedIn, reading_of}
-use Rattle.rdf_tokens.specs.Scans.{most_bytes}
-use Rattle.rdf_tokens.proofs.LanguageLemmas.{due_more}
-use Rattle.rdf_driver.specs.declared.summary.Summary.{Summary}
+use Rattle.rdf_tokens.specs.Tokens.{Reading}
 use Rattle.rdf_driver.specs.Readers as R
-use Rattle.rdf_driver.specs.Readers.{Driven, FeedFails, Feeds, FinishFails, Finishes, HasRead, LeavesOff, piece_reading}
-use Rattle.rdf_driver.specs.Words.{Words, in_words}
+use Rattle.rdf_driver.specs.Words.{Words}
 use Rattle.rdf_lines.specs.declared.form.Escapes.{Escapes}
 use Rattle.rdf_lines.specs.declared.form.Escapes.TheVariants.{Plain, Ascii}
-use Rattle.rdf_lines.specs.declared.form.Style.{Style}
-use Rattle.rdf_lines.specs.Writing.{CanWrite, Writable}
 use Rattle.rdf_lines.specs.Forms.{form_of}
 use Rattle.rdf_lines.specs.NodePrefixes.{IsNodePrefix, line_in, text_in, unprefixed}
 use Rattle.rdf_lines.specs.NodeNames.{CanWriteGraph}
 use Rattle.rdf_lines.proofs.NodePrefixLemmas.{IsNodePrefix-had}
 use Rattle.rdf_lines.proofs.FormReadBack.{form_ascii, form_reads_back}
 use Rattle.rdf_lines.proofs.FormsAgree.{forms_agree}
-use Rattle.rdf_stream.specs.Languages.{AreLines, ConversionOf, lines_of}
-use Rattle.rdf_stream.specs.declared.fault.StreamFault.{StreamFault}
 use Rattle.rdf_stream.specs.declared.fault.StreamFault.TheVariants as stream
-use Rattle.rdf_stream.specs.declared.line_out.LineOut.{LineOut}
-use Rattle.rdf_stream.specs.declared.output.OutputView.{OutputView}
 use Rattle.rdf_stream.specs.Graphs.{all_in_graph, in_graph, or_graph}
 use Rattle.rdf_stream.proofs.OutputLemmas.{no_graph}
-use Rattle.rdf_stream.specs.Outputs.{Able, Writer, conversion, lines_by, of_quads, output_of}
-use Rattle.rdf_stream.specs.Converting.{HandedOver, HaltsFor, HasPut, IsConverting, IsPutting, RunEnds, RunHalts, IsConvertible, Reports, ReportsFault, ReportsWrite}
-use Rattle.rdf_stream.specs.Converts.{Accepts, RefusesDocument, WritesDue, WritesSome}
-use Rattle.rdf_stream.specs.Devices.{AppendsFront}
-use Rattle.rdf_stream.specs.RunFaults.{fault_by}
-use Rattle.rdf_stream.specs.LineOut.{Leaves, Moves, PutHalts, SameOut, Takes, Writes}
-use Rattle.rdf_stream.specs.Parts.{IsAsciiText}
-use Rattle.rdf_stream.specs.Passes.{PassesText}
+use Rattle.rdf_stream.specs.LineOut.{Takes}
 use Rattle.rdf_stream.specs.WrittenForms.{is_raw, keeps_lines, plain}
 use Rattle.rdf_stream.proofs.LineOutLemmas.{Taken, Tried, IsWriter, able, front_moves, lines-append, moves_all, moves_front, moves_more, moves_on, puts_tries, same_out, taken, tried, writable}
 

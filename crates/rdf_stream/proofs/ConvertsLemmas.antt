@@ -1,42 +1,14 @@
 -- A whole conversion, from what its run has done.
-use Rattle.std.proofs.Common.{◌≡◌, ℕ, Bool, true, false, List, [], ◌∷◌, ◌++◌, Option, IfSome, refl, sym, ap, subst, ◌∙◌, ⊎_elim, arith}
-use Rattle.std.specs.Io.KnownBytes.{Appends}
-use Rattle.std.proofs.KnownBytes.{Appends-nil, Consumes-nil, Consumes-whole}
-use Rattle.rdf_terms.specs.declared.reason.Reason.{Reason}
+use Rattle.rdf_stream.proofs.Prelude.{◌≡◌, ℕ, Bool, true, false, List, [], ◌∷◌, ◌++◌, Option, IfSome, refl, sym, ap, subst, ◌∙◌, ⊎_elim, arith, Appends, Appends-nil, Consumes-nil, Consumes-whole, Reason, Quad, Place, place_of, Due, GoesOn, PassesNone, reading_of, EndsAtBlame, due_more, refused_in_more, Summary, Driven, in_words, StreamFault, LineOut, HaltsFor, IsConverting, RunEnds, RunHalts, Starts, Accepts, IsPrompt, RefusesDocument, StopsFor, WritesDue, WritesSome, HasGiven, Stands, IsOfDocument, IsRefusal, IsSentOn, LineForm, Style, Tagged, OutputView, line_words, tree_words, Chosen, Line, Tree, JobRead, kind_of, Conversion, ConversionOf, conversion_by, conversion_of, tree_job, Output, Writer, conversion, of_quads, output, output_of, OnlyGrows, ReadStops, ReadsAll, SourceFails, TakenBefore}
 use Rattle.rdf_terms.specs.declared.reason.Reason.TheVariants as reason
-use Rattle.rdf_terms.specs.Terms.{Quad}
-use Rattle.rdf_tokens.specs.Tokens.{Place}
-use Rattle.rdf_tokens.specs.Scans.{place_of}
-use Rattle.rdf_tokens.specs.Grammars.{Due, GoesOn, PassesNone, reading_of}
 use Rattle.rdf_tokens.proofs.GrammarsLemmas.{tokens_of-nil}
-use Rattle.rdf_tokens.proofs.LanguageLemmas.{EndsAtBlame, due_more, refused_in_more}
-use Rattle.rdf_driver.specs.declared.summary.Summary.{Summary}
-use Rattle.rdf_driver.specs.Readers.{Driven}
-use Rattle.rdf_driver.specs.Words.{Words, in_words}
+use Rattle.rdf_driver.specs.Words.{Words}
 use Rattle.rdf_driver.proofs.PromiseLemmas.{read_goes_on}
-use Rattle.rdf_stream.specs.declared.fault.StreamFault.{StreamFault}
 use Rattle.rdf_stream.specs.declared.fault.StreamFault.TheVariants as stream
-use Rattle.rdf_stream.specs.declared.line_out.LineOut.{LineOut}
-use Rattle.rdf_stream.specs.Converting.{Begins, HaltsFor, IsConverting, RunEnds, RunHalts, Starts}
-use Rattle.rdf_stream.specs.Converts.{Accepts, IsPrompt, RefusesDocument, StopsFor, WritesDue, WritesSome}
-use Rattle.rdf_stream.specs.Devices.{HasGiven, Reading}
-use Rattle.rdf_stream.specs.ExpectedRuns.{Stands}
-use Rattle.rdf_stream.specs.Faults.{IsOfDocument, IsRefusal, IsSentOn}
-use Rattle.rdf_lines.specs.declared.form.LineForm.{LineForm}
-use Rattle.rdf_lines.specs.declared.form.Style.{Style}
-use Rattle.rdf_lines.specs.declared.form.Style.TheVariants.{Kept, Tagged}
-use Rattle.rdf_stream.specs.declared.output.OutputView.{OutputView}
-use Rattle.rdf_lines.specs.Accepting.{line_words}
+use Rattle.rdf_stream.specs.Converting.{Begins}
+use Rattle.rdf_stream.specs.Devices.{Reading}
+use Rattle.rdf_lines.specs.declared.form.Style.TheVariants.{Kept}
 use Rattle.rdf_trig.specs.declared.form.DocForm.{DocForm}
-use Rattle.rdf_trig.specs.Accepting.{tree_words}
-use Rattle.rdf_trig.specs.Language.{Chosen}
-use Rattle.rdf_stream.specs.declared.form.Kind.TheVariants.{Line, Tree}
-use Rattle.rdf_stream.specs.Jobs.{JobRead}
-use Rattle.rdf_stream.specs.Kinds.{kind_of}
-use Rattle.rdf_stream.specs.Languages.{Conversion, ConversionOf, conversion_by, conversion_of, tree_job}
-use Rattle.rdf_stream.specs.Outputs.{Output, Writer, conversion, of_quads, output, output_of}
-use Rattle.rdf_stream.specs.LineOut.{OnlyGrows}
-use Rattle.rdf_stream.specs.Pieces.{ReadStops, ReadsAll, SourceFails, TakenBefore}
 use Rattle.rdf_stream.proofs.LineOutLemmas.{IsWriter}
 use Rattle.rdf_stream.proofs.GrowthLemmas.{grows_none}
 use Rattle.rdf_stream.proofs.PiecesLemmas.{all_given, none_given, same_front, too_long_more}

@@ -1,26 +1,11 @@
 -- A document of a line format names each of its blank nodes, so the quads that are due of it can be written with their labels kept. With
 -- labels renamed each quad can be written.
-use Rattle.std.proofs.Common.{ℕ, Bool, true, false, List, [], ◌∷◌, length, subst, Option, Some, None}
-use Rattle.std.specs.Prelude.{cond}
-use Rattle.std.specs.List.{AllByRecursion}
-use Rattle.rdf_terms.specs.Terms.{Blank, Iri, Literal, Quad, Resource, Subject, Term}
-use Rattle.rdf_lines.specs.declared.form.Style.TheVariants.{Kept, Tagged}
-use Rattle.rdf_tokens.specs.Tokens.{Token}
-use Rattle.rdf_tokens.specs.Grammars.{items_below, Due}
-use Rattle.rdf_lines.specs.declared.form.LineForm.{LineForm}
+use Rattle.rdf_stream.proofs.Prelude.{ℕ, Bool, true, false, List, [], ◌∷◌, length, subst, Option, Some, None, cond, AllByRecursion, Blank, Iri, Literal, Quad, Resource, Subject, Term, Tagged, Token, items_below, Due, LineForm, CanWrite, option_map, ◌≡◌, sym, Style, Rules, line_words, Chosen, tree_words, IsConvertible, of_quads}
+use Rattle.rdf_lines.specs.declared.form.Style.TheVariants.{Kept}
 use Rattle.rdf_lines.specs.Lines.{Name, Ref, Lab, Object, Named, Plain, WithType, WithTag, Statement, empty, one, Document, last, next, subject_of, term_of, quad_of, document_quads, documents}
-use Rattle.rdf_lines.specs.Writing.{CanWrite}
 use Rattle.rdf_lines.specs.NodeNames.{CanWriteSubject, CanWriteTerm, CanWriteGraph}
-use Rattle.std.proofs.Common.{option_map, ◌≡◌, sym}
-use Rattle.rdf_lines.specs.declared.form.Style.{Style}
-use Rattle.rdf_lines.specs.declared.rules.Rules.{Rules}
-use Rattle.rdf_lines.specs.Accepting.{line_words}
 use Rattle.rdf_lines.proofs.AcceptingLemmas.{lawful as lines_lawful}
-use Rattle.rdf_trig.specs.Language.{Chosen}
-use Rattle.rdf_trig.specs.Accepting.{tree_words}
 use Rattle.rdf_trig.proofs.code.LawfulGrammar.{lawful as trees_lawful}
-use Rattle.rdf_stream.specs.Converting.{IsConvertible}
-use Rattle.rdf_stream.specs.Outputs.{of_quads}
 
 -- each node of a line document has a label, so it can be written as it is
 name_kept : (n : Name) → CanWriteSubject Kept (subject_of n)

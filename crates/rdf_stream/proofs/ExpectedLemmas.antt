@@ -1,41 +1,15 @@
 -- What is handed out beside a fault, from how the reader stands after a refusal.
-use Rattle.std.proofs.Common.{◌≡◌, ℕ, Bool, true, false, List, ◌++◌, Option, IfErr, OnOk, Result, Ok, Err, refl, sym, subst, ⊎_elim}
-use Rattle.std.specs.Result.{IsErrAnd}
-use Rattle.rdf_terms.specs.declared.reason.Reason.{Reason}
+use Rattle.rdf_stream.proofs.Prelude.{◌≡◌, ℕ, Bool, true, false, List, ◌++◌, Option, IfErr, OnOk, Result, Ok, Err, refl, sym, subst, ⊎_elim, IsErrAnd, Reason, Quad, Place, place_of, RefusedIn, reading_of, Fault, EndsAtBlame, refused_in_more, Summary, Driven, FeedFails, FinishFails, HasRead, StandsAt, in_words, LineForm, Rules, line_words, tree_words, Chosen, StreamFault, Line, Tree, LineOut, Reports, HasGiven, Asks, AsksAt, AsksFor, Expects, RunExpects, Stands, StandsBefore, StandsFor, fault_by, JobRead, kind_of, conversion_by, language_of, tree_job, PutHalts, ReadStops}
 use Rattle.rdf_terms.specs.declared.reason.Reason.TheVariants as reason
-use Rattle.rdf_terms.specs.Terms.{Quad}
-use Rattle.rdf_tokens.specs.Tokens.{Place}
-use Rattle.rdf_tokens.specs.Scans.{place_of}
-use Rattle.rdf_tokens.specs.Grammars.{RefusedIn, reading_of}
-use Rattle.rdf_tokens.specs.declared.token.Fault.{Fault}
-use Rattle.rdf_tokens.proofs.LanguageLemmas.{EndsAtBlame, refused_in_more}
-use Rattle.rdf_driver.specs.declared.summary.Summary.{Summary}
-use Rattle.rdf_driver.specs.Readers.{Driven, FeedFails, FinishFails, HasRead, StandsAt}
-use Rattle.rdf_driver.specs.Words.{Words, in_words}
+use Rattle.rdf_driver.specs.Words.{Words}
 use Rattle.rdf_driver.proofs.FoundLemmas.{stands_more as stands_at_more}
-use Rattle.rdf_lines.specs.declared.form.LineForm.{LineForm}
-use Rattle.rdf_lines.specs.declared.rules.Rules.{Rules}
-use Rattle.rdf_lines.specs.Accepting.{line_words}
 use Rattle.rdf_lines.specs.Lines as lines
 use Rattle.rdf_trig.specs.declared.form.DocForm.{DocForm}
-use Rattle.rdf_trig.specs.Accepting.{tree_words}
 use Rattle.rdf_trig.specs.Documents as documents
-use Rattle.rdf_trig.specs.Language.{Chosen}
 use Rattle.rdf_stream.specs.declared.expected.Details.{Details}
-use Rattle.rdf_stream.specs.declared.fault.StreamFault.{StreamFault}
 use Rattle.rdf_stream.specs.declared.fault.StreamFault.TheVariants as stream
-use Rattle.rdf_stream.specs.declared.form.Kind.TheVariants.{Line, Tree}
-use Rattle.rdf_stream.specs.declared.line_out.LineOut.{LineOut}
-use Rattle.rdf_stream.specs.Converting.{Reports}
-use Rattle.rdf_stream.specs.Devices.{HasGiven, Reading}
+use Rattle.rdf_stream.specs.Devices.{Reading}
 use Rattle.rdf_stream.specs.Expected.{CouldStand, ExpectsAt, ExpectsFor, NoDetails, Trees, trees_by, trees_of}
-use Rattle.rdf_stream.specs.ExpectedRuns.{Asks, AsksAt, AsksFor, Expects, RunExpects, Stands, StandsBefore, StandsFor}
-use Rattle.rdf_stream.specs.RunFaults.{fault_by}
-use Rattle.rdf_stream.specs.Jobs.{JobRead}
-use Rattle.rdf_stream.specs.Kinds.{kind_of}
-use Rattle.rdf_stream.specs.Languages.{conversion_by, language_of, tree_job}
-use Rattle.rdf_stream.specs.LineOut.{PutHalts}
-use Rattle.rdf_stream.specs.Pieces.{ReadStops}
 use Rattle.rdf_stream.proofs.PiecesLemmas.{all_given}
 
 module _ {G X : Type 0} (w : Words G X Quad) (x : X) (old : Driven G) (bytes : List ℕ) (quads : List Quad) (read : HasRead w old x bytes quads)

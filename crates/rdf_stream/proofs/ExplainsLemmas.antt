@@ -1,7 +1,5 @@
 -- A word that is said, and those that follow.
-use Rattle.std.proofs.Common.{◌≡◌, ◌∙◌, ◌-◌, ℕ, List, [], ◌∷◌, ◌++◌, ap, append_assoc, arith, codes, length, refl, sym}
-use Rattle.std.proofs.lemmas.List.{append-nil}
-use Rattle.rdf_stream.specs.Explains.{between, expected_by, listed}
+use Rattle.rdf_stream.proofs.Prelude.{◌≡◌, ◌∙◌, ◌-◌, ℕ, List, [], ◌∷◌, ◌++◌, ap, append_assoc, arith, codes, length, refl, sym, append-nil, between, expected_by, listed}
 
 -- the line with a word more, and what stands after it
 pub put_one : (line w whole : List ℕ) (these rest : List (List ℕ)) (left : ℕ) → these ≡ w ∷ rest → line ++ listed these ≡ whole → left ≡ length these

@@ -1,22 +1,11 @@
 -- Whatever is put, handed over or refused, the drain only grows.
-use Rattle.std.proofs.Common.{◌≡◌, Bool, true, false, ℕ, List, [], ◌∷◌, ◌++◌, Option, refl, sym, subst, ⊎_elim}
-use Rattle.std.proofs.KnownBytes.{Appends-nil, Appends-trans}
-use Rattle.std.specs.Io.KnownBytes.{Appends}
+use Rattle.rdf_stream.proofs.Prelude.{◌≡◌, Bool, true, false, ℕ, List, [], ◌∷◌, ◌++◌, Option, refl, sym, subst, ⊎_elim, Appends-nil, Appends-trans, Appends, Reason, Place, Fault, Driven, FeedFails, FinishFails, StreamFault, LineOut, Reports, ReportsWrite, AppendsFront, Grows, Leaves, Moves, OnlyGrows, PutHalts, SameOut, Writer}
 use Rattle.rdf_terms.specs.Sinks as sink
 use Rattle.rdf_terms.specs.Sinks.{Attempts}
-use Rattle.rdf_terms.specs.declared.reason.Reason.{Reason}
 use Rattle.rdf_terms.specs.declared.reason.Reason.TheVariants as reason
-use Rattle.rdf_tokens.specs.Tokens.{Place}
-use Rattle.rdf_tokens.specs.declared.token.Fault.{Fault}
-use Rattle.rdf_driver.specs.Readers.{Driven, FeedFails, FinishFails}
 use Rattle.rdf_driver.specs.Words.{Words}
-use Rattle.rdf_stream.specs.declared.fault.StreamFault.{StreamFault}
 use Rattle.rdf_stream.specs.declared.fault.StreamFault.TheVariants as stream
-use Rattle.rdf_stream.specs.declared.line_out.LineOut.{LineOut}
-use Rattle.rdf_stream.specs.Converting.{Reports, ReportsWrite}
-use Rattle.rdf_stream.specs.Devices.{AppendsFront, Grows}
-use Rattle.rdf_stream.specs.LineOut.{Leaves, Moves, OnlyGrows, PutHalts, SameOut, Takes}
-use Rattle.rdf_stream.specs.Outputs.{Writer}
+use Rattle.rdf_stream.specs.LineOut.{Takes}
 use Rattle.rdf_stream.proofs.LineOutLemmas.{same_out}
 
 module _ {D A : Type 0} (contents : D → Option (List ℕ)) where

@@ -1,3 +1,4 @@
+mod Prelude
 pub mod ViewsLemmas
 pub mod WellFormedLemmas
 pub mod PutLemmas

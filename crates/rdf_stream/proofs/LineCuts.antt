@@ -1,11 +1,5 @@
 -- Where the lines of some bytes are cut.
-use Rattle.std.proofs.Common.{◌≡◌, ℕ, zero, suc, ◌<◌, Bool, true, false, cond, List, [], ◌∷◌, ◌++◌, refl, sym, ap, ◌∙◌, append_assoc, ◌+◌, length, take, drop, arith}
-use Rattle.std.specs.Prelude.{slice_index}
-use Rattle.std.specs.List.{AllByRecursion}
-use Rattle.std.proofs.lemmas.Bool.{cond-true, cond-false, cond_both}
-use Rattle.std.proofs.lemmas.List.{append-nil, drop-take, drop_all, take-append-drop, take_all}
-use Rattle.rdf_tokens.specs.Tokens.{is_line_end}
-use Rattle.rdf_lines.specs.SplitLines.{put_byte, split_lines}
+use Rattle.rdf_stream.proofs.Prelude.{◌≡◌, ℕ, zero, suc, ◌<◌, Bool, true, false, cond, List, [], ◌∷◌, ◌++◌, refl, sym, ap, ◌∙◌, append_assoc, ◌+◌, length, take, drop, arith, slice_index, AllByRecursion, cond-true, cond-false, cond_both, append-nil, drop-take, drop_all, take-append-drop, take_all, is_line_end, put_byte, split_lines}
 
 -- the first line goes up to the first line end
 pub first_line : (w : List ℕ) (at : ℕ) → ((k : ℕ) → k < at → is_line_end (slice_index w k) ≡ false) → is_line_end (slice_index w at) ≡ true → at < length w →

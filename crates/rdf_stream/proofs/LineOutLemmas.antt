@@ -1,23 +1,10 @@
 -- What a sink of lines has handed over after some puts, and what waits.
-use Rattle.std.proofs.Common.{◌≡◌, ℕ, Bool, true, false, List, [], ◌∷◌, ◌++◌, Option, refl, sym, ap, subst, ◌∙◌, append_assoc, ⊎_elim, inr}
-use Rattle.std.proofs.lemmas.List.{append-nil}
-use Rattle.std.proofs.KnownBytes.{Appends-nil, Appends-trans}
-use Rattle.std.specs.Io.KnownBytes.{Appends}
-use Rattle.std.specs.List.{AllByRecursion}
+use Rattle.rdf_stream.proofs.Prelude.{◌≡◌, ℕ, Bool, true, false, List, [], ◌∷◌, ◌++◌, Option, refl, sym, ap, subst, ◌∙◌, append_assoc, ⊎_elim, inr, append-nil, Appends-nil, Appends-trans, Appends, AllByRecursion, Quad, IsQuad, Style, Writable, AppendsFront, IsSentOn, Leaves, LeavesBytes, Moves, PutHalts, SameOut, Writes, StreamFault, LineOut, OutputView, Able, Output, Writer, graph_of, line_by, of_quads, output_of}
 use Rattle.rdf_terms.specs.Sinks as sink
 use Rattle.rdf_terms.specs.Sinks.{Attempts}
-use Rattle.rdf_terms.specs.Terms.{Quad, IsQuad}
-use Rattle.rdf_lines.specs.declared.form.Style.{Style}
-use Rattle.rdf_lines.specs.Writing.{Writable}
 use Rattle.rdf_lines.specs.Forms.{form_of}
-use Rattle.rdf_stream.specs.Devices.{AppendsFront}
-use Rattle.rdf_stream.specs.Faults.{IsSentOn}
-use Rattle.rdf_stream.specs.LineOut.{Leaves, LeavesBytes, Moves, PutHalts, SameOut, Takes, TakesBytes, Writes}
-use Rattle.rdf_stream.specs.declared.fault.StreamFault.{StreamFault}
+use Rattle.rdf_stream.specs.LineOut.{Takes, TakesBytes}
 use Rattle.rdf_stream.specs.declared.fault.StreamFault.TheVariants as stream
-use Rattle.rdf_stream.specs.declared.line_out.LineOut.{LineOut}
-use Rattle.rdf_stream.specs.declared.output.OutputView.{OutputView}
-use Rattle.rdf_stream.specs.Outputs.{Able, Output, Writer, graph_of, line_by, of_quads, output_of}
 use Rattle.rdf_stream.proofs.WellFormedLemmas.{untruncated_quad}
 
 -- nothing was taken

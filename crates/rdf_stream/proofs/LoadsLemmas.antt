@@ -1,10 +1,5 @@
 -- From the pieces of a source to a file of bindings.
-use Rattle.std.proofs.Common.{◌≡◌, ◌<◌, ℕ, true, false, List, [], ◌++◌, Option, IfErr, Result, Ok, Err, refl, sym, subst, ◌∙◌}
-use Rattle.std.proofs.lemmas.List.{append-nil}
-use Rattle.std.proofs.lemmas.Bool.{false≢true}
-use Rattle.std.proofs.KnownBytes.{Consumes-kept, Consumes-trans}
-use Rattle.std.specs.Result.{IsErrAnd}
-use Rattle.std.specs.Io.KnownBytes.{Consumes, IsAtEnd, Keeps}
+use Rattle.rdf_stream.proofs.Prelude.{◌≡◌, ◌<◌, ℕ, true, false, List, [], ◌++◌, Option, IfErr, Result, Ok, Err, refl, sym, subst, ◌∙◌, append-nil, false≢true, Consumes-kept, Consumes-trans, IsErrAnd, Consumes, IsAtEnd, Keeps, HasGiven}
 use Rattle.rdf_iri.specs.Limits.{Sizes}
 use Rattle.rdf_iri.specs.Bindings.{FailsAt, IsRefused}
 use Rattle.rdf_iri.specs.declared.fault.BindingReason.{BindingReason}
@@ -12,7 +7,7 @@ use Rattle.rdf_iri.specs.declared.fault.BindingReason.TheVariants.{Memory as Out
 use Rattle.rdf_iri.specs.declared.fault.BindingFault.{BindingFault}
 use Rattle.rdf_stream.specs.declared.fault.LoadFault.{LoadFault}
 use Rattle.rdf_stream.specs.declared.fault.LoadFault.TheVariants.{Bad, Memory, Read}
-use Rattle.rdf_stream.specs.Devices.{HasGiven, Reading}
+use Rattle.rdf_stream.specs.Devices.{Reading}
 use Rattle.rdf_stream.specs.Loads.{BindsNot, HasGivenAll, LoadStops, ReadsNot}
 use Rattle.rdf_stream.specs.LoadFaults.{load_fault}
 

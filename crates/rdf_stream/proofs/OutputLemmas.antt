@@ -1,9 +1,5 @@
 -- A graph as a text.
-use Rattle.std.proofs.Common.{◌≡◌, ℕ, List, [], ◌∷◌, None, Some, length, refl, sym, ap, ◌∙◌, arith}
-use Rattle.std.proofs.lemmas.Bool.{false≢true}
-use Rattle.std.proofs.lemmas.Str.{chars-nil}
-use Rattle.std.specs.Str.{chars}
-use Rattle.rdf_terms.specs.Terms.{IsIri, has_scheme}
+use Rattle.rdf_stream.proofs.Prelude.{◌≡◌, ℕ, List, [], ◌∷◌, None, Some, length, refl, sym, ap, ◌∙◌, arith, false≢true, chars-nil, chars, IsIri, has_scheme}
 use Rattle.rdf_stream.specs.GraphTexts.{graph_in}
 
 -- the text of an IRI has characters, so it is that of a graph

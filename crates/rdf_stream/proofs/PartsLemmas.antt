@@ -1,20 +1,10 @@
 -- From the parts of a piece to all of it.
-use Rattle.std.proofs.Common.{◌≡◌, ◌+◌, ◌≤◌, ◌<◌, ℕ, zero, suc, Bool, true, false, List, [], ◌∷◌, ◌++◌, ◌==◌, not, length, take, drop, get_or, sym, ap, subst, ◌∙◌, append_assoc, ⊎_elim, length-take, arith}
-use Rattle.std.specs.Str.{IsUtf8, IsCharBoundary}
-use Rattle.std.proofs.lemmas.Bool.{cases_Bool, cases_lt, cond-true, cond-false}
+use Rattle.rdf_stream.proofs.Prelude.{◌≡◌, ◌+◌, ◌≤◌, ◌<◌, ℕ, zero, suc, Bool, true, false, List, [], ◌∷◌, ◌++◌, ◌==◌, not, length, take, drop, get_or, sym, ap, subst, ◌∙◌, append_assoc, ⊎_elim, length-take, arith, IsUtf8, IsCharBoundary, cases_Bool, cases_lt, cond-true, cond-false, IsCharBoundary-from_take, drop-append-le, drop-drop, length-drop, length-take-le, take-append-drop, take-append-le, take-add, take-length, most_bytes, written_as, StreamFault, HaltsWithin, IsAsciiText, MayPass, HaltsOn, HasBegun, StaysOn, TakesMore}
 use Rattle.std.proofs.lemmas.Bool.Decides.{nat_tests}
-use Rattle.std.proofs.lemmas.Str.{IsCharBoundary-from_take}
-use Rattle.std.proofs.lemmas.List.{drop-append-le, drop-drop, length-drop, length-take-le, take-append-drop, take-append-le}
-use Rattle.std.proofs.Math.Seq.{take-add, take-length}
 use Rattle.rdf_terms.specs.Runs.{IsRun, is_ascii_byte}
-use Rattle.rdf_tokens.specs.Scans.{most_bytes}
 use Rattle.rdf_lines.specs.declared.form.LineEnding.{LineEnding}
 use Rattle.rdf_lines.specs.declared.form.LineEnding.TheVariants.{Lf, CrLf}
-use Rattle.rdf_lines.specs.Canonical.{written_as}
 use Rattle.rdf_lines.proofs.AsciiLemmas.{low_encodes, low_scalars}
-use Rattle.rdf_stream.specs.declared.fault.StreamFault.{StreamFault}
-use Rattle.rdf_stream.specs.Parts.{HaltsWithin, IsAsciiText, MayPass}
-use Rattle.rdf_stream.specs.Pieces.{HaltsOn, HasBegun, StaysOn, TakesMore}
 
 -- a front of an ASCII text is ASCII
 pub ascii_take : (n : ℕ) (w : List ℕ) → IsAsciiText w → IsAsciiText (take n w)

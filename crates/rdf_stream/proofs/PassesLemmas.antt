@@ -1,24 +1,13 @@
 -- What passing text does to a reader, by its grammar.
-use Rattle.std.proofs.Common.{◌≡◌, ℕ, List, [], ◌∷◌, ◌++◌, refl, sym, ap, ◌∙◌, subst, take}
-use Rattle.std.specs.Prelude.{encode_utf8_all, Result, Ok, Err, OnErr}
-use Rattle.std.proofs.lemmas.List.{append-nil}
-use Rattle.rdf_terms.specs.Terms.{Quad}
-use Rattle.rdf_driver.specs.Readers.{Driven, HasRead}
+use Rattle.rdf_stream.proofs.Prelude.{◌≡◌, ℕ, List, [], ◌∷◌, ◌++◌, refl, sym, ap, ◌∙◌, subst, take, encode_utf8_all, Result, Ok, Err, OnErr, append-nil, Quad, Driven, HasRead, Style, LineForm, LineAt, line_words, IsTaken, PassesLines, written_as, Writable, AllByRecursion, PassesText, RewritesText}
 use Rattle.rdf_driver.specs.Words.{Words}
-use Rattle.rdf_lines.specs.declared.form.Style.{Style}
 use Rattle.rdf_lines.specs.declared.form.Style.TheVariants.{Kept}
-use Rattle.rdf_lines.specs.declared.form.LineForm.{LineForm}
 use Rattle.rdf_lines.specs.declared.form.LineEnding.{LineEnding}
 use Rattle.rdf_lines.specs.declared.form.LineEnding.TheVariants.{Lf, CrLf}
 use Rattle.rdf_lines.specs.declared.form.Escapes.TheVariants.{Plain}
-use Rattle.rdf_lines.specs.Accepting.{LineAt, line_words}
-use Rattle.rdf_lines.specs.Canonical.{IsTaken, PassesLines, written_as}
-use Rattle.rdf_lines.specs.Writing.{Writable}
 use Rattle.rdf_lines.proofs.NodePrefixLemmas.{text_unprefixed}
 use Rattle.rdf_lines.proofs.WithoutCrs.{lines_written}
-use Rattle.std.specs.List.{AllByRecursion}
 use Rattle.rdf_lines.specs.Escaped.{PassesInto}
-use Rattle.rdf_stream.specs.Passes.{PassesText, RewritesText}
 
 -- no text was passed
 none_written : (ending : LineEnding) → written_as ending [] ≡ []

@@ -1,18 +1,7 @@
 -- From the pieces of a source to all of its bytes.
-use Rattle.std.proofs.Common.{◌≡◌, ◌<◌, ◌≤◌, ℕ, Bool, true, false, List, [], ◌++◌, length, take, Option, Some, None, IfSome, IfOk, OnOk, IfErr, Result, Ok, Err, refl, sym, ap, subst, ◌∙◌, inl, inr, arith, length-append}
-use Rattle.std.proofs.lemmas.List.{append-nil, take-append-le}
-use Rattle.std.proofs.lemmas.Bool.{false≢true}
-use Rattle.std.proofs.KnownBytes.{Consumes-kept, Consumes-nil, Consumes-trans, Consumes-whole}
-use Rattle.std.specs.Io.KnownBytes.{Consumes, IsAtEnd, Keeps}
-use Rattle.std.specs.Result.{IsErrAnd}
-use Rattle.rdf_tokens.specs.Tokens.{Place}
-use Rattle.rdf_tokens.specs.Good.{end_of}
-use Rattle.rdf_tokens.specs.Grammars.{IsTooLong}
-use Rattle.rdf_tokens.specs.Scans.{most_bytes}
-use Rattle.rdf_stream.specs.declared.fault.StreamFault.{StreamFault}
+use Rattle.rdf_stream.proofs.Prelude.{◌≡◌, ◌<◌, ◌≤◌, ℕ, Bool, true, false, List, [], ◌++◌, length, take, Option, Some, None, IfSome, IfOk, OnOk, IfErr, Result, Ok, Err, refl, sym, ap, subst, ◌∙◌, inl, inr, arith, length-append, append-nil, take-append-le, false≢true, Consumes-kept, Consumes-nil, Consumes-trans, Consumes-whole, Consumes, IsAtEnd, Keeps, IsErrAnd, Place, end_of, IsTooLong, most_bytes, StreamFault, HasGiven, HaltsOn, ReadStops, ReadsAll, ReadsEnd, StaysOn, TakenBefore, TakesMore, at_end}
 use Rattle.rdf_stream.specs.declared.fault.StreamFault.TheVariants as stream
-use Rattle.rdf_stream.specs.Devices.{HasGiven, Reading}
-use Rattle.rdf_stream.specs.Pieces.{HaltsOn, ReadStops, ReadsAll, ReadsEnd, StaysOn, TakenBefore, TakesMore, at_end}
+use Rattle.rdf_stream.specs.Devices.{Reading}
 
 -- of too many bytes those that a document may have are the same with more
 pub same_front : (bytes more : List ℕ) (at : Place) → IsTooLong bytes at → take most_bytes (bytes ++ more) ≡ take most_bytes bytes

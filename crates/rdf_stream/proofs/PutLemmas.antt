@@ -1,5 +1,5 @@
 -- Bytes that are put one after another.
-use Rattle.std.proofs.Common.{◌≡◌, ℕ, List, ◌++◌, ◌∙◌, ap, append_assoc}
+use Rattle.rdf_stream.proofs.Prelude.{◌≡◌, ℕ, List, ◌++◌, ◌∙◌, ap, append_assoc}
 
 -- some bytes were put, and then others
 pub then_put : (old mid new bytes more : List ℕ) → mid ≡ old ++ bytes → new ≡ mid ++ more → new ≡ old ++ (bytes ++ more)

@@ -1,24 +1,7 @@
 -- The lines of tokens: what `show` writes is what a conversion with these lines writes.
-use Rattle.std.proofs.Common.{◌≡◌, ℕ, Bool, List, [], ◌∷◌, Option, IfSome, refl, subst}
-use Rattle.std.proofs.KnownBytes.{Consumes-whole}
-use Rattle.std.specs.List.{AllByRecursion}
-use Rattle.rdf_terms.specs.declared.kind.Dialect.{Dialect}
-use Rattle.rdf_tokens.specs.Tokens.{Token}
-use Rattle.rdf_driver.specs.Readers.{Driven, HasRead}
-use Rattle.rdf_driver.specs.declared.summary.Summary.{Summary}
-use Rattle.rdf_lines.specs.declared.form.Style.{Style}
+use Rattle.rdf_stream.proofs.Prelude.{◌≡◌, ℕ, Bool, List, [], ◌∷◌, Option, IfSome, refl, subst, Consumes-whole, AllByRecursion, Dialect, Token, Driven, HasRead, Summary, Style, Starts, Accepts, IsPrompt, StopsFor, JobRead, ConversionOf, Output, conversion, ReadsAll, ShowsAll, dialect_of, showing_of, ShowEnds, of_tokens, token_words, StreamFault, LineOut}
 use Rattle.rdf_lines.specs.declared.form.Style.TheVariants.{Kept}
-use Rattle.rdf_stream.specs.Converting.{Starts}
-use Rattle.rdf_stream.specs.Converts.{Accepts, IsPrompt, StopsFor}
 use Rattle.rdf_stream.specs.Devices.{Reading}
-use Rattle.rdf_stream.specs.Jobs.{JobRead}
-use Rattle.rdf_stream.specs.Languages.{ConversionOf}
-use Rattle.rdf_stream.specs.Outputs.{Output, conversion}
-use Rattle.rdf_stream.specs.Pieces.{ReadsAll}
-use Rattle.rdf_stream.specs.Shows.{ShowsAll, dialect_of, showing_of}
-use Rattle.rdf_stream.specs.TokenWords.{ShowEnds, of_tokens, token_words}
-use Rattle.rdf_stream.specs.declared.fault.StreamFault.{StreamFault}
-use Rattle.rdf_stream.specs.declared.line_out.LineOut.{LineOut}
 use Rattle.rdf_stream.proofs.ConvertsLemmas.{AreFresh, asked, begun_fresh}
 use Rattle.rdf_stream.proofs.LineOutLemmas.{IsWriter}
 use Rattle.rdf_stream.proofs.TokenWordsLemmas.{lawful}

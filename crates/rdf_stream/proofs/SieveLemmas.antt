@@ -1,49 +1,24 @@
 -- Lines that are sifted, one after another.
-use Rattle.std.proofs.Common.{◌≡◌, ℕ, ◌+◌, ◌<◌, ◌≤◌, ◌==◌, cond, Bool, true, false, List, [], ◌∷◌, ◌++◌, inl, inr, Option, Some, IfSome, refl, sym, ap, ◌∙◌, subst, append_assoc, length, take, drop, arith, length-append, length-drop, length-take}
-use Rattle.std.specs.Io.KnownBytes.{Appends}
-use Rattle.std.specs.List.{concat}
-use Rattle.std.specs.Prelude.{count_by}
-use Rattle.std.specs.Str.{IsUtf8, chars}
+use Rattle.rdf_stream.proofs.Prelude.{◌≡◌, ℕ, ◌+◌, ◌<◌, ◌≤◌, ◌==◌, cond, Bool, true, false, List, [], ◌∷◌, ◌++◌, inl, inr, Option, Some, IfSome, refl, sym, ap, ◌∙◌, subst, append_assoc, length, take, drop, arith, length-append, length-drop, length-take, Appends, concat, count_by, IsUtf8, chars, Appends-nil, Appends-trans, append-nil, take-append-drop, chars-encodes, encodes-chars, false≢true, false_from_ne_true, eqb-true, good, has_byte_order_mark, Summary, Quad, Reason, Language, Place, place_of, Fault, LineForm, in_lines, IsBadLine, IsGoodLine, Sifts, split_lines, StreamFault, Accepts, RefusesDocument, StopsFor, AppendsFront, Conversion, lines_of, written_in, of_quads, output_of, Counts, HasRoom, HasMarkBytes, HasNoMark, HasSifted, PutBadFails, PutGoodFails, PutsBad, PutsGood, PutsNone, SameSieve, SiftFails, first_after, job_of, place_past, start_of, IsRefusedFor, IsAside, IsBadFor, comment_text, counted_up, fault_from, place_after}
 use Rattle.std.specs.Str.Lossy.{utf8_valid_len}
 use Rattle.std.proofs.Math.Utf8.{encode, encodes}
-use Rattle.std.proofs.KnownBytes.{Appends-nil, Appends-trans}
-use Rattle.std.proofs.lemmas.List.{append-nil, take-append-drop}
-use Rattle.std.proofs.lemmas.Str.{chars-encodes, encodes-chars}
-use Rattle.std.proofs.lemmas.Bool.{false≢true, false_from_ne_true, eqb-true}
-use Rattle.rdf_tokens.specs.Good.{good, has_byte_order_mark}
 use Rattle.rdf_tokens.proofs.GoodLemmas.{good_front}
 use Rattle.rdf_tokens.proofs.RefusalPlaces as places
 use Rattle.rdf_tokens.proofs.PlaceLemmas.{feeds-append}
 use Rattle.rdf_tokens.proofs.PastGood.{good_past}
-use Rattle.rdf_driver.specs.declared.summary.Summary.{Summary}
-use Rattle.rdf_terms.specs.Terms.{Quad}
-use Rattle.rdf_terms.specs.declared.reason.Reason.{Reason}
 use Rattle.rdf_terms.specs.declared.reason.Reason.TheVariants.{DocumentTooLong}
-use Rattle.rdf_tokens.specs.Grammars.{Language, Refused}
+use Rattle.rdf_tokens.specs.Grammars.{Refused}
 use Rattle.rdf_tokens.specs.Laws.{IsPlaceIn}
-use Rattle.rdf_tokens.specs.Tokens.{Place}
 use Rattle.rdf_tokens.specs.Tokens.Outcome.{complete, token_too_long}
-use Rattle.rdf_tokens.specs.Scans.{place_of}
-use Rattle.rdf_tokens.specs.declared.token.Fault.{Fault}
-use Rattle.rdf_lines.specs.declared.form.LineForm.{LineForm}
-use Rattle.rdf_lines.specs.Documents.{in_lines}
 use Rattle.rdf_lines.specs.NodePrefixes.{Form}
-use Rattle.rdf_lines.specs.SplitLines.{IsBadLine, IsGoodLine, Sifts, split_lines}
 use Rattle.rdf_lines.proofs.AcceptedLemmas.{refused_none}
 use Rattle.rdf_lines.proofs.SplitLemmas.{good_sifted, split_whole}
 use Rattle.rdf_stream.specs.declared.devices.Drain as drain
-use Rattle.rdf_stream.specs.declared.fault.StreamFault.{StreamFault}
 use Rattle.rdf_stream.specs.declared.fault.StreamFault.TheVariants as fault
 use Rattle.rdf_stream.specs.declared.sieve.LineStart.{LineStart}
 use Rattle.rdf_stream.specs.declared.sieve.Sieve.{Sieve}
-use Rattle.rdf_stream.specs.Converts.{Accepts, RefusesDocument, StopsFor}
-use Rattle.rdf_stream.specs.Devices.{AppendsFront, Reading}
+use Rattle.rdf_stream.specs.Devices.{Reading}
 use Rattle.rdf_stream.specs.Graphs.{all_in_graph}
-use Rattle.rdf_stream.specs.Languages.{Conversion, lines_of, written_in}
-use Rattle.rdf_stream.specs.Outputs.{of_quads, output_of}
-use Rattle.rdf_stream.specs.Sieves.{Counts, HasRoom, HasMarkBytes, HasNoMark, HasSifted, PutBadFails, PutGoodFails, PutsBad, PutsGood, PutsNone, SameSieve, SiftFails, first_after, job_of, place_past, start_of}
-use Rattle.rdf_stream.specs.Checks.{IsRefusedFor}
-use Rattle.rdf_stream.specs.Skips.{IsAside, IsBadFor, comment_text, counted_up, fault_from, place_after}
 use Rattle.rdf_stream.proofs.ConvertingLemmas.{quad_lines}
 use Rattle.rdf_stream.proofs.LineCuts.{some_lines}
 use Rattle.rdf_stream.proofs.LineOutLemmas.{lines-append}

@@ -1,46 +1,21 @@
 -- A run that goes on after bad lines: what it has done after each piece, and at the end.
-use Rattle.std.proofs.Common.{◌≡◌, ℕ, suc, ◌+◌, ◌<◌, ◌≤◌, ◌-◌, ◌||◌, cond, Bool, true, false, List, [], ◌∷◌, ◌++◌, ◌⊎◌, inl, inr, Option, refl, sym, ap, ◌∙◌, subst, ⊎_elim, append_assoc, length, take, drop, count_by, ◌==◌, arith, length-append, length-drop, length-take}
-use Rattle.std.specs.Io.KnownBytes.{Appends, Keeps}
-use Rattle.std.specs.List.{AllByRecursion, concat}
-use Rattle.std.proofs.KnownBytes.{Appends-kept, Appends-nil, Consumes-whole}
-use Rattle.std.proofs.lemmas.List.{append-nil, take-append-drop}
+use Rattle.rdf_stream.proofs.Prelude.{◌≡◌, ℕ, suc, ◌+◌, ◌<◌, ◌≤◌, ◌-◌, ◌||◌, cond, Bool, true, false, List, [], ◌∷◌, ◌++◌, ◌⊎◌, inl, inr, Option, refl, sym, ap, ◌∙◌, subst, ⊎_elim, append_assoc, length, take, drop, count_by, ◌==◌, arith, length-append, length-drop, length-take, Appends, Keeps, AllByRecursion, concat, Appends-kept, Appends-nil, Consumes-whole, append-nil, take-append-drop, Quad, end_of, first_place, tokens_of, IsTooLong, counted, most_bytes, place_of, Place, is_line_end, document_whole, in_lines, LineForm, IsDocumentWithin, Sifts, split_lines, Writable, StreamFault, OutputView, IsConverted, AppendsFront, HasGiven, JobRead, kind_of, Line, Tree, Conversion, conversion_by, conversion_of, written_in, output, ReadStops, ReadsAll, SourceFails, output_of, HasRoom, HasSifted, Holds, IsEndedFront, IsSkipping, RefusesPiece, SiftFails, SiftFrontFails, SiftsFront, SkipEnds, SkipHalts, job_of, place_past, start_of, IsAside, PutsAside, SkipStops, Skips, SkipsAll, SkipsEnded, counted_up, place_after}
 use Rattle.std.proofs.lemmas.List.Folds.{concat-append}
-use Rattle.rdf_terms.specs.Terms.{Quad}
 use Rattle.rdf_terms.specs.declared.kind.Dialect.TheVariants.{Lines}
-use Rattle.rdf_tokens.specs.Good.{end_of, first_place, tokens_of}
-use Rattle.rdf_tokens.specs.Grammars.{IsTooLong, counted}
-use Rattle.rdf_tokens.specs.Scans.{most_bytes, place_of}
-use Rattle.rdf_tokens.specs.Tokens.{Place, is_line_end}
 use Rattle.rdf_tokens.proofs.GrammarsLemmas.{counted_complete}
-use Rattle.rdf_tokens.proofs.LanguageLemmas.{document_whole}
 use Rattle.rdf_tokens.proofs.PlaceLemmas.{feeds-append}
-use Rattle.rdf_lines.specs.Documents.{in_lines}
-use Rattle.rdf_lines.specs.declared.form.LineForm.{LineForm}
 use Rattle.rdf_lines.specs.declared.form.Style.TheVariants.{Kept}
-use Rattle.rdf_lines.specs.SplitLines.{IsDocumentWithin, Sifts, split_lines}
-use Rattle.rdf_lines.specs.Writing.{Writable}
 use Rattle.rdf_lines.proofs.SplitLemmas.{good_read, split_whole}
 use Rattle.rdf_lines.proofs.WellFormed.{document_writable}
 use Rattle.rdf_stream.specs.declared.devices.Drain as drain
-use Rattle.rdf_stream.specs.declared.fault.StreamFault.{StreamFault}
 use Rattle.rdf_stream.specs.declared.fault.StreamFault.TheVariants as fault
-use Rattle.rdf_stream.specs.declared.output.OutputView.{OutputView}
 use Rattle.rdf_stream.specs.declared.sieve.LineStart.{LineStart}
 use Rattle.rdf_stream.specs.declared.sieve.Sieve.{Sieve}
 use Rattle.rdf_stream.specs.declared.skips.Sifter.{Sifter}
 use Rattle.rdf_stream.specs.declared.skips.SkipSummary.{SkipSummary}
-use Rattle.rdf_stream.specs.Converts.{IsConverted}
-use Rattle.rdf_stream.specs.Devices.{AppendsFront, HasGiven, Reading}
-use Rattle.rdf_stream.specs.Jobs.{JobRead}
-use Rattle.rdf_stream.specs.Kinds.{kind_of}
+use Rattle.rdf_stream.specs.Devices.{Reading}
 use Rattle.rdf_stream.specs.declared.form.Kind.{Kind}
-use Rattle.rdf_stream.specs.declared.form.Kind.TheVariants.{Line, Tree}
-use Rattle.rdf_stream.specs.Languages.{Conversion, conversion_by, conversion_of, written_in}
-use Rattle.rdf_stream.specs.Outputs.{output}
-use Rattle.rdf_stream.specs.Pieces.{ReadStops, ReadsAll, SourceFails}
-use Rattle.rdf_stream.specs.Outputs.{output_of}
-use Rattle.rdf_stream.specs.Sieves.{Begins, HasRoom, HasSifted, Holds, IsEndedFront, IsSkipping, RefusesPiece, SiftFails, SiftFrontFails, SiftsFront, SkipEnds, SkipHalts, job_of, place_past, start_of}
-use Rattle.rdf_stream.specs.Skips.{IsAside, PutsAside, SkipStops, Skips, SkipsAll, SkipsEnded, counted_up, place_after}
+use Rattle.rdf_stream.specs.Sieves.{Begins}
 use Rattle.rdf_stream.proofs.ConvertingLemmas.{quad_lines}
 use Rattle.rdf_stream.proofs.ConvertsLemmas.{lines_job}
 use Rattle.rdf_stream.proofs.LineCuts.{split_append}

@@ -1,16 +1,8 @@
 -- The tokens of a dialect as a grammar: its laws, and what accepting a token does.
-use Rattle.std.proofs.Common.{◌≡◌, ◌<◌, ◌≤◌, ◌+◌, ◌*◌, ℕ, Bool, true, false, cond, List, [], ◌∷◌, ◌++◌, length, ltb, refl, sym, ap, subst, ◌∙◌, inl, arith, Result, Err, ◌↔◌}
-use Rattle.std.proofs.lemmas.List.{append-nil}
-use Rattle.std.proofs.lemmas.Bool.{cond-false, cond-true, cond_both, le-ltb, lt-ltb}
-use Rattle.rdf_terms.specs.declared.kind.Dialect.{Dialect}
+use Rattle.rdf_stream.proofs.Prelude.{◌≡◌, ◌<◌, ◌≤◌, ◌+◌, ◌*◌, ℕ, Bool, true, false, cond, List, [], ◌∷◌, ◌++◌, length, ltb, refl, sym, ap, subst, ◌∙◌, inl, arith, Result, Err, ◌↔◌, append-nil, cond-false, cond-true, cond_both, le-ltb, lt-ltb, Dialect, Token, is_end, Due, MarkedItem, counted, items_below, unmarked, GivesUp, Lawful, marked_from, token_words, without_end}
 use Rattle.rdf_terms.specs.declared.sink.PutFault.{PutFault}
 use Rattle.rdf_terms.specs.declared.sink.PutFault.TheVariants as put
-use Rattle.rdf_tokens.specs.Tokens.{Token}
-use Rattle.rdf_tokens.specs.Scans.{is_end}
-use Rattle.rdf_tokens.specs.Grammars.{Due, MarkedItem, counted, items_below, unmarked}
-use Rattle.rdf_driver.specs.Words.{GivesUp, Lawful, Takes}
-use Rattle.rdf_stream.specs.Shows.{marked_from}
-use Rattle.rdf_stream.specs.TokenWords.{token_words, without_end}
+use Rattle.rdf_driver.specs.Words.{Takes}
 
 -- what comes after the first n tokens is not due with them
 none_below : (n m : ℕ) (ts : List Token) → m ≤ n → items_below m (marked_from n ts) ≡ []

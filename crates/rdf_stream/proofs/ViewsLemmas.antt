@@ -1,13 +1,9 @@
 -- What the types of borrowed terms say of the terms that they mean.
-use Rattle.std.proofs.Common.{◌≡◌, ℕ, List, [], ◌∷◌, true, refl}
+use Rattle.rdf_stream.proofs.Prelude.{◌≡◌, ℕ, List, [], ◌∷◌, true, refl, IsUtf8-had, scalars-chars, arith, chars, Literal, Quad, IsSubject, IsTail, IsTerm, IsGraph, IsIri, IsQuad, all_have}
 use Rattle.std.proofs.Math.Logic.{∥∥₁_elim, ∥∥₁_map}
-use Rattle.std.proofs.lemmas.Str.{IsUtf8-had, scalars-chars}
 use Rattle.std.proofs.lemmas.Bool.Decides.{nat_tests}
-use Rattle.std.proofs.Common.{arith}
-use Rattle.std.specs.Str.{chars}
 use lib.Utf8 as U
 use Rattle.rdf_terms.specs.Classes.{scalar}
-use Rattle.rdf_terms.specs.Terms.{Literal, Quad, IsSubject, IsTail, IsTerm, IsGraph, IsIri, IsQuad, all_have}
 use Rattle.rdf_terms.specs.Views.{tail_by}
 use Rattle.rdf_terms.specs.declared.views.LiteralRef.{LiteralRef}
 use Rattle.rdf_terms.specs.declared.views.TailRef.{TailRef}

@@ -1,20 +1,10 @@
 -- Columns and lines after bytes that come in parts.
-use Rattle.std.proofs.Common.{◌≡◌, ◌≤◌, ◌<◌, ◌+◌, ◌-◌, ◌∙◌, ℕ, zero, suc, Bool, true, false, cond, List, [], ◌∷◌, ◌++◌, length, take, drop, refl, sym, ap, subst, arith, length-append, length-drop, append_assoc}
-use Rattle.std.specs.Prelude.{slice_index, Option, Some, None, IfSome, Result, Err}
-use Rattle.std.specs.Io.KnownBytes.{Consumes, IsAtEnd}
-use Rattle.std.proofs.KnownBytes.{Consumes-trans}
-use Rattle.std.proofs.lemmas.Bool.{false≢true}
-use Rattle.std.proofs.lemmas.List.{append-nil, take_all}
+use Rattle.rdf_stream.proofs.Prelude.{◌≡◌, ◌≤◌, ◌<◌, ◌+◌, ◌-◌, ◌∙◌, ℕ, zero, suc, Bool, true, false, cond, List, [], ◌∷◌, ◌++◌, length, take, drop, refl, sym, ap, subst, arith, length-append, length-drop, append_assoc, slice_index, Option, Some, None, IfSome, Result, Err, Consumes, IsAtEnd, Consumes-trans, false≢true, append-nil, take_all, copy_within, StreamFault, HasGiven, Dialect, Summary, tokens_of, HandsOut, IsNear, IsOpenBracket, NearRead, TellsNear, column_after, is_feed, goes_on, last_of, line_after, next_column, reach}
 use Rattle.std.proofs.lemmas.List.Edits.{take-paste}
-use Rattle.std.specs.List.{copy_within}
-use Rattle.rdf_stream.specs.declared.fault.StreamFault.{StreamFault}
 use Rattle.rdf_stream.specs.declared.fault.StreamFault.TheVariants.{Refused, Read, Write, Memory}
 use Rattle.rdf_stream.specs.declared.watch.Watching.{Watching}
 use Rattle.rdf_stream.specs.declared.watch.Words.{Words}
-use Rattle.rdf_stream.specs.Devices.{HasGiven, Reading}
-use Rattle.rdf_terms.specs.declared.kind.Dialect.{Dialect}
-use Rattle.rdf_driver.specs.declared.summary.Summary.{Summary}
-use Rattle.rdf_tokens.specs.Good.{tokens_of}
+use Rattle.rdf_stream.specs.Devices.{Reading}
 use Rattle.rdf_stream.specs.declared.brackets.Opened.{Opened}
 use Rattle.rdf_stream.specs.declared.brackets.TokenPlace.{TokenPlace}
 use Rattle.rdf_stream.specs.Brackets.{IsOpenBefore}
@@ -22,7 +12,6 @@ use Rattle.rdf_stream.specs.Kept.{Kept, Watches}
 use Rattle.rdf_stream.specs.Watches.{Follows, IsNearFault, IsToldOf, WatchesAll}
 use Rattle.rdf_stream.specs.declared.watch.Nearby.{Nearby}
 use Rattle.rdf_stream.specs.declared.watch.Nearby.TheVariants.{Unasked, Asked, Told}
-use Rattle.rdf_stream.specs.Places.{HandsOut, IsNear, IsOpenBracket, NearRead, TellsNear, column_after, is_feed, goes_on, last_of, line_after, next_column, reach}
 
 pub column_append : (n : ℕ) (u v : List ℕ) → column_after n (u ++ v) ≡ column_after (column_after n u) v
 column_append n [] v = refl

@@ -1,12 +1,11 @@
 -- That a quad is well formed is one fact: where it holds under a truncation, it holds.
-use Rattle.std.proofs.Common.{◌≡◌, ℕ, List, Bool, true, Option, Some, None}
+use Rattle.rdf_stream.proofs.Prelude.{◌≡◌, ℕ, List, Bool, true, Option, Some, None, Node, Label, Anon, Cell, Tail, Lang, Typed, Subject, Iri, Blank, Term, Resource, Literal, Quad, IsIri, IsNode, IsSubject, IsTail, IsTerm, IsGraph, IsQuad}
 use Rattle.std.proofs.Math.Logic.{∥∥₁_elim, ∥∥₁_map}
 use Rattle.std.proofs.Math.Bool.{Bool-set}
 use Rattle.std.proofs.Math.Bridge.{le_prop}
 use Rattle.rdf_terms.specs.declared.kind.Dialect.TheVariants.{Lines}
 use Rattle.rdf_terms.specs.Regex.{Regex, Matches}
 use Rattle.rdf_terms.specs.Shapes.{label_name, tag_name}
-use Rattle.rdf_terms.specs.Terms.{Node, Label, Anon, Cell, Tail, Lang, Typed, Subject, Iri, Blank, Term, Resource, Literal, Quad, IsIri, IsNode, IsSubject, IsTail, IsTerm, IsGraph, IsQuad}
 use Rattle.rdf_terms.proofs.ShapesLemmas.{form-matches, matches-form}
 
 -- that a test holds is one fact

@@ -1,10 +1,5 @@
 -- Lines without their CRs, run by run.
-use Rattle.std.proofs.Common.{◌≡◌, ◌++◌, ◌+◌, ◌-◌, ◌<◌, ℕ, zero, suc, List, [], ◌∷◌, ◌==◌, true, false, not, length, take, drop, length-take, sym, ap, refl, ◌∙◌, arith}
-use Rattle.std.specs.Prelude.{slice_index}
-use Rattle.std.proofs.lemmas.Bool.{cond-true, cond-false}
-use Rattle.std.proofs.Math.Seq.{take-length}
-use Rattle.std.proofs.lemmas.List.{drop-drop, length-drop, take-append-le}
-use Rattle.rdf_lines.specs.Canonical.{without_crs}
+use Rattle.rdf_stream.proofs.Prelude.{◌≡◌, ◌++◌, ◌+◌, ◌-◌, ◌<◌, ℕ, zero, suc, List, [], ◌∷◌, ◌==◌, true, false, not, length, take, drop, length-take, sym, ap, refl, ◌∙◌, arith, slice_index, cond-true, cond-false, take-length, drop-drop, length-drop, take-append-le, without_crs}
 use Rattle.rdf_lines.specs.WrittenBytes.{BeginsWith}
 
 -- up to the first CR the bytes stay

@@ -1,8 +1,5 @@
 -- The characters of a text, one by one.
-use Rattle.std.proofs.Common.{◌≡◌, ◌≤◌, ◌*◌, ℕ, List, [], ◌∷◌, ◌++◌, length, take, encode_utf8, refl, sym, ap, ◌∙◌, subst, arith, length-append}
-use Rattle.std.specs.Str.{chars, IsUtf8, encode_utf8_all}
-use Rattle.std.proofs.Math.Seq.{take-append_seam}
-use Rattle.std.proofs.lemmas.Str.{IsUtf8-past_char, IsUtf8-take, IsCharBoundary-at_seam, chars_past_char, chars-append, chars-nil, encodes-append, encodes-chars, len_utf8_bounds, length-encode}
+use Rattle.rdf_terms.proofs.Prelude.{◌≡◌, ◌≤◌, ◌*◌, ℕ, List, [], ◌∷◌, ◌++◌, length, take, encode_utf8, refl, sym, ap, ◌∙◌, subst, arith, length-append, chars, IsUtf8, encode_utf8_all, take-append_seam, IsUtf8-past_char, IsUtf8-take, IsCharBoundary-at_seam, chars_past_char, chars-append, chars-nil, encodes-append, encodes-chars, len_utf8_bounds, length-encode}
 
 -- a text that begins with a character
 pub record Next (bytes rest : List ℕ) (c : ℕ) : Type 0 where

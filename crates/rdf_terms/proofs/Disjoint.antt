@@ -1,12 +1,6 @@
 -- Tests that show that two expressions have no text in common: by the characters that their texts begin with, or that they have.
-use Rattle.std.proofs.Common.{◌≡◌, ℕ, Bool, true, false, List, [], ◌∷◌, ◌++◌, ◌&&◌, ◌||◌, ◌==◌, ◌+◌, ◌-◌, ◌≤◌, refl, sym, ap, ◌∙◌, subst, ⊎_elim, arith}
-use Rattle.std.specs.Prelude.{not, nat_le}
-use Rattle.std.specs.List.{concat, AllByRecursion}
-use Rattle.std.proofs.lemmas.Bool.{and_parts, or_cases, or_left, or_right, false≢true, not-true, eqb-true, leb-true, agree_below, agree_below_at}
-use Rattle.rdf_terms.specs.Classes.{Class, has, scalar, one_of, is_digit}
-use Rattle.rdf_terms.specs.Classes.Class.{the, digit}
-use Rattle.rdf_terms.specs.Regex.{Regex, Matches, nullable}
-use Rattle.rdf_terms.specs.Regex.Regex.{nothing, empty, one, ◌·◌, ◌∣◌, many}
+use Rattle.rdf_terms.proofs.Prelude.{◌≡◌, ℕ, Bool, true, false, List, [], ◌∷◌, ◌++◌, ◌&&◌, ◌||◌, ◌==◌, ◌+◌, ◌-◌, ◌≤◌, refl, sym, ap, ◌∙◌, subst, ⊎_elim, arith, not, nat_le, concat, AllByRecursion, and_parts, or_cases, or_left, or_right, false≢true, not-true, eqb-true, leb-true, agree_below, agree_below_at, Class, has, one_of, is_digit, the, digit, Regex, Matches, nullable, nothing, empty, one, ◌·◌, ◌∣◌, many}
+use Rattle.rdf_terms.specs.Classes.{scalar}
 use Rattle.rdf_terms.proofs.RegexLemmas.{matches-nullable, split_first, first_part}
 
 -- the classes of the first characters pass a test

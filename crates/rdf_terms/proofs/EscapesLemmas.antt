@@ -1,20 +1,8 @@
 -- The way from escape to escape in a token's inside: steps over its bytes, and the runs between them.
-use Rattle.std.proofs.Common.{◌≡◌, ℕ, zero, suc, ◌+◌, ◌-◌, ◌*◌, ◌<◌, ◌≤◌, Bool, true, false, ◌&&◌, List, [], ◌∷◌, ◌++◌, ◌==◌, Option, Some, None, is_some, option_map, encode_utf8, refl, sym, ap, ◌∙◌, subst, ⊎_elim, append_assoc, length, length-drop, get_or, drop, take, arith}
-use Rattle.std.specs.Prelude.{encode_utf8_all, slice_range, nat_le}
-use Rattle.std.specs.Option.{IfSome}
-use Rattle.std.specs.Str.{chars, IsUtf8, IsCharBoundary}
-use Rattle.std.proofs.lemmas.Str.{chars-append, chars-encodes, chars-nil, chars_from_encodes, encodes-chars, encode_ascii, byte_from_char, IsUtf8-between, IsUtf8-drop, IsCharBoundary-end, IsCharBoundary-before_ascii, IsCharBoundary-from_drop}
-use Rattle.std.proofs.lemmas.List.{append-nil, drop_more, drop_all, get_or-drop}
+use Rattle.rdf_terms.proofs.Prelude.{◌≡◌, ℕ, zero, suc, ◌+◌, ◌-◌, ◌*◌, ◌<◌, ◌≤◌, Bool, true, false, ◌&&◌, List, [], ◌∷◌, ◌++◌, ◌==◌, Option, Some, None, is_some, option_map, encode_utf8, refl, sym, ap, ◌∙◌, subst, ⊎_elim, append_assoc, length, length-drop, get_or, drop, take, arith, encode_utf8_all, slice_range, nat_le, IfSome, chars, IsUtf8, IsCharBoundary, chars-append, chars-encodes, chars-nil, chars_from_encodes, encodes-chars, encode_ascii, byte_from_char, IsUtf8-between, IsUtf8-drop, IsCharBoundary-end, IsCharBoundary-before_ascii, IsCharBoundary-from_drop, append-nil, drop_more, drop_all, get_or-drop, and_from, and_parts, cases_Bool, cases_lt, cond-true, cond-false, eqb-true, ne_eqb, not-true, not-false, not_from_false, or_parts, false≢true, nat_tests, has, member, hex_digit, iri_char, all_have, IsRun, PassBetween, goes_over, is_unescaped, iri_byte, string_value, Inside, of_string, of_iri, EscapeState, outside, slash, digits, Move, leads, means, fails, allowed, letter_move, echar_move, digit_move, hex_value, go, move, value, iri_value, run_of, stands, completes, value_after, with_front, IsPutUpTo, IsRead, Reads}
 use Rattle.std.proofs.lemmas.List.Folds.{drop_split}
-use Rattle.std.proofs.lemmas.Bool.{and_from, and_parts, cases_Bool, cases_lt, cond-true, cond-false, eqb-true, ne_eqb, not-true, not-false, not_from_false, or_parts, false≢true}
-use Rattle.std.proofs.lemmas.Bool.Decides.{nat_tests}
 use lib.Utf8.{scalar as lib_scalar}
-use Rattle.rdf_terms.specs.Classes.{has, member, scalar}
-use Rattle.rdf_terms.specs.Classes.Class.{hex_digit, iri_char}
-use Rattle.rdf_terms.specs.Terms.{all_have}
-use Rattle.rdf_terms.specs.Runs.{IsRun, PassBetween, goes_over, is_unescaped, iri_byte}
-use Rattle.rdf_terms.specs.Values.{string_value, Inside, of_string, of_iri, EscapeState, outside, slash, digits, Move, leads, means, fails, allowed, letter_move, echar_move, digit_move, hex_value, go, move, value, iri_value}
-use Rattle.rdf_terms.specs.Escapes.{run_of, stands, completes, value_after, with_front, IsPutUpTo, IsRead, Reads}
+use Rattle.rdf_terms.specs.Classes.{scalar}
 use Rattle.rdf_terms.proofs.CharsLemmas.{Next, next_char}
 use Rattle.rdf_terms.proofs.IriBytes.{iri_bytes, have-append}
 use Rattle.rdf_terms.proofs.ValuesLemmas.{backslash_excluded}

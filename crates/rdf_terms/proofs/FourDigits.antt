@@ -1,12 +1,6 @@
 -- Tables of hex digits and of the letters of ECHAR against their definitions.
-use Rattle.std.proofs.Common.{◌≡◌, ℕ, ◌<◌, ◌≤◌, Bool, true, false, ◌==◌, cond, refl, sym, ap, ◌∙◌, get_or, arith, ⊎_elim}
-use Rattle.std.proofs.lemmas.Bool.{agree_below_at, cases_Bool, ne_eqb, cond-true, cond-false, eqb-true, false≢true}
-use Rattle.std.proofs.lemmas.Bool.Decides.{nat_tests}
-use Rattle.rdf_terms.specs.Classes.{has}
-use Rattle.rdf_terms.specs.Classes.Class.{hex_digit}
+use Rattle.rdf_terms.proofs.Prelude.{◌≡◌, ℕ, ◌<◌, ◌≤◌, Bool, true, false, ◌==◌, cond, refl, sym, ap, ◌∙◌, get_or, arith, ⊎_elim, agree_below_at, cases_Bool, ne_eqb, cond-true, cond-false, eqb-true, false≢true, nat_tests, has, hex_digit, digit_or_none, Move, leads, means, fails, hex_value, letter_move}
 use Rattle.rdf_terms.specs.declared.escapes.TheConstants.{DIGITS, LETTERS}
-use Rattle.rdf_terms.specs.Escapes.{digit_or_none}
-use Rattle.rdf_terms.specs.Values.{Move, leads, means, fails, hex_value, letter_move}
 
 -- the table of hex digits, by a test of each byte
 pub table_digit : (b : ℕ) → b < 256 → get_or DIGITS b 0 ≡ digit_or_none b

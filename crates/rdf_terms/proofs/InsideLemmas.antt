@@ -1,15 +1,6 @@
 -- A text without the characters at its ends.
-use Rattle.std.proofs.Common.{◌≡◌, ℕ, ◌+◌, ◌-◌, ◌*◌, ◌≤◌, List, [], ◌∷◌, ◌++◌, length, take, drop, Option, Some, None, encode_utf8, sym, ap, ◌∙◌, subst, ⊎_elim, append_assoc, arith, length-append, length-drop}
-use Rattle.std.specs.Str.{encode_utf8_all}
-use Rattle.std.proofs.lemmas.List.{append-nil, drop-take, length-take-le, take-take, drop-drop}
-use Rattle.std.proofs.Math.Seq.{take-append_seam}
-use Rattle.std.proofs.lemmas.Bool.{cases_lt}
-use Rattle.std.specs.Option.{MatchOption}
-use Rattle.std.specs.Str.{chars, IsUtf8}
-use Rattle.std.specs.Str.Iter.{chars_rest}
+use Rattle.rdf_terms.proofs.Prelude.{◌≡◌, ℕ, ◌+◌, ◌-◌, ◌*◌, ◌≤◌, List, [], ◌∷◌, ◌++◌, length, take, drop, Option, Some, None, encode_utf8, sym, ap, ◌∙◌, subst, ⊎_elim, append_assoc, arith, length-append, length-drop, encode_utf8_all, append-nil, drop-take, length-take-le, take-take, drop-drop, take-append_seam, cases_lt, MatchOption, chars, IsUtf8, chars_rest, IsUtf8-past_char, chars-append, chars-nil, inside}
 use Rattle.std.specs.declared.str.Chars.{Chars}
-use Rattle.std.proofs.lemmas.Str.{IsUtf8-past_char, chars-append, chars-nil}
-use Rattle.rdf_terms.specs.Values.{inside}
 use Rattle.rdf_terms.proofs.CharsLemmas.{next_char, no_chars}
 
 -- the ends of a front of a text

@@ -1,16 +1,6 @@
 -- The characters of IRIREF by the bytes of a text: what it excludes is ASCII.
-use Rattle.std.proofs.Common.{◌≡◌, ℕ, suc, ◌<◌, ◌≤◌, Bool, true, false, List, [], ◌∷◌, ◌++◌, ◌&&◌, ◌||◌, refl, sym, ap, ◌∙◌, ⊎_elim, length, get_or, arith, encode_utf8, IsUtf8}
-use Rattle.std.specs.Prelude.{encode_utf8_all, nat_le}
-use Rattle.std.specs.Str.{chars}
-use Rattle.std.proofs.lemmas.Bool.{and_parts, and_from, cases_lt}
-use Rattle.std.proofs.lemmas.Bool.Decides.{nat_tests}
-use Rattle.std.proofs.lemmas.List.{append-nil}
-use Rattle.std.proofs.lemmas.Str.{encode_ascii, inside_one, scalars-chars, encodes-chars}
-use Rattle.std.proofs.Math.Utf8.{scalars}
-use Rattle.rdf_terms.specs.Classes.{has, member, scalar}
-use Rattle.rdf_terms.specs.Runs.{iri_byte}
-use Rattle.rdf_terms.specs.Classes.Class.{iri_char}
-use Rattle.rdf_terms.specs.Terms.{all_have}
+use Rattle.rdf_terms.proofs.Prelude.{◌≡◌, ℕ, suc, ◌<◌, ◌≤◌, Bool, true, false, List, [], ◌∷◌, ◌++◌, ◌&&◌, ◌||◌, refl, sym, ap, ◌∙◌, ⊎_elim, length, get_or, arith, encode_utf8, IsUtf8, encode_utf8_all, nat_le, chars, and_parts, and_from, cases_lt, nat_tests, append-nil, encode_ascii, inside_one, scalars-chars, encodes-chars, scalars, has, member, iri_byte, iri_char, all_have}
+use Rattle.rdf_terms.specs.Classes.{scalar}
 
 -- IRIREF excludes no character from U+0080 on
 pub high_char : (c : ℕ) → 128 ≤ c → member iri_char c ≡ true

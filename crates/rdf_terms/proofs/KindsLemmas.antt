@@ -1,16 +1,6 @@
 -- No text has the shapes of two kinds, so the test for the first kind finds the only one.
-use Rattle.std.proofs.Common.{◌≡◌, ◌≢◌, ℕ, zero, suc, ◌+◌, ◌<◌, ◌≤◌, Bool, true, false, cond, List, [], ◌∷◌, ◌++◌, ◌&&◌, ◌||◌, ◌==◌, ◌⊎◌, inl, inr, refl, sym, ap, ◌∙◌, subst, ⊎_elim, Option, Some, length, get_or, arith}
-use Rattle.std.specs.Prelude.{not, nat_lt, codes}
-use Rattle.std.proofs.lemmas.Bool.{and_parts, or_cases, cases_Bool, false≢true, not-true, eqb-true, eq-eqb, ne_eqb, ltb-true, cases_lt, or_left}
-use Rattle.rdf_terms.specs.Classes.{has, scalar, one_of}
-use Rattle.rdf_terms.specs.Classes.Class.{the}
-use Rattle.rdf_terms.specs.declared.kind.Dialect.{Dialect}
-use Rattle.rdf_terms.specs.declared.kind.Dialect.TheVariants.{Lines, Turtle}
-use Rattle.rdf_terms.specs.declared.kind.Kind.{Kind}
-use Rattle.rdf_terms.specs.declared.kind.Kind.TheVariants.{IriRef, LabelNode, ShortString, LongString, LangTag, Carets, Dot, LineEnd, Integer, Decimal, Double, True, False, A, AtPrefix, AtBase, Prefix, Base, Graph, PnameNs, PnameLn, Semicolon, Comma, OpenBracket, CloseBracket, OpenParen, CloseParen, OpenBrace, CloseBrace, End}
-use Rattle.rdf_terms.specs.Regex.{Regex, Matches, nullable, after, after_all, longer}
-use Rattle.rdf_terms.specs.Regex.Regex.{◌∣◌}
-use Rattle.rdf_terms.specs.Shapes.{Shape, Live, shape, kinds, any_shape, kind_of, is_live, optional, pn_prefix, pn_local}
+use Rattle.rdf_terms.proofs.Prelude.{◌≡◌, ◌≢◌, ℕ, zero, suc, ◌+◌, ◌<◌, ◌≤◌, Bool, true, false, cond, List, [], ◌∷◌, ◌++◌, ◌&&◌, ◌||◌, ◌==◌, ◌⊎◌, inl, inr, refl, sym, ap, ◌∙◌, subst, ⊎_elim, Option, Some, length, get_or, arith, not, nat_lt, codes, and_parts, or_cases, cases_Bool, false≢true, not-true, eqb-true, eq-eqb, ne_eqb, ltb-true, cases_lt, or_left, has, one_of, the, Dialect, Lines, Turtle, Kind, IriRef, LabelNode, ShortString, LongString, LangTag, Carets, Dot, LineEnd, Integer, Decimal, Double, True, False, A, AtPrefix, AtBase, Prefix, Base, Graph, PnameNs, PnameLn, Semicolon, Comma, OpenBracket, CloseBracket, OpenParen, CloseParen, OpenBrace, CloseBrace, End, Regex, Matches, nullable, after, after_all, longer, ◌∣◌, Shape, Live, shape, kinds, any_shape, kind_of, is_live, optional, pn_prefix, pn_local}
+use Rattle.rdf_terms.specs.Classes.{scalar}
 use Rattle.rdf_terms.proofs.RegexLemmas.{matches-nullable, matches-longer, matches-after, matches-after_all}
 use Rattle.rdf_terms.proofs.ShapesLemmas.{matches-form, first_kind-matches, matches-first_kind, live-matches, matches-live}
 use Rattle.rdf_terms.proofs.Disjoint.{class_in, class_out, in-sound, starts, starts-first, within, meets, parted_by, none-met, parted_by-apart, begins-apart}

@@ -1,7 +1,5 @@
 -- The known IRIs are IRIs.
-use Rattle.std.proofs.Common.{refl}
-use Rattle.rdf_terms.specs.Classes.{has}
-use Rattle.rdf_terms.specs.Terms.{IsIri}
+use Rattle.rdf_terms.proofs.Prelude.{refl, has, IsIri}
 use Rattle.rdf_terms.specs.Known.{known_chars}
 use Rattle.rdf_terms.specs.declared.constants.Known.{Known}
 use Rattle.rdf_terms.specs.declared.constants.Known.TheVariants.{RdfType, RdfFirst, RdfRest, RdfNil, XsdString, XsdInteger, XsdDecimal, XsdDouble, XsdBoolean}

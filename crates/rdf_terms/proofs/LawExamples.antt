@@ -1,12 +1,5 @@
 -- The laws at short texts: a dot, the beginning of a number, and texts with escapes.
-use Rattle.std.proofs.Common.{◌≡◌, ℕ, true, List, [], ◌∷◌, refl, Some, None}
-use Rattle.std.specs.Prelude.{codes}
-use Rattle.rdf_terms.specs.declared.kind.Dialect.TheVariants.{Turtle}
-use Rattle.rdf_terms.specs.declared.kind.Kind.TheVariants.{Dot, Decimal, ShortString}
-use Rattle.rdf_terms.specs.Classes.{has}
-use Rattle.rdf_terms.specs.Shapes.{Shape, Live, shape, kind_of, is_live}
-use Rattle.rdf_terms.specs.Pieces.{of_string, of_iri, IsPiece, IsLocalPiece, Means}
-use Rattle.rdf_terms.specs.Values.{is_fit}
+use Rattle.rdf_terms.proofs.Prelude.{◌≡◌, ℕ, true, List, [], ◌∷◌, refl, Some, None, codes, Turtle, Dot, Decimal, ShortString, has, Shape, Live, shape, kind_of, is_live, of_string, of_iri, IsPiece, IsLocalPiece, Means, is_fit}
 use Rattle.rdf_terms.proofs.PiecesLemmas.{string_means, iri_means, local_part_means, fit_means}
 use Rattle.rdf_terms.proofs.KindsLemmas.{one_kind, kind-shape, shape-kind, live-shape, shape-live}
 

@@ -1,3 +1,4 @@
+mod Prelude
 pub mod RegexLemmas
 pub mod ShapesLemmas
 pub mod Disjoint

@@ -1,18 +1,7 @@
 -- The value of a local part, and the walk over it.
-use Rattle.std.proofs.Common.{◌≡◌, ◌<◌, ℕ, Bool, true, false, cond, List, [], ◌∷◌, ◌++◌, ◌==◌, ◌&&◌, ◌||◌, Option, Some, None, is_some, option_map, encode_utf8, refl, sym, ap, ◌∙◌, subst, ⊎_elim, append_assoc, arith}
-use Rattle.std.specs.Prelude.{not, encode_utf8_all}
-use Rattle.std.specs.Option.{unwrap_or}
-use Rattle.std.specs.Str.{chars, IsUtf8}
-use Rattle.std.proofs.lemmas.Str.{IsUtf8-append, chars-append, chars-encodes, chars-nil, chars_from_encodes, encodes-chars, encode_ascii, scalars-chars}
-use Rattle.std.proofs.lemmas.List.{append-nil}
-use Rattle.std.proofs.lemmas.Bool.{cases_Bool, cases_lt, and_parts, and_from, or_cases, cond-true, cond-false, not-true, not_from_false, false≢true, ne_eqb, eqb-true, eq-eqb}
-use lib.Utf8.{scalar, scalars}
-use Rattle.rdf_terms.specs.Classes.{has, scalar as is_scalar, one_of}
-use Rattle.rdf_terms.specs.Classes.Class.{iri_char, local_escape}
-use Rattle.rdf_terms.specs.Terms.{all_have}
-use Rattle.rdf_terms.specs.Runs.{is_unescaped}
-use Rattle.rdf_terms.specs.Values.{local_from, local_value}
-use Rattle.rdf_terms.specs.Local.{local_stands, local_opens, without_backslashes}
+use Rattle.rdf_terms.proofs.Prelude.{◌≡◌, ◌<◌, ℕ, Bool, true, false, cond, List, [], ◌∷◌, ◌++◌, ◌==◌, ◌&&◌, ◌||◌, Option, Some, None, is_some, option_map, encode_utf8, refl, sym, ap, ◌∙◌, subst, ⊎_elim, append_assoc, arith, not, encode_utf8_all, unwrap_or, chars, IsUtf8, IsUtf8-append, chars-append, chars-encodes, chars-nil, chars_from_encodes, encodes-chars, encode_ascii, scalars-chars, append-nil, cases_Bool, cases_lt, and_parts, and_from, or_cases, cond-true, cond-false, not-true, not_from_false, false≢true, ne_eqb, eqb-true, eq-eqb, scalars, has, one_of, iri_char, local_escape, all_have, is_unescaped, local_from, local_value, local_stands, local_opens, without_backslashes}
+use lib.Utf8.{scalar}
+use Rattle.rdf_terms.specs.Classes.{scalar as is_scalar}
 use Rattle.rdf_terms.proofs.CharsLemmas.{next_char}
 use Rattle.rdf_terms.proofs.IriBytes.{all_high, high_bytes}
 

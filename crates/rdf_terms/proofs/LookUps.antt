@@ -1,9 +1,6 @@
 -- Tables of sixteen bytes, looked up by half of each lane.
-use Rattle.std.proofs.Common.{◌≡◌, ℕ, ◌/◌, ◌%◌, ◌^◌, ◌<◌, List, [], ◌∷◌, length, map, get_or, replicate, bit_and, refl, sym, ap, subst, ◌∙◌, arith, Fits, w8}
-use Rattle.std.proofs.lemmas.List.{length-map, get_or-map, ext_get_or}
+use Rattle.rdf_terms.proofs.Prelude.{◌≡◌, ℕ, ◌/◌, ◌%◌, ◌^◌, ◌<◌, List, [], ◌∷◌, length, map, get_or, replicate, bit_and, refl, sym, ap, subst, ◌∙◌, arith, Fits, w8, length-map, get_or-map, ext_get_or, zip2_splat, swz_l, SwzOk, SwzOk-from_below, length-swz_l, get_or-swz_l_below, Each1-get_or, Each1, zip2}
 use Rattle.std.proofs.lemmas.Nat.{and_mask}
-use Rattle.std.proofs.lemmas.Simd.{zip2_splat, swz_l, SwzOk, SwzOk-from_below, length-swz_l, get_or-swz_l_below, Each1-get_or}
-use lib.Lanes.{Each1, zip2}
 
 -- sixteen bytes
 abbrev pub AreLanes : List ℕ → Type 0

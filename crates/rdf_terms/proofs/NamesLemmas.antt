@@ -1,19 +1,7 @@
 -- What is read character by character as a label, a prefix or a tag matches its expression, and nothing else does.
-use Rattle.std.proofs.Common.{◌≡◌, ◌≢◌, ℕ, Bool, true, false, cond, List, [], ◌∷◌, ◌++◌, ◌&&◌, ◌==◌, ◌⊎◌, ◌↔◌, length, Option, Some, None, inl, inr, refl, sym, ap, ◌∙◌, subst, ⊎_elim, arith}
-use Rattle.std.proofs.lemmas.Bool.{and_parts, and_from, or_cases, or_left, or_right, eqb-true, cases_Bool, cond-true, cond-false, false≢true}
-use Rattle.rdf_terms.specs.Classes.{Class, has, scalar}
-use Rattle.rdf_terms.specs.Classes.Class.{the, digit, letter, letter_or_digit, pn_base, pn_u, pn_char}
-use Rattle.rdf_terms.specs.declared.kind.Dialect.{Dialect}
-use Rattle.rdf_terms.specs.declared.kind.Dialect.TheVariants.{Lines, Turtle}
-use Rattle.rdf_terms.specs.declared.kind.Kind.TheVariants.{PnameNs}
-use Rattle.rdf_terms.specs.Regex.{Regex, Matches, after}
-use Rattle.rdf_terms.specs.Regex.Regex.{one, ◌·◌, ◌∣◌, many}
-use Rattle.rdf_terms.specs.Shapes.{optional, some, dot, pn_prefix, label_name, shape, Shape}
-use Rattle.rdf_terms.specs.Terms.{IsLabel, IsTag}
-use Rattle.rdf_terms.specs.Names.{begins_label, name_goes_on, Place, start, letters, hyphen, part, after_tag, if_some, tag_goes_on}
-use Rattle.std.specs.Str.{chars, IsUtf8, encode_utf8_all}
-use Rattle.std.proofs.lemmas.Str.{chars-encodes, encodes-chars, encode_ascii}
-use Rattle.std.proofs.lemmas.List.{append_cancel_right}
+use Rattle.rdf_terms.proofs.Prelude.{◌≡◌, ◌≢◌, ℕ, Bool, true, false, cond, List, [], ◌∷◌, ◌++◌, ◌&&◌, ◌==◌, ◌⊎◌, ◌↔◌, length, Option, Some, None, inl, inr, refl, sym, ap, ◌∙◌, subst, ⊎_elim, arith, and_parts, and_from, or_cases, or_left, or_right, eqb-true, cases_Bool, cond-true, cond-false, false≢true, Class, has, the, digit, letter, letter_or_digit, pn_base, pn_u, pn_char, Dialect, Lines, Turtle, PnameNs, Regex, Matches, after, one, ◌·◌, ◌∣◌, many, optional, some, dot, pn_prefix, label_name, shape, Shape, IsLabel, IsTag, begins_label, name_goes_on, Place, start, hyphen, part, after_tag, if_some, tag_goes_on, chars, IsUtf8, encode_utf8_all, chars-encodes, encodes-chars, encode_ascii, append_cancel_right}
+use Rattle.rdf_terms.specs.Classes.{scalar}
+use Rattle.rdf_terms.specs.Names.{letters}
 use Rattle.rdf_terms.proofs.CharsLemmas.{before_last, last_char, no_chars}
 use Rattle.rdf_terms.proofs.RegexLemmas.{matches-nullable, after-matches, matches-after}
 

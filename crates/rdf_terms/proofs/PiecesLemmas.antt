@@ -1,14 +1,8 @@
 -- The values that are computed are what the pieces mean.
-use Rattle.std.proofs.Common.{◌≡◌, ◌≢◌, ◌↔◌, ℕ, zero, suc, ◌+◌, ◌*◌, ◌^◌, Bool, true, false, cond, List, [], ◌∷◌, ◌++◌, ◌==◌, ◌⊎◌, inl, inr, length, Option, Some, None, is_some, option_map, refl, sym, ap, ◌∙◌, subst, ⊎_elim, arith}
-use Rattle.std.proofs.lemmas.Bool.{and_parts, and_from, cases_Bool, cond-true, cond-false, false≢true, ne_eqb, eqb-true, eq-eqb}
+use Rattle.rdf_terms.proofs.Prelude.{◌≡◌, ◌≢◌, ◌↔◌, ℕ, zero, suc, ◌+◌, ◌*◌, ◌^◌, Bool, true, false, cond, List, [], ◌∷◌, ◌++◌, ◌==◌, ◌⊎◌, inl, inr, length, Option, Some, None, is_some, option_map, refl, sym, ap, ◌∙◌, subst, ⊎_elim, arith, and_parts, and_from, cases_Bool, cond-true, cond-false, false≢true, ne_eqb, eqb-true, eq-eqb, Kind, IriRef, ShortString, LongString, has, hex_digit, iri_char, local_escape, all_have, Inside, of_string, of_iri, hex_value, hex_number, inside, IsRow, MayMean, IsLetterEscape, IsNumberEscape, IsPiece, IsLocalPiece, Means, HasMeaning, EscapeState, outside, slash, digits, Move, leads, means, fails, letter_move, allowed, echar_move, digit_move, move, go, value, string_value, iri_value, local_from, local_value, is_fit}
 use Rattle.std.proofs.Math.Nat.{pow-succ', add-mul, mul_assoc}
-use Rattle.rdf_terms.specs.declared.kind.Kind.{Kind}
-use Rattle.rdf_terms.specs.declared.kind.Kind.TheVariants.{IriRef, ShortString, LongString}
-use Rattle.rdf_terms.specs.Classes.{has, scalar}
-use Rattle.rdf_terms.specs.Classes.Class.{hex_digit, iri_char, local_escape}
-use Rattle.rdf_terms.specs.Terms.{all_have}
-use Rattle.rdf_terms.specs.Pieces.{Inside, of_string, of_iri, hex_value, hex_number, inside, IsRow, letters, MayMean, IsLetterEscape, IsNumberEscape, IsPiece, IsLocalPiece, Means, HasMeaning}
-use Rattle.rdf_terms.specs.Values.{EscapeState, outside, slash, digits, Move, leads, means, fails, letter_move, allowed, echar_move, digit_move, move, go, value, string_value, iri_value, local_from, local_value, is_fit}
+use Rattle.rdf_terms.specs.Classes.{scalar}
+use Rattle.rdf_terms.specs.Pieces.{letters}
 use Rattle.rdf_terms.proofs.LocalLemmas.{mapped}
 
 -- no value is none that is there

@@ -1,5 +1,5 @@
 -- Writes at places of one buffer, one after another.
-use Rattle.std.proofs.Common.{◌≡◌, IsUtf8, ℕ, ◌+◌, ◌-◌, ◌≤◌, List, ◌++◌, length, take, drop, ap, sym, ◌∙◌, subst, arith, append_assoc, length-append, length-take-le, length-drop, take-add, take-take, take_at, drop_at, take_all, take-append-drop}
+use Rattle.rdf_terms.proofs.Prelude.{◌≡◌, IsUtf8, ℕ, ◌+◌, ◌-◌, ◌≤◌, List, ◌++◌, length, take, drop, ap, sym, ◌∙◌, subst, arith, append_assoc, length-append, length-take-le, length-drop, take-add, take-take, take_at, drop_at, take_all, take-append-drop}
 use Rattle.rdf_terms.specs.Placing.{Placed}
 
 -- a second write begins where the first ended

@@ -1,10 +1,5 @@
 -- Tokens whose bytes tell that they are fit: those between the delimiters have a value.
-use Rattle.std.proofs.Common.{◌≡◌, ℕ, zero, suc, ◌+◌, ◌-◌, ◌<◌, true, List, [], ◌∷◌, ◌++◌, is_some, sym, ap, ◌∙◌, length, get_or, take, slice_range, length-append, arith}
-use Rattle.std.specs.Str.{chars, IsUtf8, IsAscii}
-use Rattle.std.proofs.Math.Seq.{take-suc, take-append_seam}
-use Rattle.std.proofs.lemmas.Str.{chars-append, chars-IsAscii, encode_ascii, IsCharBoundary-before_ascii, IsUtf8-from_ascii, IsUtf8-take}
-use Rattle.rdf_terms.specs.declared.kind.Kind.TheVariants.{IriRef, ShortString}
-use Rattle.rdf_terms.specs.Values.{Inside, of_iri, of_string, outside, inside, is_fit, iri_value, string_value, value}
+use Rattle.rdf_terms.proofs.Prelude.{◌≡◌, ℕ, zero, suc, ◌+◌, ◌-◌, ◌<◌, true, List, [], ◌∷◌, ◌++◌, is_some, sym, ap, ◌∙◌, length, get_or, take, slice_range, length-append, arith, chars, IsUtf8, IsAscii, take-suc, take-append_seam, chars-append, chars-IsAscii, encode_ascii, IsCharBoundary-before_ascii, IsUtf8-from_ascii, IsUtf8-take, IriRef, ShortString, Inside, of_iri, of_string, outside, inside, is_fit, iri_value, string_value, value}
 use Rattle.rdf_terms.proofs.CharsLemmas.{next_char}
 use Rattle.rdf_terms.proofs.ValueBytes.{value-bytes}
 

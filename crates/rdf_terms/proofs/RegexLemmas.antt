@@ -1,13 +1,6 @@
 -- Laws of expressions, for all of them.
-use Rattle.std.proofs.Common.{◌≡◌, ℕ, true, List, [], ◌∷◌, ◌++◌, ◌&&◌, ◌||◌, ◌==◌, ◌⊎◌, inl, inr, refl, sym, ap, ◌∙◌, subst, ⊎_elim}
-use Rattle.std.specs.List.{concat, AllByRecursion}
-use Rattle.std.proofs.lemmas.Bool.{and_parts, and_from, or_cases, or_left, or_right, cases_Bool, cond-true, cond-false, false≢true, eqb-true, eq-eqb}
-use Rattle.std.proofs.lemmas.List.{append-nil}
-use Rattle.rdf_terms.specs.Classes.{Class, has, scalar}
-use Rattle.rdf_terms.specs.Classes.Class.{the, digit, hex_digit, letter, letter_or_digit, iri_char, local_escape, escape_letter, plain_double, plain_single, long_double, long_single, pn_base, pn_u, pn_char}
-use Rattle.rdf_terms.specs.declared.kind.Dialect.TheVariants.{Lines, Turtle}
-use Rattle.rdf_terms.specs.Regex.{sample, Regex, Matches, nullable, after, after_all, possible, longer}
-use Rattle.rdf_terms.specs.Regex.Regex.{nothing, empty, one, ◌·◌, ◌∣◌, many}
+use Rattle.rdf_terms.proofs.Prelude.{◌≡◌, ℕ, true, List, [], ◌∷◌, ◌++◌, ◌&&◌, ◌||◌, ◌==◌, ◌⊎◌, inl, inr, refl, sym, ap, ◌∙◌, subst, ⊎_elim, concat, AllByRecursion, and_parts, and_from, or_cases, or_left, or_right, cases_Bool, cond-true, cond-false, false≢true, eqb-true, eq-eqb, append-nil, Class, has, the, digit, hex_digit, letter, letter_or_digit, iri_char, local_escape, escape_letter, plain_double, plain_single, long_double, long_single, pn_base, pn_u, pn_char, Lines, Turtle, sample, Regex, Matches, nullable, after, after_all, possible, longer, nothing, empty, one, ◌·◌, ◌∣◌, many}
+use Rattle.rdf_terms.specs.Classes.{scalar}
 
 -- an empty concatenation has empty parts
 no_cons : (c : ℕ) (w : List ℕ) → [] ≡ c ∷ w → ⊥

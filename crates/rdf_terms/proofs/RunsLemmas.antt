@@ -1,14 +1,7 @@
 -- Runs of bytes, from the lanes of a load to whole texts.
-use Rattle.std.proofs.Common.{◌≡◌, ℕ, zero, suc, ◌+◌, ◌-◌, ◌*◌, ◌/◌, ◌%◌, ◌^◌, ◌<◌, ◌≤◌, Bool, true, false, not, cond, ◌&&◌, ◌==◌, List, [], ◌∷◌, length, map, take, drop, get_or, refl, sym, ap, ap₂, subst, ◌∙◌, arith, ⊎_elim, Fits, w8}
+use Rattle.rdf_terms.proofs.Prelude.{◌≡◌, ℕ, zero, suc, ◌+◌, ◌-◌, ◌*◌, ◌/◌, ◌%◌, ◌^◌, ◌<◌, ◌≤◌, Bool, true, false, not, cond, ◌&&◌, ◌==◌, List, [], ◌∷◌, length, map, take, drop, get_or, refl, sym, ap, ap₂, subst, ◌∙◌, arith, ⊎_elim, Fits, w8, eqb-true, false≢true, agree_below, agree_below_at, not-true, not-false, and_from, cases_lt, eq-eqb, ne_eqb, length-map, drop-take, drop-drop, map-map, mask_l-mod, zip2_of_maps, run_in_chunk_le, run_in_chunk_fails, run_in_chunk_stops, length-chunk, leading_from_mask_l, trailing_mask_l, prefix_len, Each1, chunk, mask_l, top, zip2, all_have, PassBetween, IsRun, IsRunIn}
 use Rattle.std.proofs.Math.Nat.{div-one, zero-div, pow-suc, mul_comm, div-div-eq-div-mul}
-use Rattle.std.proofs.lemmas.Bool.{eqb-true, false≢true, agree_below, agree_below_at, not-true, not-false, and_from, cases_lt, eq-eqb, ne_eqb}
-use Rattle.std.proofs.lemmas.List.{length-map, drop-take, drop-drop}
-use Rattle.std.proofs.lemmas.Simd.{map-map, mask_l-mod, zip2_of_maps, run_in_chunk_le, run_in_chunk_fails, run_in_chunk_stops, length-chunk, leading_from_mask_l, trailing_mask_l}
 use lib.Count.{count_trailing_zeros}
-use Rattle.std.specs.List.{prefix_len}
-use lib.Lanes.{Each1, chunk, mask_l, top, zip2}
-use Rattle.rdf_terms.specs.Terms.{all_have}
-use Rattle.rdf_terms.specs.Runs.{PassBetween, IsRun, IsRunIn}
 
 -- the mask of lanes that were computed one by one, by a test of each of the 256 bytes
 pub mask_within : (f : ℕ → ℕ) (p : ℕ → Bool) (v z : List ℕ) → length v ≤ 64 → Each1 (Fits w8) v → z ≡ map f v → agree_below (λ x. top 7 (f x)) p 256 ≡ true →

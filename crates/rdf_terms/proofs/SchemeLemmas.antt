@@ -1,12 +1,5 @@
 -- A scheme by the bytes of a text: all that it has are ASCII.
-use Rattle.std.proofs.Common.{◌≡◌, ℕ, ◌<◌, ◌≤◌, Bool, true, false, List, [], ◌∷◌, ◌++◌, ◌&&◌, ◌||◌, ◌==◌, nat_lt, ◌⊎◌, inl, inr, ⊎_elim, refl, sym, ap, ◌∙◌, length, arith, IsUtf8}
-use Rattle.std.proofs.lemmas.Bool.{and_parts, cases_lt, eqb-true, false≢true}
-use Rattle.std.proofs.lemmas.Bool.Decides.{nat_tests}
-use Rattle.std.proofs.lemmas.Str.{chars-nil, encode_ascii}
-use Rattle.std.specs.Str.{chars}
-use Rattle.rdf_terms.specs.Classes.{is_digit, is_letter}
-use Rattle.rdf_terms.specs.Runs.{is_http}
-use Rattle.rdf_terms.specs.Terms.{has_scheme, scheme_goes_on}
+use Rattle.rdf_terms.proofs.Prelude.{◌≡◌, ℕ, ◌<◌, ◌≤◌, Bool, true, false, List, [], ◌∷◌, ◌++◌, ◌&&◌, ◌||◌, ◌==◌, nat_lt, ◌⊎◌, inl, inr, ⊎_elim, refl, sym, ap, ◌∙◌, length, arith, IsUtf8, and_parts, cases_lt, eqb-true, false≢true, nat_tests, chars-nil, encode_ascii, chars, is_digit, is_letter, is_http, has_scheme, scheme_goes_on}
 use Rattle.rdf_terms.proofs.CharsLemmas.{Next, next_char}
 use Rattle.rdf_terms.proofs.EscapesLemmas.{high_first}
 

@@ -1,11 +1,5 @@
 -- What the tests on texts mean.
-use Rattle.std.proofs.Common.{◌≡◌, ℕ, true, List, [], ◌∷◌, ◌++◌, inl, inr, sym, ◌∙◌, subst, ⊎_elim, append_assoc, Some, None}
-use Rattle.std.proofs.lemmas.Bool.{cases_Bool, cond-true, cond-false}
-use Rattle.std.proofs.lemmas.List.{append-nil}
-use Rattle.rdf_terms.specs.declared.kind.Dialect.{Dialect}
-use Rattle.rdf_terms.specs.Regex.{Regex, Matches, nullable, after_all}
-use Rattle.rdf_terms.specs.declared.kind.Kind.{Kind}
-use Rattle.rdf_terms.specs.Shapes.{kinds, shape, any_shape, first_kind, kind_of, is_live}
+use Rattle.rdf_terms.proofs.Prelude.{◌≡◌, ℕ, true, List, [], ◌∷◌, ◌++◌, inl, inr, sym, ◌∙◌, subst, ⊎_elim, append_assoc, Some, None, cases_Bool, cond-true, cond-false, append-nil, Dialect, Regex, Matches, nullable, after_all, Kind, kinds, shape, any_shape, first_kind, kind_of, is_live}
 use Rattle.rdf_terms.proofs.RegexLemmas.{nullable-matches, matches-nullable, after_all-matches, matches-after_all, longer-matches, matches-longer}
 
 -- a text has the form of a kind exactly if the test says so

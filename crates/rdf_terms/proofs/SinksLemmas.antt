@@ -1,5 +1,5 @@
 -- Puts one after the other.
-use Rattle.std.proofs.Common.{List, [], ◌∷◌, ◌++◌, inr, subst}
+use Rattle.rdf_terms.proofs.Prelude.{List, [], ◌∷◌, ◌++◌, inr, subst}
 use Rattle.rdf_terms.specs.Sinks.{Appends, Attempts}
 
 -- puts, and then puts of which the last may have been refused

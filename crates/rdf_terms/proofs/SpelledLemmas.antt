@@ -1,21 +1,6 @@
 -- What the kind and the shape of a token say of what it spells.
-use Rattle.std.proofs.Common.{◌≡◌, ℕ, ◌-◌, ◌*◌, ◌≤◌, Bool, true, false, String, List, [], ◌∷◌, ◌++◌, ◌&&◌, ◌||◌, ◌==◌, length, drop, Option, Some, None, is_some, option_map, unwrap_or, refl, sym, ap, subst, inl, inr, ⊎_elim, ◌∙◌, arith, length-drop}
-use Rattle.std.specs.Str.{chars}
-use Rattle.std.specs.String.{string_bytes}
-use Rattle.std.specs.List.{AllByRecursion}
-use Rattle.std.proofs.lemmas.Bool.{false≢true}
-use Rattle.std.proofs.lemmas.List.{length-take}
-use Rattle.std.proofs.lemmas.Str.{encodes-chars, IsUtf8-string_bytes}
-use Rattle.rdf_terms.specs.Classes.{Class, has, scalar, is_base, is_digit, within}
-use Rattle.rdf_terms.specs.Classes.Class.{pn_u, pn_char}
-use Rattle.rdf_terms.specs.Regex.{Regex, Matches}
-use Rattle.rdf_terms.specs.Regex.Regex.{nothing, empty, one, ◌·◌, ◌∣◌, many}
-use Rattle.rdf_terms.specs.declared.kind.Dialect.{Dialect}
-use Rattle.rdf_terms.specs.declared.kind.Dialect.TheVariants.{Lines, Turtle}
-use Rattle.rdf_terms.specs.declared.kind.Kind.TheVariants.{IriRef, LabelNode, ShortString, LangTag}
-use Rattle.rdf_terms.specs.Shapes.{shape, Shape, label_name}
-use Rattle.rdf_terms.specs.Terms.{IsLabel, IsTag}
-use Rattle.rdf_terms.specs.Values.{of_string, EscapeState, outside, slash, digits, Move, leads, means, fails, move, go, value, iri_value, string_value, inside, is_fit}
+use Rattle.rdf_terms.proofs.Prelude.{◌≡◌, ℕ, ◌-◌, ◌*◌, ◌≤◌, Bool, true, false, String, List, [], ◌∷◌, ◌++◌, ◌&&◌, ◌||◌, ◌==◌, length, drop, Option, Some, None, is_some, option_map, unwrap_or, refl, sym, ap, subst, inl, inr, ⊎_elim, ◌∙◌, arith, length-drop, chars, string_bytes, AllByRecursion, false≢true, length-take, encodes-chars, IsUtf8-string_bytes, Class, has, is_base, is_digit, within, pn_u, pn_char, Regex, Matches, nothing, empty, one, ◌·◌, ◌∣◌, many, Dialect, Lines, Turtle, IriRef, LabelNode, ShortString, LangTag, shape, Shape, label_name, IsLabel, IsTag, of_string, EscapeState, outside, slash, digits, Move, leads, means, fails, move, go, value, iri_value, string_value, inside, is_fit}
+use Rattle.rdf_terms.specs.Classes.{scalar}
 use Rattle.rdf_terms.specs.Buffers.{string_in}
 use Rattle.rdf_terms.proofs.CharsLemmas.{few_bytes}
 

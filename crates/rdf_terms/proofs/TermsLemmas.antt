@@ -1,11 +1,7 @@
 -- What a term's type keeps of its text can be used: that there is a proof gives one.
-use Rattle.std.proofs.Common.{ℕ, List}
+use Rattle.rdf_terms.proofs.Prelude.{ℕ, List, IsIri, IsLabel, IsTag, Regex, Matches, label_name, tag_name, Lines}
 use Rattle.std.proofs.Math.Logic.{∥∥₁_elim}
 use mathlib.Core.Bool.{Bool-set}
-use Rattle.rdf_terms.specs.Terms.{IsIri, IsLabel, IsTag}
-use Rattle.rdf_terms.specs.Regex.{Regex, Matches}
-use Rattle.rdf_terms.specs.Shapes.{label_name, tag_name}
-use Rattle.rdf_terms.specs.declared.kind.Dialect.TheVariants.{Lines}
 use Rattle.rdf_terms.proofs.ShapesLemmas.{form-matches, matches-form}
 
 -- that a text is an absolute IRI is one fact, so it may be used where it is only known to hold

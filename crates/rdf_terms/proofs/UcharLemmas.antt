@@ -1,18 +1,7 @@
 -- UCHARs in bytes: their digits, the number that these write, and what they mean in a string or an IRI.
-use Rattle.std.proofs.Common.{◌≡◌, ℕ, zero, suc, ◌+◌, ◌-◌, ◌*◌, ◌^◌, ◌<◌, ◌≤◌, ◌⊎◌, inl, inr, Bool, true, false, ◌==◌, nat_le, List, Option, Some, None, option_map, cond, refl, sym, ap, ◌∙◌, subst, get_or, take, drop, length, length-drop, arith, ⊎_elim}
-use Rattle.std.specs.Prelude.{slice_range}
-use Rattle.std.specs.Option.{IfSome, SomeIff}
+use Rattle.rdf_terms.proofs.Prelude.{◌≡◌, ℕ, zero, suc, ◌+◌, ◌-◌, ◌*◌, ◌^◌, ◌<◌, ◌≤◌, ◌⊎◌, inl, inr, Bool, true, false, ◌==◌, nat_le, List, Option, Some, None, option_map, cond, refl, sym, ap, ◌∙◌, subst, get_or, take, drop, length, length-drop, arith, ⊎_elim, slice_range, IfSome, SomeIff, IsUtf8, and_parts, and_from, cases_Bool, cases_lt, cond-true, cond-false, eqb-true, eq-eqb, leb-true, le-leb, false≢true, nat_tests, drop_more, length-take-le, has, hex_digit, hex_number, PassBetween, allowed_in, begins, may_mean, value_after, IsHexes, IsRead, IsUchar, IsUcharOf, Reads, UcharAt, Inside, of_string, of_iri, outside, slash, Move, leads, means, fails, allowed, digit_move, echar_move, hex_value, move}
 use Rattle.std.specs.Char.{IsScalar}
-use Rattle.std.specs.Str.{IsUtf8}
-use Rattle.std.proofs.lemmas.Bool.{and_parts, and_from, cases_Bool, cases_lt, cond-true, cond-false, eqb-true, eq-eqb, leb-true, le-leb, false≢true}
-use Rattle.std.proofs.lemmas.Bool.Decides.{nat_tests}
-use Rattle.std.proofs.lemmas.List.{drop_more, length-take-le}
-use Rattle.rdf_terms.specs.Classes.{has, scalar}
-use Rattle.rdf_terms.specs.Classes.Class.{hex_digit}
-use Rattle.rdf_terms.specs.Pieces.{hex_number}
-use Rattle.rdf_terms.specs.Runs.{PassBetween}
-use Rattle.rdf_terms.specs.Escapes.{allowed_in, begins, may_mean, value_after, IsHexes, IsRead, IsUchar, IsUcharOf, Reads, UcharAt}
-use Rattle.rdf_terms.specs.Values.{Inside, of_string, of_iri, outside, slash, Move, leads, means, fails, allowed, digit_move, echar_move, hex_value, move}
+use Rattle.rdf_terms.specs.Classes.{scalar}
 use Rattle.rdf_terms.proofs.EscapesLemmas.{no_digit, reads_letter, std_scalar, step_byte, step_digit, utf8_byte, utf8_digit}
 use Rattle.rdf_terms.proofs.PiecesLemmas.{from_none, so_far}
 

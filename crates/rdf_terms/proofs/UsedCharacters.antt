@@ -1,10 +1,5 @@
 -- The characters that can stand in the texts of an expression, and expressions without their empty parts.
-use Rattle.std.proofs.Common.{◌≡◌, ℕ, Bool, true, false, cond, List, [], ◌∷◌, ◌++◌, ◌||◌, inl, inr, sym, ap, ◌∙◌, subst, ⊎_elim}
-use Rattle.std.specs.List.{concat, AllByRecursion}
-use Rattle.std.proofs.lemmas.Bool.{or_left, or_right, false≢true, cond_both}
-use Rattle.rdf_terms.specs.Classes.{has}
-use Rattle.rdf_terms.specs.Regex.{Regex, Matches}
-use Rattle.rdf_terms.specs.Regex.Regex.{nothing, empty, one, ◌·◌, ◌∣◌, many}
+use Rattle.rdf_terms.proofs.Prelude.{◌≡◌, ℕ, Bool, true, false, cond, List, [], ◌∷◌, ◌++◌, ◌||◌, inl, inr, sym, ap, ◌∙◌, subst, ⊎_elim, concat, AllByRecursion, or_left, or_right, false≢true, cond_both, has, Regex, Matches, nothing, empty, one, ◌·◌, ◌∣◌, many}
 
 -- whether the character is in a class of the expression
 abbrev pub uses : Regex → ℕ → Bool

@@ -1,16 +1,6 @@
 -- Whether a string or an IRI has a value is told by its bytes: those of a character that is not of ASCII stand as they are, and so does it.
-use Rattle.std.proofs.Common.{◌≡◌, ℕ, zero, suc, ◌+◌, ◌*◌, ◌<◌, ◌≤◌, Bool, false, true, List, [], ◌∷◌, ◌++◌, Option, is_some, encode_utf8, refl, sym, ap, ◌∙◌, ⊎_elim, length, get_or, arith, IsUtf8}
-use Rattle.std.specs.Prelude.{encode_utf8_all, nat_lt}
-use Rattle.std.specs.Str.{chars}
-use Rattle.std.proofs.lemmas.Bool.{and_from, and_parts, cases_lt, cond-false, ltb-true}
-use Rattle.std.proofs.lemmas.Bool.Decides.{nat_tests}
-use Rattle.std.proofs.lemmas.Str.{encode_ascii, encodes-chars, length-encode, len_utf8_bounds, scalars-chars}
-use lib.Utf8.{encode, scalars}
-use Rattle.rdf_terms.specs.Classes.{has, member, scalar}
-use Rattle.rdf_terms.specs.Classes.Class.{hex_digit, iri_char}
-use Rattle.rdf_terms.specs.Escapes.{stands}
-use Rattle.rdf_terms.specs.Terms.{all_have}
-use Rattle.rdf_terms.specs.Values.{Inside, of_string, of_iri, EscapeState, outside, slash, digits, Move, leads, means, fails, digit_move, hex_value, move, go, value}
+use Rattle.rdf_terms.proofs.Prelude.{◌≡◌, ℕ, zero, suc, ◌+◌, ◌*◌, ◌<◌, ◌≤◌, Bool, false, true, List, [], ◌∷◌, ◌++◌, Option, is_some, encode_utf8, refl, sym, ap, ◌∙◌, ⊎_elim, length, get_or, arith, IsUtf8, encode_utf8_all, nat_lt, chars, and_from, and_parts, cases_lt, cond-false, ltb-true, nat_tests, encode_ascii, encodes-chars, length-encode, len_utf8_bounds, scalars-chars, encode, scalars, has, member, hex_digit, iri_char, stands, all_have, Inside, of_string, of_iri, EscapeState, outside, slash, digits, Move, leads, means, fails, digit_move, hex_value, move, go, value}
+use Rattle.rdf_terms.specs.Classes.{scalar}
 use Rattle.rdf_terms.proofs.EscapesLemmas.{value-cons, slash_high, hex_none, stands_means, value_stands, is_some-map}
 use Rattle.rdf_terms.proofs.IriBytes.{have-append, high_bytes, high_char, scalar_same}
 

@@ -1,12 +1,6 @@
 -- The value of a text in which every character stands for itself, and of a token's inside.
-use Rattle.std.proofs.Common.{◌≡◌, ℕ, zero, suc, ◌+◌, ◌*◌, true, List, [], ◌∷◌, ◌==◌, Option, Some, None, option_map, refl, subst}
-use Rattle.std.proofs.lemmas.Bool.{and_from, cond_both, false≢true}
-use Rattle.rdf_terms.specs.declared.kind.Kind.{Kind}
-use Rattle.rdf_terms.specs.declared.kind.Kind.TheVariants.{IriRef, ShortString, LongString}
-use Rattle.rdf_terms.specs.Classes.{has, scalar}
-use Rattle.rdf_terms.specs.Classes.Class.{iri_char, hex_digit}
-use Rattle.rdf_terms.specs.Terms.{all_have}
-use Rattle.rdf_terms.specs.Values.{of_iri, EscapeState, outside, slash, digits, Move, leads, means, fails, allowed, digit_move, hex_value, move, go, value, iri_value, is_fit}
+use Rattle.rdf_terms.proofs.Prelude.{◌≡◌, ℕ, zero, suc, ◌+◌, ◌*◌, true, List, [], ◌∷◌, ◌==◌, Option, Some, None, option_map, refl, subst, and_from, cond_both, false≢true, Kind, IriRef, ShortString, LongString, has, iri_char, hex_digit, all_have, of_iri, EscapeState, outside, slash, digits, Move, leads, means, fails, allowed, digit_move, hex_value, move, go, value, iri_value, is_fit}
+use Rattle.rdf_terms.specs.Classes.{scalar}
 
 -- no character of an IRI is a backslash
 pub backslash_excluded : (c : ℕ) → has iri_char c ≡ true → (c ≡ 92 → ⊥)

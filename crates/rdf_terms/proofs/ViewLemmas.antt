@@ -1,8 +1,6 @@
 -- A list of quads shows each quad by its view.
-use Rattle.std.proofs.Common.{◌≡◌, ℕ, ◌<◌, ◌≤◌, List, length, get_or, map, Some, None, refl, sym, ap, ◌∙◌}
-use Rattle.std.specs.List.{slice_get}
+use Rattle.rdf_terms.proofs.Prelude.{◌≡◌, ℕ, ◌<◌, ◌≤◌, List, length, get_or, map, Some, None, refl, sym, ap, ◌∙◌, slice_get, option_map}
 use Rattle.std.proofs.lemmas.Option.{slice_get-map, slice_get_read, slice_get_past}
-use Rattle.std.specs.Option.{option_map}
 
 module _ {X Y : Type 0} (view : X → Y) (items shown : List X) (seen : List Y) (i : ℕ) (same : shown ≡ items) (is : map view items ≡ seen) where
   -- what stands at a place of one list is what that of the other is seen as

@@ -1,16 +1,6 @@
 -- White space and comments are taken off a text in any pieces.
-use Rattle.std.proofs.Common.{◌≡◌, ℕ, suc, ◌+◌, ◌<◌, ◌≤◌, Bool, true, false, cond, List, [], ◌∷◌, ◌++◌, ◌==◌, refl, sym, ap, ◌∙◌, subst, length, get_or, take, drop, arith, Option, Some, None, IsUtf8, encode_utf8, length-append, ⊎_elim}
-use Rattle.std.specs.Prelude.{encode_utf8_all}
-use Rattle.std.specs.Str.{chars}
-use Rattle.std.proofs.lemmas.Bool.{cases_lt, true≢false}
-use Rattle.std.proofs.lemmas.Bool.Decides.{nat_tests}
-use Rattle.std.proofs.lemmas.List.{append-nil}
-use Rattle.std.proofs.lemmas.Str.{encode_ascii, inside_one, encodes-chars, length-encode, len_utf8_bounds}
-use Rattle.rdf_terms.specs.declared.kind.Dialect.{Dialect}
-use Rattle.rdf_terms.specs.declared.kind.Dialect.TheVariants.{Lines, Turtle}
-use Rattle.rdf_tokens.specs.Tokens.{Place, Tail, past, is_line_end, is_space, blank, is_empty, rest_of, place_of, tokens, step, go_on}
-use Rattle.rdf_tokens.specs.Blank.{comment_step, comment_after}
-use Rattle.rdf_tokens.specs.Front.{bytes_of}
+use Rattle.rdf_tokens.proofs.Prelude.{◌≡◌, ℕ, suc, ◌+◌, ◌<◌, ◌≤◌, Bool, true, false, cond, List, [], ◌∷◌, ◌++◌, ◌==◌, refl, sym, ap, ◌∙◌, subst, length, get_or, take, drop, arith, Option, Some, None, IsUtf8, encode_utf8, length-append, ⊎_elim, encode_utf8_all, chars, cases_lt, true≢false, nat_tests, append-nil, encode_ascii, inside_one, encodes-chars, length-encode, len_utf8_bounds, Dialect, Lines, Turtle, Place, Tail, past, is_line_end, is_space, blank, is_empty, rest_of, tokens, go_on, comment_step, comment_after, bytes_of}
+use Rattle.rdf_tokens.specs.Tokens.{place_of, step}
 use Rattle.rdf_tokens.proofs.TokensLemmas.{tokens-step, rest_more}
 
 -- both by the step of the first character

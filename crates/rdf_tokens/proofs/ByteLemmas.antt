@@ -1,16 +1,6 @@
 -- Where the characters of a text begin among its bytes.
-use Rattle.std.proofs.Common.{◌≡◌, ℕ, zero, suc, ◌+◌, ◌<◌, ◌≤◌, true, List, [], ◌∷◌, ◌++◌, ◌&&◌, refl, sym, ap, ◌∙◌, subst, length, take, drop, get_or, slice_index, arith, IsUtf8, encode_utf8, length-append}
-use Rattle.std.proofs.lemmas.List.{take_more, drop_more, length-drop, nil_from_length, take_at, drop_at, take-append-drop}
-use Rattle.std.proofs.lemmas.Str.{chars_past_char, IsUtf8-past_char, chars-nil, encodes-append, length-encode, encode_ascii, scalars-chars, encodes-chars, chars-encodes, IsCharBoundary-from_take}
-use Rattle.std.specs.Str.{chars, IsCharBoundary}
-use Rattle.std.specs.Char.{len_utf8}
-use Rattle.std.specs.Prelude.{encode_utf8_all}
-use Rattle.std.proofs.lemmas.Bool.{and_parts, and_from}
-use Rattle.std.proofs.lemmas.Bool.Decides.{nat_tests}
-use Rattle.std.proofs.Math.Utf8.{scalars}
+use Rattle.rdf_tokens.proofs.Prelude.{◌≡◌, ℕ, zero, suc, ◌+◌, ◌<◌, ◌≤◌, true, List, [], ◌∷◌, ◌++◌, ◌&&◌, refl, sym, ap, ◌∙◌, subst, length, take, drop, get_or, slice_index, arith, IsUtf8, encode_utf8, length-append, take_more, drop_more, length-drop, nil_from_length, take_at, drop_at, take-append-drop, chars_past_char, IsUtf8-past_char, chars-nil, encodes-append, length-encode, encode_ascii, scalars-chars, encodes-chars, chars-encodes, IsCharBoundary-from_take, chars, IsCharBoundary, len_utf8, encode_utf8_all, and_parts, and_from, nat_tests, scalars, run, IsChars, IsAt, bytes_of}
 use Rattle.rdf_terms.specs.Classes.{scalar}
-use Rattle.rdf_tokens.specs.Machines.{run, IsChars}
-use Rattle.rdf_tokens.specs.Front.{IsAt, bytes_of}
 
 -- the first character begins at the first byte
 pub at-start : (bs : List ℕ) → IsUtf8 bs → IsAt bs 0 0

@@ -1,13 +1,6 @@
 -- A text has as many characters as bytes that begin one.
-use Rattle.std.proofs.Common.{◌≡◌, ℕ, ◌+◌, List, [], ◌∷◌, length, take, encode_utf8, refl, sym, ap, ◌∙◌, arith, take-add}
-use Rattle.std.specs.Prelude.{count_by, cond, encode_utf8_all, nat_lt}
-use Rattle.std.specs.Str.{chars, IsUtf8}
+use Rattle.rdf_tokens.proofs.Prelude.{◌≡◌, ℕ, ◌+◌, List, [], ◌∷◌, length, take, encode_utf8, refl, sym, ap, ◌∙◌, arith, take-add, count_by, cond, encode_utf8_all, nat_lt, chars, IsUtf8, nat_tests, sum_by-append, sum_by-cons, encodes-chars, encode, is_start}
 use Rattle.std.specs.Simd.Lanes.{chunk}
-use Rattle.std.proofs.lemmas.Bool.Decides.{nat_tests}
-use Rattle.std.proofs.lemmas.List.Sums.{sum_by-append, sum_by-cons}
-use Rattle.std.proofs.lemmas.Str.{encodes-chars}
-use lib.Utf8.{encode}
-use Rattle.rdf_tokens.specs.Count.{is_start}
 
 -- a character has one of them
 one_start : (c : ℕ) → count_by is_start (encode_utf8 c) ≡ 1

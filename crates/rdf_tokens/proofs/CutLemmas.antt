@@ -1,15 +1,6 @@
 -- A text cut after some of its characters.
-use Rattle.std.proofs.Common.{◌≡◌, ℕ, zero, suc, ◌+◌, ◌<◌, ◌≤◌, Bool, true, false, cond, List, [], ◌∷◌, ◌++◌, ◌==◌, encode_utf8, refl, sym, ap, ◌∙◌, length, take, drop, arith, length-append, ◌&&◌}
-use Rattle.std.proofs.lemmas.Bool.{and_parts}
-use Rattle.std.proofs.lemmas.Bool.Decides.{nat_tests}
-use Rattle.std.proofs.lemmas.List.{append-nil, take-append-drop, take_at, drop_at}
-use Rattle.std.proofs.lemmas.Str.{chars-encodes, chars_past_char, length-encode, len_utf8_bounds, encodes-append, encodes-chars, scalars-chars}
-use Rattle.std.proofs.Math.Utf8.{encodes, scalars, scalar}
-use Rattle.std.specs.Str.{chars, IsUtf8}
-use Rattle.rdf_tokens.specs.Tokens.{is_empty}
-use Rattle.rdf_tokens.specs.Good.{mark}
-use Rattle.std.specs.Char.{len_utf8}
-use Rattle.rdf_tokens.specs.Front.{bytes_of}
+use Rattle.rdf_tokens.proofs.Prelude.{◌≡◌, ℕ, zero, suc, ◌+◌, ◌<◌, ◌≤◌, Bool, true, false, cond, List, [], ◌∷◌, ◌++◌, ◌==◌, encode_utf8, refl, sym, ap, ◌∙◌, length, take, drop, arith, length-append, ◌&&◌, and_parts, nat_tests, append-nil, take-append-drop, take_at, drop_at, chars-encodes, chars_past_char, length-encode, len_utf8_bounds, encodes-append, encodes-chars, scalars-chars, encodes, scalars, chars, IsUtf8, is_empty, mark, len_utf8, bytes_of}
+use Rattle.std.proofs.Math.Utf8.{scalar}
 
 -- so many bytes are so many characters
 pub record Cut (bs : List ℕ) (n len : ℕ) : Type 0 where

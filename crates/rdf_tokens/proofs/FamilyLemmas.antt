@@ -1,19 +1,6 @@
 -- A machine that moves as the derivatives do tells which shapes a text has, and which begin so.
-use Rattle.std.proofs.Common.{◌≡◌, ◌↔◌, ℕ, Bool, true, false, cond, List, [], ◌∷◌, ◌++◌, ◌&&◌, ◌||◌, ◌==◌, inl, inr, refl, sym, ap, ◌∙◌, subst, ⊎_elim, Option, Some, None, map, zero, suc, ◌⊎◌, append_assoc}
-use Rattle.std.specs.List.{AllByRecursion}
-use Rattle.std.proofs.lemmas.List.{append-nil}
-use Rattle.std.proofs.lemmas.Bool.{and_parts, or_cases, false≢true, eqb-true}
-use Rattle.rdf_terms.specs.declared.kind.Kind.{Kind}
-use Rattle.rdf_terms.specs.declared.kind.Dialect.{Dialect}
-use Rattle.rdf_terms.specs.declared.kind.Dialect.TheVariants.{Lines, Turtle}
-use Rattle.rdf_tokens.specs.declared.states.wide.Wide.{Wide}
-use Rattle.rdf_terms.specs.Classes.{Class, has, scalar}
-use Rattle.rdf_terms.specs.Classes.Class.{the, digit, hex_digit, letter, letter_or_digit, iri_char, local_escape, escape_letter, plain_double, plain_single, long_double, long_single, pn_base, pn_u, pn_char}
-use Rattle.rdf_terms.specs.Regex.{Regex, Matches, nullable, after, after_all, possible, longer}
-use Rattle.rdf_terms.specs.Regex.Regex.{nothing, empty, one, ◌·◌, ◌∣◌, many}
-use Rattle.rdf_tokens.specs.Sorts.{sort_by}
-use Rattle.rdf_tokens.specs.Machines.{run, IsChars}
-use Rattle.rdf_terms.specs.Shapes.{shape, any_shape, first_kind, hex}
+use Rattle.rdf_tokens.proofs.Prelude.{◌≡◌, ◌↔◌, ℕ, Bool, true, false, cond, List, [], ◌∷◌, ◌++◌, ◌&&◌, ◌||◌, ◌==◌, inl, inr, refl, sym, ap, ◌∙◌, subst, ⊎_elim, Option, Some, None, map, zero, suc, ◌⊎◌, append_assoc, AllByRecursion, append-nil, and_parts, or_cases, false≢true, eqb-true, Kind, Dialect, Lines, Turtle, Wide, Class, has, the, digit, hex_digit, letter, letter_or_digit, iri_char, local_escape, escape_letter, plain_double, plain_single, long_double, long_single, pn_base, pn_u, pn_char, Regex, Matches, nullable, after, after_all, possible, longer, nothing, empty, one, ◌·◌, ◌∣◌, many, sort_by, run, IsChars, shape, any_shape, first_kind, hex}
+use Rattle.rdf_terms.specs.Classes.{scalar}
 use Rattle.rdf_terms.proofs.RegexLemmas.{after-matches, matches-after, nullable-matches, matches-nullable, longer-matches, matches-longer}
 use Rattle.rdf_tokens.proofs.SortLemmas.{Alike, sorts_agree, all_alike}
 

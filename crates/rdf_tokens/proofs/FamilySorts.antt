@@ -1,6 +1,5 @@
 -- The table of families against their definition: a test of each byte.
-use Rattle.std.proofs.Common.{◌≡◌, ℕ, ◌<◌, true, List, [], ◌∷◌, ◌==◌, refl, sym, ap, ◌∙◌, get_or}
-use Rattle.std.proofs.lemmas.Bool.{agree_below_at, eqb-true}
+use Rattle.rdf_tokens.proofs.Prelude.{◌≡◌, ℕ, ◌<◌, true, List, [], ◌∷◌, ◌==◌, refl, sym, ap, ◌∙◌, get_or, agree_below_at, eqb-true}
 use Rattle.rdf_tokens.specs.declared.states.family.Family.{Family}
 use Rattle.rdf_tokens.specs.declared.states.family.Family.TheVariants as family
 use Rattle.rdf_tokens.specs.declared.states.family.TheConstants.{FAMILIES}

@@ -1,26 +1,14 @@
 -- Plain bytes and whole escapes of a string or an IRI have a meaning, whatever text comes after them.
-use Rattle.std.proofs.Common.{◌≡◌, ◌⊎◌, ℕ, ◌+◌, ◌-◌, ◌<◌, ◌≤◌, ◌==◌, Bool, true, false, not, List, [], ◌∷◌, ◌++◌, Option, Some, None, inl, inr, is_some, get_or, take, drop, refl, sym, ap, ◌∙◌, subst, arith, ⊎_elim, append_assoc, length, length-drop}
-use Rattle.std.specs.Prelude.{slice_range}
-use Rattle.std.proofs.lemmas.Bool.{agree_below_at, cases_Bool, cases_lt, eqb-true, false≢true}
-use Rattle.std.proofs.lemmas.Bool.Decides.{nat_tests}
-use Rattle.std.proofs.lemmas.List.{append-nil, get_or-drop, get_or-take, length-take-le}
+use Rattle.rdf_tokens.proofs.Prelude.{◌≡◌, ◌⊎◌, ℕ, ◌+◌, ◌-◌, ◌<◌, ◌≤◌, ◌==◌, Bool, true, false, not, List, [], ◌∷◌, ◌++◌, Option, Some, None, inl, inr, is_some, get_or, take, drop, refl, sym, ap, ◌∙◌, subst, arith, ⊎_elim, append_assoc, length, length-drop, slice_range, agree_below_at, cases_Bool, cases_lt, eqb-true, false≢true, nat_tests, append-nil, get_or-drop, get_or-take, length-take-le, take-append-add, has, hex_digit, iri_char, Run, IsRun, PassBetween, goes_over, iri_byte, is_unescaped, of_string, of_iri, outside, slash, Move, means, letter_move, go, value, string_value, high_byte_stands, Quote, Single, long_run, short_run, IsEchar, IsEscapeThen, IsIriUchar, FitsIn, FitsInString, FitsInIri}
 use Rattle.std.proofs.lemmas.List.Folds.{drop_split}
-use Rattle.std.proofs.Math.Seq.{take-append-add}
-use Rattle.rdf_terms.specs.Classes.{has}
-use Rattle.rdf_terms.specs.Classes.Class.{hex_digit, iri_char}
 use Rattle.rdf_terms.specs.Escapes.{completes, stands, IsUchar, IsUcharOf}
 use Rattle.rdf_terms.specs.Pieces.{IsNumberEscape, MayMean, hex_number}
-use Rattle.rdf_terms.specs.declared.runs.Run.{Run}
-use Rattle.rdf_terms.specs.Runs.{IsRun, PassBetween, goes_over, iri_byte, is_unescaped}
 use Rattle.rdf_terms.specs.Terms.{all_have}
-use Rattle.rdf_terms.specs.Values.{Inside, of_string, of_iri, outside, slash, Move, means, letter_move, move, go, value, string_value}
+use Rattle.rdf_terms.specs.Values.{Inside, move}
 use Rattle.rdf_terms.proofs.EscapesLemmas.{is_some-map, slice_passes, value_stands}
 use Rattle.rdf_terms.proofs.PiecesLemmas.{number_escape-takes}
-use Rattle.rdf_terms.proofs.ValueBytes.{high_byte_stands}
-use Rattle.rdf_tokens.specs.declared.states.text.Quote.{Quote}
-use Rattle.rdf_tokens.specs.declared.states.text.Quote.TheVariants.{Double, Single}
-use Rattle.rdf_tokens.specs.Quick.{long_run, short_run}
-use Rattle.rdf_tokens.specs.Escapes.{is_letter, IsEchar, IsEscapeThen, IsIriUchar, FitsIn, FitsInString, FitsInIri}
+use Rattle.rdf_tokens.specs.declared.states.text.Quote.TheVariants.{Double}
+use Rattle.rdf_tokens.specs.Escapes.{is_letter}
 use Rattle.rdf_tokens.proofs.RestEscapes.{letter_below, implied}
 
 -- the bytes between two places, cut at one between them

@@ -1,17 +1,7 @@
 -- The table of spellings against the shapes.
-use Rattle.std.proofs.Common.{◌≡◌, ℕ, Bool, true, false, cond, List, [], ◌∷◌, ◌++◌, ◌&&◌, ◌||◌, ◌==◌, ◌+◌, refl, sym, ap, ◌∙◌, subst, Option, Some, None}
-use Rattle.std.specs.List.{AllByRecursion}
-use Rattle.std.proofs.lemmas.Bool.{and_parts, and_from, or_left, eq-eqb}
-use Rattle.rdf_terms.specs.declared.kind.Kind.{Kind}
-use Rattle.rdf_terms.specs.declared.kind.Dialect.{Dialect}
-use Rattle.rdf_terms.specs.declared.kind.Dialect.TheVariants.{Lines, Turtle}
-use Rattle.rdf_terms.specs.Classes.{has, scalar}
-use Rattle.rdf_terms.specs.Classes.Class.{the}
-use Rattle.rdf_terms.specs.Regex.{Regex, nullable, after, after_all, possible, longer}
-use Rattle.rdf_terms.specs.Regex.Regex.{nothing, empty, ◌∣◌}
-use Rattle.rdf_terms.specs.Shapes.{shape, any_shape, first_kind, word, any_case, fixed}
-use Rattle.rdf_tokens.specs.Fixed.{Row, spellings, rows_of, fits, left, is_done, is_begun, kind_by, live_by, kind_by_table, live_by_table}
-use Rattle.rdf_tokens.specs.Machines.{IsChars}
+use Rattle.rdf_tokens.proofs.Prelude.{◌≡◌, ℕ, Bool, true, false, cond, List, [], ◌∷◌, ◌++◌, ◌&&◌, ◌||◌, ◌==◌, ◌+◌, refl, sym, ap, ◌∙◌, subst, Option, Some, None, AllByRecursion, and_parts, and_from, or_left, eq-eqb, Kind, Dialect, Lines, Turtle, has, the, Regex, nullable, after, after_all, possible, longer, nothing, empty, ◌∣◌, shape, any_shape, first_kind, word, any_case, fixed, Row, spellings, rows_of, fits, is_done, is_begun, kind_by, live_by, kind_by_table, live_by_table, IsChars}
+use Rattle.rdf_terms.specs.Classes.{scalar}
+use Rattle.rdf_tokens.specs.Fixed.{left}
 use Rattle.rdf_tokens.proofs.FamilyLemmas.{next, seq, alt, all_next, Same, same, same_nullable, same_longer, after_or, after_nothing}
 
 -- the expression of a spelling, as it stands or in any case

@@ -1,17 +1,8 @@
 -- Only line ends and long strings have line feeds.
-use Rattle.std.proofs.Common.{◌≡◌, ℕ, ◌+◌, Bool, true, false, cond, List, [], ◌∷◌, ◌==◌, refl, sym, ap, ◌∙◌, take, arith, ⊎_elim}
-use Rattle.std.specs.List.{count_by, AllByRecursion}
-use Rattle.std.proofs.lemmas.Bool.{cases_Bool, eqb-true, false≢true}
-use Rattle.rdf_terms.specs.declared.kind.Dialect.{Dialect}
-use Rattle.rdf_terms.specs.declared.kind.Dialect.TheVariants.{Lines, Turtle}
-use Rattle.rdf_terms.specs.declared.kind.Kind.{Kind}
-use Rattle.rdf_terms.specs.declared.kind.Kind.TheVariants.{IriRef, LabelNode, ShortString, LongString, LangTag, Carets, Dot, LineEnd, End}
-use Rattle.rdf_terms.specs.Classes.{has}
-use Rattle.rdf_terms.specs.Regex.{Matches}
-use Rattle.rdf_terms.specs.Shapes.{Shape, shape}
+use Rattle.rdf_tokens.proofs.Prelude.{◌≡◌, ℕ, ◌+◌, Bool, true, false, cond, List, [], ◌∷◌, ◌==◌, refl, sym, ap, ◌∙◌, take, arith, ⊎_elim, count_by, AllByRecursion, cases_Bool, eqb-true, false≢true, Dialect, Lines, Turtle, Kind, IriRef, LabelNode, ShortString, LongString, LangTag, Carets, LineEnd, End, has, Matches, Shape, shape, is_flat, Tail}
+use Rattle.rdf_terms.specs.declared.kind.Kind.TheVariants.{Dot}
 use Rattle.rdf_terms.proofs.UsedCharacters.{uses, all_used}
-use Rattle.rdf_tokens.specs.Moves.{is_flat}
-use Rattle.rdf_tokens.specs.Tokens.{Tail, step}
+use Rattle.rdf_tokens.specs.Tokens.{step}
 use Rattle.rdf_tokens.specs.Tokens.Step.{token}
 use Rattle.rdf_tokens.proofs.PlaceLemmas.{feeds-append}
 use Rattle.rdf_tokens.proofs.StepLemmas.{step-token}

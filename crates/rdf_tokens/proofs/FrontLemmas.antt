@@ -1,13 +1,5 @@
 -- The longest front by two tests is the longer of both fronts, in characters and in bytes.
-use Rattle.std.proofs.Common.{◌≡◌, ℕ, zero, suc, ◌<◌, ◌≤◌, Bool, true, false, cond, nat_lt, List, [], ◌∷◌, refl, sym, ap, ◌∙◌, length, length-append, take, arith, Option, Some, None, encode_utf8, lt-ltb, ⊎_elim}
-use Rattle.std.specs.Prelude.{encode_utf8_all}
-use Rattle.std.proofs.lemmas.Bool.{le-ltb, cases_lt}
-use Rattle.std.proofs.lemmas.Str.{len_utf8_bounds, length-encode}
-use Rattle.rdf_terms.specs.declared.kind.Kind.{Kind}
-use Rattle.rdf_terms.specs.declared.kind.Dialect.{Dialect}
-use Rattle.rdf_terms.specs.Shapes.{kind_of, or_else}
-use Rattle.rdf_tokens.specs.Tokens.{longest, with_length, three_quotes, only_long}
-use Rattle.rdf_tokens.specs.Front.{bytes_of, in_bytes, longest_by, longer_front}
+use Rattle.rdf_tokens.proofs.Prelude.{◌≡◌, ℕ, zero, suc, ◌<◌, ◌≤◌, Bool, true, false, cond, nat_lt, List, [], ◌∷◌, refl, sym, ap, ◌∙◌, length, length-append, take, arith, Option, Some, None, encode_utf8, lt-ltb, ⊎_elim, encode_utf8_all, le-ltb, cases_lt, len_utf8_bounds, length-encode, Kind, Dialect, kind_of, or_else, longest, with_length, three_quotes, only_long, bytes_of, in_bytes, longest_by, longer_front}
 
 -- the longest token is a longest front
 pub longest-by : (d : Dialect) (w : List ℕ) (n : ℕ) → longest d w n ≡ longest_by (λ u. only_long (three_quotes d w) (kind_of d u)) w n

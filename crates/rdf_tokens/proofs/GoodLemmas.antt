@@ -1,14 +1,6 @@
 -- The good text only grows.
-use Rattle.std.proofs.Common.{◌≡◌, ℕ, zero, suc, ◌+◌, ◌-◌, ◌/◌, ◌%◌, ◌<◌, ◌≤◌, true, false, List, [], ◌∷◌, ◌++◌, ◌⊎◌, inl, inr, refl, sym, ap, ◌∙◌, subst, ⊎_elim, append_assoc, Option, None, length, take, drop, arith, is_some, length-append, length-drop}
-use Rattle.std.proofs.lemmas.Bool.{cases_Bool, cond-true, cond-false, cases_lt, and_parts}
-use Rattle.std.proofs.lemmas.Bool.Decides.{nat_tests}
-use Rattle.std.proofs.lemmas.List.{take-append-le, take-append-drop, length-take-le, take-take, drop-append-le, drop-take, take_at, nil_from_length}
-use Rattle.std.proofs.lemmas.Str.{is_utf8-from_IsUtf8, IsUtf8-from_is_utf8, utf8_valid_len_le, chars-append, IsUtf8-drop, IsCharBoundary-from_take, IsUtf8-append, IsUtf8-encode, len_utf8_bounds, length-encode}
-use Rattle.std.specs.Str.{chars, IsUtf8, is_utf8}
-use Rattle.std.specs.Str.Lossy.{utf8_valid_len, utf8_error_len, valid_len_up_to}
-use Rattle.std.proofs.Math.Utf8.{encode, encodes, scalars, scalar, scalar_cases}
-use Rattle.std.proofs.lemmas.Bool.{lt-ltb, le-ltb}
-use Rattle.rdf_tokens.specs.Good.{good}
+use Rattle.rdf_tokens.proofs.Prelude.{◌≡◌, ℕ, zero, suc, ◌+◌, ◌-◌, ◌/◌, ◌%◌, ◌<◌, ◌≤◌, true, false, List, [], ◌∷◌, ◌++◌, ◌⊎◌, inl, inr, refl, sym, ap, ◌∙◌, subst, ⊎_elim, append_assoc, Option, None, length, take, drop, arith, is_some, length-append, length-drop, cases_Bool, cond-true, cond-false, cases_lt, and_parts, nat_tests, take-append-le, take-append-drop, length-take-le, take-take, drop-append-le, drop-take, take_at, nil_from_length, is_utf8-from_IsUtf8, IsUtf8-from_is_utf8, utf8_valid_len_le, chars-append, IsUtf8-drop, IsCharBoundary-from_take, IsUtf8-append, IsUtf8-encode, len_utf8_bounds, length-encode, chars, IsUtf8, is_utf8, utf8_valid_len, utf8_error_len, valid_len_up_to, encode, encodes, scalars, scalar_cases, lt-ltb, le-ltb, good}
+use Rattle.std.proofs.Math.Utf8.{scalar}
 
 -- the greatest length is at least that of any front
 pub at_least : (bs : List ℕ) (n m : ℕ) → m ≤ n → IsUtf8 (take m bs) → m ≤ valid_len_up_to bs n

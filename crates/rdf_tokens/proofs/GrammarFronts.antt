@@ -1,10 +1,6 @@
 -- The front of some tokens: it ends before the first that no document has there or that passes a limit.
-use Rattle.std.proofs.Common.{◌≡◌, ◌+◌, ◌-◌, ◌<◌, ◌≤◌, List, [], ◌∷◌, ◌++◌, length, take, sym, ap, ◌∙◌, subst, ⊎_elim, append_assoc, arith, length-append}
-use Rattle.std.proofs.lemmas.Bool.{cases_lt}
-use Rattle.std.proofs.lemmas.List.{append-nil}
-use Rattle.std.proofs.Math.Seq.{take-append-add, take-append_seam}
-use Rattle.rdf_tokens.specs.Tokens.{Token}
-use Rattle.rdf_tokens.specs.Grammars.{MarkedItem, Viable, PassesNone, IsFront}
+use Rattle.rdf_tokens.proofs.Prelude.{◌≡◌, ◌+◌, ◌-◌, ◌<◌, ◌≤◌, List, [], ◌∷◌, ◌++◌, length, take, sym, ap, ◌∙◌, subst, ⊎_elim, append_assoc, arith, length-append, cases_lt, append-nil, take-append-add, take-append_seam, Token, MarkedItem, Viable, PassesNone}
+use Rattle.rdf_tokens.specs.Grammars.{IsFront}
 
 -- of two beginnings of a list the longer begins with the other
 longer_begins : (all us after longer rest : List Token) → all ≡ us ++ after → all ≡ longer ++ rest → length us ≤ length longer →

@@ -1,24 +1,9 @@
 -- How many tokens there are: no more than characters, the end apart.
-use Rattle.std.proofs.Common.{◌≡◌, ◌≢◌, ℕ, ◌+◌, ◌≤◌, Bool, true, false, cond, List, [], ◌∷◌, ◌++◌, ◌||◌, ◌==◌, Option, Some, None, is_some, ⊎_elim, refl, sym, ap, ◌∙◌, subst, length, take, drop, arith, length-drop, length-append}
-use Rattle.std.proofs.lemmas.Bool.{cases_Bool, cond-true, cond-false, cond_both}
-use Rattle.std.proofs.lemmas.List.{append-nil, length-take-le}
-use Rattle.std.proofs.lemmas.Str.{chars-nil, length-le-encodes, encodes-chars, utf8_valid_len_le}
-use Rattle.std.specs.Str.Lossy.{utf8_valid_len, utf8_error_len}
-use Rattle.std.specs.List.{All}
-use Rattle.std.proofs.lemmas.List.Elements.{All-head, All-tail}
-use Rattle.rdf_tokens.specs.Laws.{NoEnd}
-use Rattle.rdf_terms.specs.declared.kind.Dialect.{Dialect}
-use Rattle.rdf_terms.specs.declared.kind.Kind.{Kind}
-use Rattle.rdf_terms.specs.declared.kind.Kind.TheVariants.{End}
-use Rattle.rdf_terms.specs.Shapes.{is_live}
-use Rattle.rdf_terms.specs.Values.{is_fit}
-use Rattle.rdf_tokens.specs.Tokens.{Tail, Place, Outcome, Token, Reading, token, stop, blank, longest, over, is_empty, chosen, decided, by_tail, step, with_token, with_tokens, rest_of, place_of, past, tokens, end_tokens}
-use Rattle.rdf_tokens.specs.Tokens.Tail.{goes_on, ended, broken}
-use Rattle.rdf_tokens.specs.Tokens.Outcome.{undecided, complete, token_too_long, bad_utf8, no_token, bad_escape}
-use Rattle.rdf_tokens.specs.Good.{good, mark, first_place, tokens_at, tokens_of, tail_of}
-use Rattle.rdf_tokens.specs.Unread.{Unread}
-use Rattle.rdf_tokens.specs.Scans.{is_end, HasScanned, Reads, reading_of}
-use Rattle.rdf_tokens.specs.Grammars.{MarkedItem, Rises, counted}
+use Rattle.rdf_tokens.proofs.Prelude.{◌≡◌, ◌≢◌, ℕ, ◌+◌, ◌≤◌, Bool, true, false, cond, List, [], ◌∷◌, ◌++◌, ◌||◌, ◌==◌, Option, Some, None, is_some, ⊎_elim, refl, sym, ap, ◌∙◌, subst, length, take, drop, arith, length-drop, length-append, cases_Bool, cond-true, cond-false, cond_both, append-nil, length-take-le, chars-nil, length-le-encodes, encodes-chars, utf8_valid_len_le, utf8_valid_len, utf8_error_len, All, All-head, All-tail, NoEnd, Dialect, Kind, End, is_live, is_fit, Tail, Place, Outcome, Token, Reading, blank, longest, over, is_empty, chosen, decided, by_tail, with_token, with_tokens, rest_of, past, tokens, end_tokens, ended, broken, undecided, complete, token_too_long, bad_utf8, no_token, bad_escape, good, mark, first_place, tokens_at, tokens_of, tail_of, Unread, is_end, HasScanned, Reads, MarkedItem, Rises}
+use Rattle.rdf_tokens.specs.Tokens.{token, stop, step, place_of}
+use Rattle.rdf_tokens.specs.Tokens.Tail.{goes_on}
+use Rattle.rdf_tokens.specs.Scans.{reading_of}
+use Rattle.rdf_tokens.specs.Grammars.{counted}
 use Rattle.rdf_tokens.proofs.GoodLemmas.{good_front}
 use Rattle.rdf_tokens.proofs.TokensLemmas.{step_token}
 use Rattle.rdf_tokens.proofs.LawLemmas.{by_steps, tokens_of-tokens, end_last, nothing_yet}

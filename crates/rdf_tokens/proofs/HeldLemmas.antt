@@ -1,20 +1,5 @@
 -- What holds of a scanner's fields where a piece comes.
-use Rattle.std.proofs.Common.{take, ◌≡◌, ℕ, ◌+◌, ◌-◌, ◌≤◌, Bool, true, false, cond, List, [], ◌++◌, ◌==◌, refl, sym, ap, ◌∙◌, subst, Option, Some, None, is_some, length, drop, arith, length-append, length-drop}
-use Rattle.std.proofs.lemmas.Bool.{cond-true, cond-false}
-use Rattle.std.proofs.lemmas.List.{take-append-drop, length-take-le, drop-drop}
-use Rattle.std.proofs.lemmas.List.Sums.{count_by-le-length}
-use Rattle.std.specs.Prelude.{encode_utf8_all}
-use Rattle.std.proofs.lemmas.Str.{encodes-chars, IsCharBoundary-start, IsUtf8-drop, IsCharBoundary-from_drop, chars-append, utf8_valid_len_le}
-use Rattle.std.specs.List.{count_by}
-use Rattle.std.specs.Str.{chars, IsUtf8, IsCharBoundary}
-use Rattle.std.specs.Str.Lossy.{utf8_valid_len, utf8_error_len}
-use Rattle.rdf_tokens.specs.Front.{bytes_of}
-use Rattle.rdf_terms.specs.declared.kind.Dialect.{Dialect}
-use Rattle.rdf_tokens.specs.Tokens.{Place, past, blank}
-use Rattle.rdf_tokens.specs.Good.{good}
-use Rattle.rdf_tokens.specs.Moves.{BeginsChar, beyond, good_bytes, rest_of_bytes, is_broken}
-use Rattle.rdf_tokens.specs.Held.{Held, all_bytes}
-use Rattle.rdf_tokens.specs.Scans.{most_bytes}
+use Rattle.rdf_tokens.proofs.Prelude.{take, ◌≡◌, ℕ, ◌+◌, ◌-◌, ◌≤◌, Bool, true, false, cond, List, [], ◌++◌, ◌==◌, refl, sym, ap, ◌∙◌, subst, Option, Some, None, is_some, length, drop, arith, length-append, length-drop, cond-true, cond-false, take-append-drop, length-take-le, drop-drop, count_by-le-length, encode_utf8_all, encodes-chars, IsCharBoundary-start, IsUtf8-drop, IsCharBoundary-from_drop, chars-append, utf8_valid_len_le, count_by, chars, IsUtf8, IsCharBoundary, utf8_valid_len, utf8_error_len, bytes_of, Dialect, Place, past, blank, good, BeginsChar, beyond, good_bytes, rest_of_bytes, is_broken, Held, all_bytes, most_bytes}
 use Rattle.rdf_tokens.proofs.GoodLemmas.{good_front}
 use Rattle.rdf_tokens.proofs.BlankLemmas.{blank-bytes}
 use Rattle.rdf_tokens.proofs.CutLemmas.{Cut, cut}

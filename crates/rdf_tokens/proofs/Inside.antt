@@ -1,10 +1,5 @@
 -- A scanner's fields, as its callers see them.
-use Rattle.std.proofs.Common.{drop}
-use Rattle.std.specs.Str.{chars}
-use Rattle.std.specs.String.{string_bytes}
-use Rattle.rdf_tokens.specs.Held.{all_bytes}
-use Rattle.rdf_tokens.specs.Tokens.{Place}
-use Rattle.rdf_tokens.specs.Unread.{Unread}
+use Rattle.rdf_tokens.proofs.Prelude.{drop, chars, string_bytes, all_bytes, Place, Unread}
 use Rattle.rdf_tokens.specs.declared.scanner.Scanner.TheInside.{Inside}
 
 module _ {Z : Type 0} where

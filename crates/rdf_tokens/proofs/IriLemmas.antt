@@ -1,12 +1,5 @@
 -- The states of references against their shape.
-use Rattle.std.proofs.Common.{◌≡◌, ℕ, zero, suc, true, cond, List, [], ◌∷◌, refl, inl, Some, None, map}
-use Rattle.rdf_terms.specs.declared.kind.Kind.TheVariants.{IriRef}
-use Rattle.rdf_terms.specs.declared.kind.Dialect.{Dialect}
-use Rattle.rdf_terms.specs.Classes.{Class, has}
-use Rattle.rdf_terms.specs.Classes.Class.{the, hex_digit, iri_char}
-use Rattle.rdf_terms.specs.Regex.{Regex}
-use Rattle.rdf_terms.specs.Regex.Regex.{nothing, empty, one, ◌·◌, ◌∣◌, many}
-use Rattle.rdf_terms.specs.Shapes.{shape, uchar}
+use Rattle.rdf_tokens.proofs.Prelude.{◌≡◌, ℕ, zero, suc, true, cond, List, [], ◌∷◌, refl, inl, Some, None, map, IriRef, Dialect, Class, has, the, hex_digit, iri_char, Regex, nothing, empty, one, ◌·◌, ◌∣◌, many, shape, uchar}
 use Rattle.rdf_tokens.specs.declared.states.iri.Sort.{Sort}
 use Rattle.rdf_tokens.specs.declared.states.iri.Sort.TheVariants.{OpenAngle, CloseAngle, Backslash, SmallU, BigU, HexDigit, Plain, Excluded}
 use Rattle.rdf_tokens.specs.declared.states.iri.Iri.{Iri}

@@ -1,13 +1,5 @@
 -- The states of labels against their shape.
-use Rattle.std.proofs.Common.{◌≡◌, ℕ, true, cond, List, [], ◌∷◌, refl, inl, Some, None, map}
-use Rattle.rdf_terms.specs.declared.kind.Kind.TheVariants.{LabelNode}
-use Rattle.rdf_terms.specs.declared.kind.Dialect.{Dialect}
-use Rattle.rdf_terms.specs.declared.kind.Dialect.TheVariants.{Lines, Turtle}
-use Rattle.rdf_terms.specs.Classes.{Class, has}
-use Rattle.rdf_terms.specs.Classes.Class.{the, digit, pn_u, pn_char}
-use Rattle.rdf_terms.specs.Regex.{Regex}
-use Rattle.rdf_terms.specs.Regex.Regex.{nothing, empty, one, ◌·◌, ◌∣◌, many}
-use Rattle.rdf_terms.specs.Shapes.{shape, dot}
+use Rattle.rdf_tokens.proofs.Prelude.{◌≡◌, ℕ, true, cond, List, [], ◌∷◌, refl, inl, Some, None, map, LabelNode, Dialect, Lines, Turtle, Class, has, the, digit, pn_u, pn_char, Regex, nothing, empty, one, ◌·◌, ◌∣◌, many, shape, dot}
 use Rattle.rdf_tokens.specs.declared.states.label.Sort.{Sort}
 use Rattle.rdf_tokens.specs.declared.states.label.Sort.TheVariants as sort
 use Rattle.rdf_tokens.specs.declared.states.label.Label.{Label}

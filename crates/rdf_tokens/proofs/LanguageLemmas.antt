@@ -1,11 +1,6 @@
 -- What is refused stays refused when more bytes come, and is no document within the limits; a document within them is read to its end.
-use Rattle.std.proofs.Common.{◌≡◌, ◌≢◌, ℕ, Bool, true, false, List, [], ◌∷◌, ◌++◌, ◌⊎◌, inr, refl, sym, ap, ◌∙◌, subst, ⊎_elim, append_assoc}
-use Rattle.std.proofs.lemmas.List.{append-nil}
-use Rattle.rdf_terms.specs.declared.reason.Reason.{Reason}
-use Rattle.rdf_terms.specs.declared.reason.Reason.TheVariants.{BadUtf8, NoToken, BadEscape, TokenTooLong, DocumentTooLong, Memory, Ended, Sink}
-use Rattle.rdf_tokens.specs.Tokens.{Place, Outcome, Token, Reading}
-use Rattle.rdf_tokens.specs.Tokens.Outcome.{undecided, complete, token_too_long, bad_utf8, no_token, bad_escape}
-use Rattle.rdf_tokens.specs.Grammars.{Viable, PassesNone, LanguageOf, reading_of, IsDocumentOf, IsWithin, InFront, GoesOn, IsWhole, StopsAt, RefusesAt, RefusedIn, Refused, BeginsDue, IsReadToItsEnd}
+use Rattle.rdf_tokens.proofs.Prelude.{◌≡◌, ◌≢◌, ℕ, Bool, true, false, List, [], ◌∷◌, ◌++◌, ◌⊎◌, inr, refl, sym, ap, ◌∙◌, subst, ⊎_elim, append_assoc, append-nil, Reason, BadUtf8, NoToken, BadEscape, TokenTooLong, DocumentTooLong, Memory, Ended, Sink, Place, Outcome, Token, Reading, undecided, complete, token_too_long, bad_utf8, no_token, bad_escape, Viable, PassesNone, LanguageOf, IsDocumentOf, InFront, GoesOn, IsWhole, StopsAt, RefusesAt, RefusedIn, Refused, BeginsDue, IsReadToItsEnd}
+use Rattle.rdf_tokens.specs.Grammars.{reading_of, IsWithin}
 use Rattle.rdf_tokens.proofs.LawLemmas.{lengthens}
 use Rattle.rdf_tokens.proofs.GrammarsLemmas.{only_ended}
 use Rattle.rdf_tokens.proofs.GrammarFronts.{viable_front, none_front, front_whole, front_before, not_whole}

@@ -1,22 +1,8 @@
 -- The laws at the text `1 .`, an integer and a dot.
-use Rattle.std.proofs.Common.{Err, ◌≡◌, true, false, List, [], ◌∷◌, ◌++◌, ◌≤◌, length, refl, sym, ap, ◌∙◌, subst}
-use Rattle.std.specs.List.{All}
-use Rattle.std.proofs.lemmas.List.Elements.{All-head, All-tail}
-use Rattle.std.proofs.Math.Utf8.{encode}
-use Rattle.std.specs.Str.{chars, is_utf8}
-use Rattle.std.specs.Str.Lossy.{utf8_valid_len, utf8_error_len}
-use Rattle.rdf_terms.specs.declared.kind.Dialect.TheVariants.{Turtle}
-use Rattle.rdf_terms.specs.declared.kind.Kind.TheVariants.{Integer, Dot, End}
-use Rattle.rdf_terms.specs.declared.reason.Reason.TheVariants.{Ended}
-use Rattle.rdf_terms.specs.Classes.{has}
-use Rattle.rdf_terms.specs.Shapes.{shape, kind_of, is_live}
-use Rattle.rdf_terms.specs.Values.{is_fit}
-use Rattle.rdf_tokens.specs.Tokens.{Token, step, read, tokens}
-use Rattle.rdf_tokens.specs.Tokens.Outcome.{undecided, complete, no_token, bad_utf8}
-use Rattle.rdf_tokens.specs.Good.{end_of, tokens_of}
-use Rattle.rdf_tokens.specs.Unread.{Unread}
-use Rattle.rdf_tokens.specs.Scans.{HasScanned, IsToken}
-use Rattle.rdf_tokens.specs.Laws.{IsBeginning, IsNext, StandsIn, text_at, IsLongest, HasNoFront, IsLongestIn, EndsFor}
+use Rattle.rdf_tokens.proofs.Prelude.{Err, ◌≡◌, true, false, List, [], ◌∷◌, ◌++◌, ◌≤◌, length, refl, sym, ap, ◌∙◌, subst, All, All-head, All-tail, encode, chars, is_utf8, utf8_valid_len, utf8_error_len, Turtle, Integer, End, Ended, has, shape, kind_of, is_live, is_fit, Token, read, tokens, undecided, complete, no_token, bad_utf8, end_of, tokens_of, Unread, HasScanned, IsBeginning, IsNext, StandsIn, text_at, IsLongest, HasNoFront, IsLongestIn, EndsFor}
+use Rattle.rdf_terms.specs.declared.kind.Kind.TheVariants.{Dot}
+use Rattle.rdf_tokens.specs.Tokens.{step}
+use Rattle.rdf_tokens.specs.Scans.{IsToken}
 use Rattle.rdf_tokens.proofs.ReadLemmas.{unread}
 use Rattle.rdf_tokens.proofs.LawLemmas.{lengthens, given_beginning, next_given, places, have_shapes, end_last}
 use Rattle.rdf_tokens.proofs.LimitLemmas.{no_longer}

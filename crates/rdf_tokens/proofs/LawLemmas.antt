@@ -1,27 +1,10 @@
 -- The laws of token lists.
-use Rattle.std.proofs.Common.{Some, None, Ok, Err, ◌≡◌, ◌≢◌, ℕ, zero, suc, ◌+◌, ◌<◌, ◌≤◌, Bool, true, false, cond, List, [], ◌∷◌, ◌++◌, ◌==◌, count_by, inl, inr, refl, sym, ap, ◌∙◌, subst, append_assoc, is_some, length, take, drop, arith, length-append}
-use Rattle.std.proofs.lemmas.List.{append-nil, take_all, take_at, drop_at, take-append-drop, take-append-le, drop-append-le}
-use Rattle.std.proofs.lemmas.List.Elements.{All-nil, All-cons}
-use Rattle.std.specs.List.{All}
-use Rattle.rdf_terms.specs.declared.kind.Dialect.{Dialect}
-use Rattle.rdf_terms.specs.declared.kind.Kind.{Kind}
-use Rattle.rdf_terms.specs.declared.kind.Kind.TheVariants.{End}
-use Rattle.rdf_tokens.specs.Tokens.{Place, past, Tail, Outcome, Token, Reading, Step, blank, rest_of, place_of, step, tokens, with_token, end_tokens, stop_place}
-use Rattle.rdf_tokens.specs.Tokens.Tail.{goes_on, broken}
+use Rattle.rdf_tokens.proofs.Prelude.{Some, None, Ok, Err, ◌≡◌, ◌≢◌, ℕ, zero, suc, ◌+◌, ◌<◌, ◌≤◌, Bool, true, false, cond, List, [], ◌∷◌, ◌++◌, ◌==◌, count_by, inl, inr, refl, sym, ap, ◌∙◌, subst, append_assoc, is_some, length, take, drop, arith, length-append, append-nil, take_all, take_at, drop_at, take-append-drop, take-append-le, drop-append-le, All-nil, All-cons, All, Dialect, Kind, End, Place, past, Tail, Outcome, Token, Reading, Step, blank, rest_of, tokens, with_token, end_tokens, stop_place, broken, undecided, complete, token_too_long, bad_utf8, no_token, bad_escape, first_place, good, mark, tail_of, end_of, tokens_at, tokens_of, Reason, BadUtf8, NoToken, BadEscape, TokenTooLong, Ended, Unread, Reads, HasScanned, Stops, StopsFor, token_of, IsBeginning, MoreBytesOnlyLengthen, GivenTokensAreABeginning, IsStop, NextTokenIsGiven, IsPlaceIn, StandsIn, TokensStandAtTheirPlaces, TokensHaveShapes, NoEnd, EndsWell, EndStandsLast, is_broken, cond-false, encodes-append, encodes-chars, encodes, utf8_valid_len, utf8_error_len}
+use Rattle.rdf_tokens.specs.Tokens.{place_of, step}
+use Rattle.rdf_tokens.specs.Tokens.Tail.{goes_on}
 use Rattle.rdf_tokens.specs.Tokens.Step.{token, stop}
-use Rattle.rdf_tokens.specs.Tokens.Outcome.{undecided, complete, token_too_long, bad_utf8, no_token, bad_escape}
-use Rattle.rdf_tokens.specs.Good.{first_place, good, mark, tail_of, end_of, tokens_at, tokens_of}
-use Rattle.rdf_terms.specs.declared.reason.Reason.{Reason}
-use Rattle.rdf_terms.specs.declared.reason.Reason.TheVariants.{BadUtf8, NoToken, BadEscape, TokenTooLong, Ended}
-use Rattle.rdf_tokens.specs.Unread.{Unread}
-use Rattle.rdf_tokens.specs.Scans.{Reads, HasScanned, IsToken, Stops, StopsFor, token_of, place_of as fault_place}
-use Rattle.rdf_tokens.specs.Laws.{IsBeginning, MoreBytesOnlyLengthen, GivenTokensAreABeginning, IsStop, NextTokenIsGiven, IsPlaceIn, StandsIn, TokensStandAtTheirPlaces, TokensHaveShapes, NoEnd, EndsWell, EndStandsLast}
+use Rattle.rdf_tokens.specs.Scans.{IsToken, place_of as fault_place}
 use Rattle.rdf_tokens.proofs.TokensLemmas.{at_stop, at_token, shorter, same_outcome, more_tokens}
-use Rattle.rdf_tokens.specs.Moves.{is_broken}
-use Rattle.std.proofs.lemmas.Bool.{cond-false}
-use Rattle.std.proofs.lemmas.Str.{encodes-append, encodes-chars}
-use Rattle.std.proofs.Math.Utf8.{encodes}
-use Rattle.std.specs.Str.Lossy.{utf8_valid_len, utf8_error_len}
 use Rattle.rdf_tokens.proofs.GoodLemmas.{good-more, good_front}
 use Rattle.rdf_tokens.proofs.PastGood.{good_broken, still_broken, tail_broken}
 use Rattle.rdf_tokens.proofs.PlaceLemmas.{past-encodes, end_of-append}

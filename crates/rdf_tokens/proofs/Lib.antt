@@ -1,3 +1,4 @@
+mod Prelude
 pub mod TokensLemmas
 pub mod GoodLemmas
 pub mod FrontLemmas

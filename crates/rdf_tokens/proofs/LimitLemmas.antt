@@ -1,20 +1,7 @@
 -- No token has more characters than the limit.
-use Rattle.std.proofs.Common.{◌≡◌, ℕ, ◌+◌, ◌<◌, ◌≤◌, Bool, true, false, cond, ◌||◌, List, [], ◌∷◌, ◌++◌, refl, sym, ap, ◌∙◌, subst, ⊎_elim, append_assoc, Some, is_some, length, take, drop, arith}
-use Rattle.std.specs.List.{All}
-use Rattle.std.proofs.lemmas.List.{length-take-le, take-append-drop}
-use Rattle.std.proofs.lemmas.List.Elements.{All-nil, All-cons, All-head, All-tail}
-use Rattle.std.proofs.lemmas.Bool.{cases_lt, cases_eq, lt-ltb, false≢true, and_from}
-use Rattle.rdf_terms.specs.declared.kind.Dialect.{Dialect}
-use Rattle.rdf_terms.specs.declared.kind.Kind.{Kind}
-use Rattle.rdf_terms.specs.declared.kind.Kind.TheVariants.{End}
-use Rattle.rdf_terms.specs.Shapes.{kind_of, is_live}
-use Rattle.rdf_terms.proofs.ShapesLemmas.{kind-front}
-use Rattle.rdf_tokens.specs.Tokens.{Place, Tail, Outcome, Token, Reading, rest_of, place_of, over, is_empty, by_tail, step, end_tokens}
+use Rattle.rdf_tokens.proofs.Prelude.{◌≡◌, ℕ, ◌+◌, ◌<◌, ◌≤◌, Bool, true, false, cond, ◌||◌, List, [], ◌∷◌, ◌++◌, refl, sym, ap, ◌∙◌, subst, ⊎_elim, append_assoc, Some, is_some, length, take, drop, arith, All, length-take-le, take-append-drop, All-nil, All-cons, All-head, All-tail, cases_lt, cases_eq, lt-ltb, false≢true, and_from, Dialect, Kind, End, kind_of, is_live, kind-front, Place, Tail, Outcome, Token, Reading, rest_of, over, is_empty, by_tail, end_tokens, complete, token_too_long, tail_of, tokens_of, Unread, HasScanned, GivesToken}
+use Rattle.rdf_tokens.specs.Tokens.{place_of, step}
 use Rattle.rdf_tokens.specs.Tokens.Step.{token, stop}
-use Rattle.rdf_tokens.specs.Tokens.Outcome.{complete, token_too_long}
-use Rattle.rdf_tokens.specs.Good.{tail_of, tokens_of}
-use Rattle.rdf_tokens.specs.Unread.{Unread}
-use Rattle.rdf_tokens.specs.Scans.{HasScanned, GivesToken}
 use Rattle.rdf_tokens.proofs.TokensLemmas.{longer_take, step_token}
 use Rattle.rdf_tokens.proofs.StepLemmas.{step-kind}
 use Rattle.rdf_tokens.proofs.LawLemmas.{by_steps, tokens_of-tokens, given_beginning}

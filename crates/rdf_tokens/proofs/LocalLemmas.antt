@@ -1,30 +1,11 @@
 -- The parts of a local part lead to the state within it.
-use Rattle.std.proofs.Common.{◌≡◌, ◌+◌, ◌/◌, ◌%◌, ◌<◌, ◌≤◌, ◌⊎◌, ℕ, zero, Bool, true, false, cond, nat_lt, List, [], ◌∷◌, ◌++◌, length, drop, get_or, ◌==◌, not, ◌||◌, ◌&&◌, refl, sym, ap, subst, ◌∙◌, inl, inr, ⊎_elim, arith, Option, None, encode_utf8, IsUtf8}
-use Rattle.std.proofs.lemmas.Bool.{agree_below, agree_below_at, and_from, and_parts, cases_lt, cond-false, cond-true, eqb-true, false≢true, le-ltb, ltb-true, not_from_false}
-use Rattle.std.proofs.lemmas.Bool.Decides.{nat_tests}
-use Rattle.std.proofs.lemmas.List.{get_or-drop, get_or_append_left}
-use Rattle.std.proofs.lemmas.Str.{encode_ascii, length-encode}
-use Rattle.std.specs.Char.{len_utf8}
-use Rattle.rdf_terms.specs.Classes.{has, is_base}
-use Rattle.rdf_terms.specs.Classes.Class.{local_escape}
-use Rattle.rdf_terms.specs.Runs.{IsRun, is_name_byte}
-use Rattle.rdf_terms.specs.declared.kind.Dialect.{Dialect}
-use Rattle.rdf_terms.specs.declared.kind.Dialect.TheVariants.{Lines, Turtle}
-use Rattle.rdf_terms.specs.declared.kind.Kind.{Kind}
-use Rattle.rdf_terms.specs.declared.kind.Kind.TheVariants.{PnameLn}
-use Rattle.rdf_tokens.specs.declared.states.machine.State.{State}
+use Rattle.rdf_tokens.proofs.Prelude.{◌≡◌, ◌+◌, ◌/◌, ◌%◌, ◌<◌, ◌≤◌, ◌⊎◌, ℕ, zero, Bool, true, false, cond, nat_lt, List, [], ◌∷◌, ◌++◌, length, drop, get_or, ◌==◌, not, ◌||◌, ◌&&◌, refl, sym, ap, subst, ◌∙◌, inl, inr, ⊎_elim, arith, Option, None, encode_utf8, IsUtf8, agree_below, agree_below_at, and_from, and_parts, cases_lt, cond-false, cond-true, eqb-true, false≢true, le-ltb, ltb-true, not_from_false, nat_tests, get_or-drop, get_or_append_left, encode_ascii, length-encode, len_utf8, has, is_base, local_escape, IsRun, is_name_byte, Dialect, Lines, Turtle, Kind, PnameLn, State, Letter, Mark, Other, is_hex, Reached, kind_here, BeginsLocal, LeadsIn, RestsInLocal, begins_three, begins_two, is_escape, is_hex_at, is_percent, letter_len, IsPrefix, ends_name, is_colon, is_last, is_name_end, stands_at, is_mark, wide_of, with_length}
 use Rattle.rdf_tokens.specs.declared.states.machine.State.TheVariants.{Name}
 use Rattle.rdf_tokens.specs.declared.states.name.Name.TheVariants as name
 use Rattle.rdf_tokens.specs.declared.states.name.Sort.TheVariants as sort
-use Rattle.rdf_tokens.specs.declared.states.wide.Wide.TheVariants.{Letter, Mark, Other}
-use Rattle.rdf_tokens.specs.Escapes.{is_hex}
-use Rattle.rdf_tokens.specs.Front.{Reached, kind_here}
-use Rattle.rdf_tokens.specs.Local.{BeginsLocal, LeadsIn, RestsInLocal, begins_three, begins_two, is_escape, is_hex_at, is_percent, letter_len}
 use Rattle.rdf_tokens.specs.Machine.{step, kind_at}
 use Rattle.rdf_tokens.specs.Name.{ascii, high, move}
-use Rattle.rdf_tokens.specs.Quick.{IsPrefix, IsToken, ends_name, is_colon, is_last, is_name_end, stands_at}
-use Rattle.rdf_tokens.specs.Sorts.{is_mark, wide_of}
-use Rattle.rdf_tokens.specs.Tokens.{with_length}
+use Rattle.rdf_tokens.specs.Quick.{IsToken}
 use Rattle.rdf_tokens.proofs.ByteLemmas.{ascii_first}
 use Rattle.rdf_tokens.proofs.GoodLemmas.{encode_four, encode_three, encode_two}
 use Rattle.rdf_tokens.proofs.NoNamesLemmas.{implied}

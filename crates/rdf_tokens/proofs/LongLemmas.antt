@@ -1,26 +1,11 @@
 -- The inside of a string between three quotes: what leads back to the state there.
-use Rattle.std.proofs.Common.{◌≡◌, ◌+◌, ◌<◌, ◌≤◌, ℕ, Option, None, Bool, true, false, nat_lt, List, length, get_or, ◌==◌, not, ◌||◌, refl, sym, ap, ◌∙◌, subst, ⊎_elim, encode_utf8, arith}
-use Rattle.std.specs.Char.{len_utf8}
-use Rattle.std.specs.Str.{chars}
-use Rattle.std.proofs.lemmas.Bool.{agree_below, agree_below_at, and_parts, cases_lt, cond-false, eqb-true, false≢true, le-ltb, ltb-true}
-use Rattle.std.proofs.lemmas.Str.{encode_ascii}
-use Rattle.rdf_terms.specs.Runs.{IsRun, goes_over, is_unescaped}
-use Rattle.rdf_terms.specs.declared.kind.Dialect.{Dialect}
-use Rattle.rdf_terms.specs.declared.kind.Dialect.TheVariants.{Lines, Turtle}
-use Rattle.rdf_terms.specs.declared.kind.Kind.{Kind}
-use Rattle.rdf_tokens.specs.declared.states.machine.State.{State}
+use Rattle.rdf_tokens.proofs.Prelude.{◌≡◌, ◌+◌, ◌<◌, ◌≤◌, ℕ, Option, None, Bool, true, false, nat_lt, List, length, get_or, ◌==◌, not, ◌||◌, refl, sym, ap, ◌∙◌, subst, ⊎_elim, encode_utf8, arith, len_utf8, chars, agree_below, agree_below_at, and_parts, cases_lt, cond-false, eqb-true, false≢true, le-ltb, ltb-true, encode_ascii, IsRun, goes_over, is_unescaped, Dialect, Lines, Turtle, Kind, State, Quote, Single, FitsInString, Reached, RestsInLong, long_run, quote_byte, stands_at, wide_of, three_quotes}
 use Rattle.rdf_tokens.specs.declared.states.machine.State.TheVariants.{Text}
-use Rattle.rdf_tokens.specs.declared.states.text.Quote.{Quote}
-use Rattle.rdf_tokens.specs.declared.states.text.Quote.TheVariants.{Double, Single}
+use Rattle.rdf_tokens.specs.declared.states.text.Quote.TheVariants.{Double}
 use Rattle.rdf_tokens.specs.declared.states.text.Sort.TheVariants as sort
 use Rattle.rdf_tokens.specs.declared.states.text.Text.TheVariants as text
-use Rattle.rdf_tokens.specs.Escapes.{FitsInString}
-use Rattle.rdf_tokens.specs.Front.{Reached}
 use Rattle.rdf_tokens.specs.Machine.{step}
-use Rattle.rdf_tokens.specs.Quick.{RestsInLong, long_run, quote_byte, stands_at}
-use Rattle.rdf_tokens.specs.Sorts.{wide_of}
 use Rattle.rdf_tokens.specs.Text as strings
-use Rattle.rdf_tokens.specs.Tokens.{three_quotes}
 use Rattle.rdf_tokens.proofs.FitEscapes.{fits_byte, fits_run, fits-more, long_slash}
 use Rattle.rdf_tokens.proofs.NoNamesLemmas.{implied, no_long}
 use Rattle.rdf_tokens.proofs.PlainQuick.{low_quote}

@@ -1,23 +1,10 @@
 -- A string between three quotes: the states over its quotes, and what stands between them means.
-use Rattle.std.proofs.Common.{◌≡◌, ℕ, zero, suc, ◌+◌, ◌-◌, ◌<◌, ◌≤◌, true, nat_lt, List, [], ◌∷◌, ◌++◌, ◌==◌, refl, sym, ap, ◌∙◌, subst, append_assoc, length, length-append, length-drop, get_or, take, drop, is_some, arith, Some, None, IsUtf8}
-use Rattle.std.proofs.Math.Seq.{take-suc, take-append_seam}
-use Rattle.std.proofs.lemmas.Bool.{and_parts, eqb-true, ltb-true}
-use Rattle.std.proofs.lemmas.List.{drop_more, get_or-drop}
-use Rattle.std.proofs.lemmas.Str.{chars-append, chars-IsAscii, encode_ascii, length-encode, IsCharBoundary-after_ascii, IsCharBoundary-before_ascii, IsUtf8-drop, IsUtf8-from_ascii, IsUtf8-take}
-use Rattle.std.specs.Str.{chars, IsAscii}
-use Rattle.rdf_terms.specs.declared.kind.Kind.TheVariants.{LongString, ShortString}
-use Rattle.rdf_terms.specs.declared.kind.Dialect.TheVariants.{Turtle}
-use Rattle.rdf_terms.specs.Values.{of_string, inside, is_fit, string_value}
-use Rattle.rdf_terms.proofs.ValueBytes.{value-bytes}
+use Rattle.rdf_tokens.proofs.Prelude.{◌≡◌, ℕ, zero, suc, ◌+◌, ◌-◌, ◌<◌, ◌≤◌, true, nat_lt, List, [], ◌∷◌, ◌++◌, ◌==◌, refl, sym, ap, ◌∙◌, subst, append_assoc, length, length-append, length-drop, get_or, take, drop, is_some, arith, Some, None, IsUtf8, take-suc, take-append_seam, and_parts, eqb-true, ltb-true, drop_more, get_or-drop, chars-append, chars-IsAscii, encode_ascii, length-encode, IsCharBoundary-after_ascii, IsCharBoundary-before_ascii, IsUtf8-drop, IsUtf8-from_ascii, IsUtf8-take, chars, IsAscii, LongString, ShortString, Turtle, of_string, inside, is_fit, string_value, value-bytes, Quote, Single, FitsInString, Reached, RestsInLong, opens_with, quote_byte, stands_at, stands_thrice, three_quotes, only_long}
 use Rattle.rdf_tokens.specs.declared.states.machine.State.TheVariants.{Text}
-use Rattle.rdf_tokens.specs.declared.states.text.Quote.{Quote}
-use Rattle.rdf_tokens.specs.declared.states.text.Quote.TheVariants.{Double, Single}
+use Rattle.rdf_tokens.specs.declared.states.text.Quote.TheVariants.{Double}
 use Rattle.rdf_tokens.specs.declared.states.text.Text.TheVariants as text
-use Rattle.rdf_tokens.specs.Escapes.{FitsInString}
-use Rattle.rdf_tokens.specs.Front.{Reached}
 use Rattle.rdf_tokens.specs.Machine.{step}
-use Rattle.rdf_tokens.specs.Quick.{IsToken, RestsInLong, opens_with, quote_byte, stands_at, stands_thrice}
-use Rattle.rdf_tokens.specs.Tokens.{three_quotes, only_long}
+use Rattle.rdf_tokens.specs.Quick.{IsToken}
 use Rattle.rdf_tokens.proofs.ByteLemmas.{ascii_first}
 use Rattle.rdf_tokens.proofs.FitEscapes.{fits-value}
 use Rattle.rdf_tokens.proofs.LongLemmas.{quote-step}

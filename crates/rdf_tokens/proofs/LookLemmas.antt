@@ -1,22 +1,10 @@
 -- What a look tells is the step.
-use Rattle.std.proofs.Common.{◌≡◌, ℕ, ◌≤◌, Bool, true, false, cond, List, [], ◌∷◌, ◌++◌, ◌||◌, ◌⊎◌, inr, refl, sym, ap, ◌∙◌, subst, ⊎_elim, length, length-append, take, arith, Option, Some, None, IsUtf8, encode_utf8}
-use Rattle.std.specs.Prelude.{encode_utf8_all}
-use Rattle.std.specs.Str.{chars}
-use Rattle.std.proofs.lemmas.Bool.{cond-true, cond-false, true≢false, false≢true}
-use Rattle.std.proofs.lemmas.Str.{encodes-chars, length-encode, len_utf8_bounds}
-use Rattle.rdf_terms.specs.declared.kind.Kind.{Kind}
-use Rattle.rdf_terms.specs.declared.kind.Dialect.{Dialect}
-use Rattle.rdf_terms.specs.Shapes.{is_live}
-use Rattle.rdf_terms.specs.Values.{is_fit}
-use Rattle.rdf_terms.specs.declared.reason.Reason.TheVariants.{BadEscape}
-use Rattle.rdf_tokens.specs.declared.look.Look.TheVariants.{Stop, Token as Given}
-use Rattle.rdf_tokens.specs.Tokens.{Tail, longest, over, is_empty, chosen, decided, by_tail, step}
-use Rattle.rdf_tokens.specs.Tokens.Tail.{goes_on, ended, broken}
-use Rattle.rdf_tokens.specs.Tokens.Outcome.{token_too_long, bad_escape}
+use Rattle.rdf_tokens.proofs.Prelude.{◌≡◌, ℕ, ◌≤◌, Bool, true, false, cond, List, [], ◌∷◌, ◌++◌, ◌||◌, ◌⊎◌, inr, refl, sym, ap, ◌∙◌, subst, ⊎_elim, length, length-append, take, arith, Option, Some, None, IsUtf8, encode_utf8, encode_utf8_all, chars, cond-true, cond-false, true≢false, false≢true, encodes-chars, length-encode, len_utf8_bounds, Kind, Dialect, is_live, is_fit, BadEscape, Stop, Tail, longest, over, is_empty, chosen, decided, by_tail, ended, broken, token_too_long, bad_escape, bytes_of, in_bytes, IsLook, CutsAt, chosen_by, decided_by}
+use Rattle.rdf_tokens.specs.declared.look.Look.TheVariants.{Token as Given}
+use Rattle.rdf_tokens.specs.Tokens.{step}
+use Rattle.rdf_tokens.specs.Tokens.Tail.{goes_on}
 use Rattle.rdf_tokens.specs.Tokens.Step.{token, stop}
-use Rattle.rdf_tokens.specs.Front.{bytes_of, in_bytes}
 use Rattle.rdf_tokens.specs.Quick.{IsToken}
-use Rattle.rdf_tokens.specs.Look.{IsLook, CutsAt, chosen_by, decided_by}
 use Rattle.rdf_tokens.proofs.ByteLemmas.{cut}
 use Rattle.rdf_tokens.proofs.TokensLemmas.{longest_fits}
 

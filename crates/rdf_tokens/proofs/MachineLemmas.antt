@@ -1,14 +1,8 @@
 -- The states of all families, and the table of spellings, against all shapes.
-use Rattle.std.proofs.Common.{◌≡◌, ℕ, Bool, true, false, cond, List, [], ◌∷◌, ◌++◌, ◌&&◌, ◌||◌, ◌==◌, nat_lt, refl, sym, ap, ◌∙◌, ⊎_elim, Option, Some, None}
-use Rattle.std.proofs.lemmas.Bool.{agree_below, agree_below_at, and_parts, cases_lt, lt-ltb, le-ltb, eqb-true, false≢true}
-use Rattle.rdf_terms.specs.declared.kind.Kind.{Kind}
-use Rattle.rdf_terms.specs.declared.kind.Dialect.{Dialect}
-use Rattle.rdf_terms.specs.declared.kind.Dialect.TheVariants.{Lines, Turtle}
-use Rattle.rdf_tokens.specs.declared.states.wide.Wide.{Wide}
+use Rattle.rdf_tokens.proofs.Prelude.{◌≡◌, ℕ, Bool, true, false, cond, List, [], ◌∷◌, ◌++◌, ◌&&◌, ◌||◌, ◌==◌, nat_lt, refl, sym, ap, ◌∙◌, ⊎_elim, Option, Some, None, agree_below, agree_below_at, and_parts, cases_lt, lt-ltb, le-ltb, eqb-true, false≢true, Kind, Dialect, Lines, Turtle, Wide, State, has, longer, after_all, nullable, shape, any_shape, first_kind, kind_of, is_live, fixed, shaped, or_else, sort_by, wide_of, run, IsChars, begin, kind_by_table, live_by_table}
 use Rattle.rdf_tokens.specs.declared.states.wide.Wide.TheVariants as wide
 use Rattle.rdf_tokens.specs.declared.states.family.Family as first
 use Rattle.rdf_tokens.specs.declared.states.family.Family.TheVariants as family
-use Rattle.rdf_tokens.specs.declared.states.machine.State.{State}
 use Rattle.rdf_tokens.specs.declared.states.machine.State.TheVariants.{Start, Iri, Label, Text, Tag, Number, Name, Dead}
 use Rattle.rdf_tokens.specs.declared.states.iri.Iri.TheVariants as iri_state
 use Rattle.rdf_tokens.specs.declared.states.label.Label.TheVariants as label_state
@@ -16,13 +10,7 @@ use Rattle.rdf_tokens.specs.declared.states.text.Text.TheVariants as text_state
 use Rattle.rdf_tokens.specs.declared.states.tag.Tag.TheVariants as tag_state
 use Rattle.rdf_tokens.specs.declared.states.number.Number.TheVariants as number_state
 use Rattle.rdf_tokens.specs.declared.states.name.Name.TheVariants as name_state
-use Rattle.rdf_terms.specs.Classes.{has}
-use Rattle.rdf_terms.specs.Regex.{longer, after_all, nullable}
-use Rattle.rdf_terms.specs.Shapes.{shape, any_shape, first_kind, kind_of, is_live, fixed, shaped, or_else}
-use Rattle.rdf_tokens.specs.Sorts.{sort_by, wide_of}
-use Rattle.rdf_tokens.specs.Machines.{run, IsChars}
-use Rattle.rdf_tokens.specs.Machine.{ascii, high, begin, step, kind_at, goes_on}
-use Rattle.rdf_tokens.specs.Fixed.{kind_by_table, live_by_table}
+use Rattle.rdf_tokens.specs.Machine.{ascii, high, step, kind_at, goes_on}
 use Rattle.rdf_tokens.proofs.FamilyLemmas.{Family, step_of, family-kind, family-live, after_or, after_nothing}
 use Rattle.rdf_tokens.proofs.FamilySorts.{place, same_place}
 use Rattle.rdf_tokens.proofs.FixedLemmas.{fixed-kind, fixed-live}

@@ -1,20 +1,8 @@
 -- What the steps of a scanner read.
-use Rattle.std.proofs.Common.{Option, Some, None, ◌≡◌, ℕ, suc, ◌≤◌, Bool, true, false, cond, List, [], ◌∷◌, ◌++◌, ◌==◌, inl, inr, refl, sym, ap, ◌∙◌, subst, append_assoc, length, take, drop, arith, length-drop, length-append, encode_utf8}
-use Rattle.std.specs.Prelude.{encode_utf8_all}
-use Rattle.std.proofs.lemmas.Str.{length-encode, len_utf8_bounds}
-use Rattle.std.proofs.lemmas.List.{append-nil, take_all, take-append-drop}
-use Rattle.std.proofs.lemmas.Bool.{cond-false}
-use Rattle.rdf_terms.specs.declared.kind.Dialect.{Dialect}
-use Rattle.rdf_terms.specs.declared.kind.Kind.{Kind}
-use Rattle.rdf_tokens.specs.Tokens.{Place, past, Tail, Outcome, Token, Reading, is_empty, blank, rest_of, place_of, step, tokens, with_token, with_tokens, end_tokens, stop_place}
+use Rattle.rdf_tokens.proofs.Prelude.{Option, Some, None, ◌≡◌, ℕ, suc, ◌≤◌, Bool, true, false, cond, List, [], ◌∷◌, ◌++◌, ◌==◌, inl, inr, refl, sym, ap, ◌∙◌, subst, append_assoc, length, take, drop, arith, length-drop, length-append, encode_utf8, encode_utf8_all, length-encode, len_utf8_bounds, append-nil, take_all, take-append-drop, cond-false, Dialect, Kind, Place, past, Tail, Outcome, Token, Reading, is_empty, blank, rest_of, tokens, with_token, with_tokens, end_tokens, stop_place, mark, tokens_at, tokens_of, Unread, HasScanned, MovesBytes, BeginsChar, tail_now, MayCome, moved, Stands, Moves, bytes_of, comment_step, comment_after}
+use Rattle.rdf_tokens.specs.Tokens.{place_of, step}
 use Rattle.rdf_tokens.specs.Tokens.Tail.{goes_on}
 use Rattle.rdf_tokens.specs.Tokens.Step.{token, stop}
-use Rattle.rdf_tokens.specs.Good.{mark, tokens_at, tokens_of}
-use Rattle.rdf_tokens.specs.Unread.{Unread}
-use Rattle.rdf_tokens.specs.Scans.{HasScanned}
-use Rattle.rdf_tokens.specs.Moves.{MovesBytes, BeginsChar, tail_now, MayCome, moved, Stands, Moves}
-use Rattle.rdf_tokens.specs.Front.{bytes_of}
-use Rattle.rdf_tokens.specs.Blank.{comment_step, comment_after}
 use Rattle.rdf_tokens.proofs.BlankLemmas.{blank_by, comment_by, blank-step, comment-step, tokens-blank, tokens-rest, rest-blank}
 use Rattle.rdf_tokens.proofs.TokensLemmas.{at_stop, at_token, more_token}
 use Rattle.rdf_tokens.proofs.ReadLemmas.{read_now}

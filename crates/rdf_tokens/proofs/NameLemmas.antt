@@ -1,14 +1,5 @@
 -- The states of prefixed names against their shapes.
-use Rattle.std.proofs.Common.{◌≡◌, ℕ, zero, suc, true, List, [], ◌∷◌, refl, inl, inr, map}
-use Rattle.rdf_terms.specs.declared.kind.Kind.{Kind}
-use Rattle.rdf_terms.specs.declared.kind.Kind.TheVariants.{PnameNs, PnameLn}
-use Rattle.rdf_terms.specs.declared.kind.Dialect.{Dialect}
-use Rattle.rdf_terms.specs.declared.kind.Dialect.TheVariants.{Lines, Turtle}
-use Rattle.rdf_terms.specs.Classes.{Class, has}
-use Rattle.rdf_terms.specs.Classes.Class.{the, digit, hex_digit, local_escape, pn_base, pn_u, pn_char}
-use Rattle.rdf_terms.specs.Regex.{Regex}
-use Rattle.rdf_terms.specs.Regex.Regex.{nothing, empty, one, ◌·◌, ◌∣◌, many}
-use Rattle.rdf_terms.specs.Shapes.{shape, dot, plx, pn_local}
+use Rattle.rdf_tokens.proofs.Prelude.{◌≡◌, ℕ, zero, suc, true, List, [], ◌∷◌, refl, inl, inr, map, Kind, PnameNs, PnameLn, Dialect, Lines, Turtle, Class, has, the, digit, hex_digit, local_escape, pn_base, pn_u, pn_char, Regex, nothing, empty, one, ◌·◌, ◌∣◌, many, shape, dot, plx, pn_local}
 use Rattle.rdf_tokens.specs.declared.states.name.Sort.{Sort}
 use Rattle.rdf_tokens.specs.declared.states.name.Sort.TheVariants as sort
 use Rattle.rdf_tokens.specs.declared.states.name.Name.{Name}

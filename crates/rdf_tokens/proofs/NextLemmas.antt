@@ -1,25 +1,10 @@
 -- What the next token is, after white space and comments.
-use Rattle.std.proofs.Common.{◌≡◌, ◌≢◌, inl, inr, not, ℕ, ◌+◌, ◌<◌, ◌≤◌, Bool, true, false, cond, List, [], ◌∷◌, ◌++◌, ◌||◌, ◌&&◌, is_some, refl, sym, ap, ◌∙◌, subst, ⊎_elim, length, take, drop, arith, length-drop, Option, Some, None}
-use Rattle.std.proofs.lemmas.List.{append-nil}
-use Rattle.std.proofs.lemmas.Bool.{le-ltb, or_parts, cases_Bool, cond-true, cond-false}
-use Rattle.rdf_terms.specs.declared.kind.Dialect.{Dialect}
-use Rattle.rdf_terms.specs.declared.kind.Kind.{Kind}
-use Rattle.rdf_terms.specs.declared.kind.Kind.TheVariants.{End}
-use Rattle.rdf_terms.specs.Shapes.{Shape, kind_of, is_live}
-use Rattle.rdf_terms.specs.Values.{is_fit}
-use Rattle.rdf_tokens.specs.Tokens.{Place, past, Tail, Outcome, Token, is_empty, over, chosen, decided, longest, by_tail, step, end_tokens, stop_place, place_of, with_tokens}
-use Rattle.rdf_tokens.specs.Tokens.Tail.{goes_on, ended, broken}
+use Rattle.rdf_tokens.proofs.Prelude.{◌≡◌, ◌≢◌, inl, inr, not, ℕ, ◌+◌, ◌<◌, ◌≤◌, Bool, true, false, cond, List, [], ◌∷◌, ◌++◌, ◌||◌, ◌&&◌, is_some, refl, sym, ap, ◌∙◌, subst, ⊎_elim, length, take, drop, arith, length-drop, Option, Some, None, append-nil, le-ltb, or_parts, cases_Bool, cond-true, cond-false, Dialect, Kind, End, Shape, kind_of, is_live, is_fit, Place, past, Tail, Outcome, Token, is_empty, over, chosen, decided, longest, by_tail, end_tokens, stop_place, with_tokens, ended, broken, undecided, complete, token_too_long, bad_utf8, no_token, bad_escape, tokens_at, tokens_of, Unread, HasScanned, IsOpen, SameScan, GivesToken, Waits, Stops, StopsFor, is_end, IsEndGiven, GivesBytes, BeginsChar, tail_now, is_settled, fault_place, moved, Stands, Moves, Reason, BadUtf8, NoToken, BadEscape, TokenTooLong, Stop, IsLook}
+use Rattle.rdf_tokens.specs.Tokens.{step, place_of}
+use Rattle.rdf_tokens.specs.Tokens.Tail.{goes_on}
 use Rattle.rdf_tokens.specs.Tokens.Step.{token, stop}
-use Rattle.rdf_tokens.specs.Tokens.Outcome.{undecided, complete, token_too_long, bad_utf8, no_token, bad_escape}
-use Rattle.rdf_tokens.specs.Good.{tokens_at, tokens_of}
-use Rattle.rdf_tokens.specs.Unread.{Unread}
-use Rattle.rdf_tokens.specs.Scans.{HasScanned, IsOpen, SameScan, IsToken, GivesToken, Waits, Stops, StopsFor, left, is_end}
-use Rattle.rdf_tokens.specs.Moves.{IsEndGiven, GivesBytes, BeginsChar, tail_now, is_settled, fault_place, moved, Stands, Moves}
-use Rattle.rdf_terms.specs.declared.reason.Reason.{Reason}
-use Rattle.rdf_terms.specs.declared.reason.Reason.TheVariants.{BadUtf8, NoToken, BadEscape, TokenTooLong}
+use Rattle.rdf_tokens.specs.Scans.{IsToken, left}
 use Rattle.rdf_tokens.specs.declared.look.Look.TheVariants as Look
-use Rattle.rdf_tokens.specs.declared.look.Look.TheVariants.{Stop}
-use Rattle.rdf_tokens.specs.Look.{IsLook}
 use Rattle.rdf_tokens.proofs.StepLemmas.{step-token}
 use Rattle.rdf_tokens.proofs.TokensLemmas.{at_stop, step_token}
 use Rattle.rdf_tokens.proofs.ReadLemmas.{read_now, read_on}

@@ -1,25 +1,9 @@
 -- A text that begins no name begins none at a later letter of its first run either: the states after both letters are the same.
-use Rattle.std.proofs.Common.{◌≡◌, ℕ, zero, suc, ◌+◌, ◌-◌, ◌<◌, Bool, true, false, List, [], ◌∷◌, ◌++◌, ◌&&◌, ◌||◌, ◌==◌, ◌≤◌, inl, inr, not, refl, sym, ap, ◌∙◌, subst, ⊎_elim, length, take, drop, get_or, arith, length-append, length-drop, Option, Some, None, IsUtf8}
-use Rattle.std.proofs.lemmas.Bool.{agree_below_at, and_parts, true≢false, cases_lt}
-use Rattle.std.proofs.lemmas.Bool.Decides.{nat_tests}
-use Rattle.std.proofs.lemmas.List.{get_or-drop, drop-drop, take-append-drop, length-take-le}
-use Rattle.std.proofs.lemmas.Str.{encode_ascii, length-encode}
-use Rattle.std.specs.Str.{chars}
-use Rattle.std.specs.Char.{len_utf8}
-use Rattle.rdf_terms.specs.declared.kind.Kind.{Kind}
-use Rattle.rdf_terms.specs.declared.kind.Dialect.{Dialect}
-use Rattle.rdf_terms.specs.declared.kind.Dialect.TheVariants.{Turtle}
+use Rattle.rdf_tokens.proofs.Prelude.{◌≡◌, ℕ, zero, suc, ◌+◌, ◌-◌, ◌<◌, Bool, true, false, List, [], ◌∷◌, ◌++◌, ◌&&◌, ◌||◌, ◌==◌, ◌≤◌, inl, inr, not, refl, sym, ap, ◌∙◌, subst, ⊎_elim, length, take, drop, get_or, arith, length-append, length-drop, Option, Some, None, IsUtf8, agree_below_at, and_parts, true≢false, cases_lt, nat_tests, get_or-drop, drop-drop, take-append-drop, length-take-le, encode_ascii, length-encode, chars, len_utf8, Kind, Dialect, Turtle, IsRun, State, NoNames, with_length, three_quotes, only_long, run, IsAt, bytes_of, in_bytes, longest_by, state_of, kind_by_states, open_state, is_prefix_byte, BeginsNoName, HasNoNames, Ends}
 use Rattle.rdf_terms.specs.Classes.{is_letter}
-use Rattle.rdf_terms.specs.Runs.{IsRun}
-use Rattle.rdf_tokens.specs.declared.states.machine.State.{State}
 use Rattle.rdf_tokens.specs.declared.states.machine.State.TheVariants.{Start, Name}
 use Rattle.rdf_tokens.specs.declared.states.name.Name.TheVariants as name
-use Rattle.rdf_tokens.specs.declared.front.NoNames.{NoNames}
-use Rattle.rdf_tokens.specs.Tokens.{with_length, three_quotes, only_long}
-use Rattle.rdf_tokens.specs.Machines.{run}
 use Rattle.rdf_tokens.specs.Machine.{step, kind_at, goes_on}
-use Rattle.rdf_tokens.specs.Front.{IsAt, bytes_of, in_bytes, longest_by, state_of, kind_by_states, open_state}
-use Rattle.rdf_tokens.specs.NoNames.{is_prefix_byte, BeginsNoName, HasNoNames, Ends}
 use Rattle.rdf_tokens.proofs.ByteLemmas.{at-start, char-step, ascii_first, run-append, run-more}
 use Rattle.rdf_tokens.proofs.StateLemmas.{longer_state}
 

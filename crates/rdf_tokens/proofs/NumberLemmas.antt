@@ -1,14 +1,6 @@
 -- The states of numbers against their shapes.
-use Rattle.std.proofs.Common.{◌≡◌, ℕ, true, List, [], ◌∷◌, refl, inl, map}
-use Rattle.rdf_terms.specs.declared.kind.Kind.{Kind}
-use Rattle.rdf_terms.specs.declared.kind.Kind.TheVariants.{Integer, Decimal, Double}
-use Rattle.rdf_terms.specs.declared.kind.Dialect.{Dialect}
-use Rattle.rdf_terms.specs.declared.kind.Dialect.TheVariants.{Lines, Turtle}
-use Rattle.rdf_terms.specs.Classes.{Class, has}
-use Rattle.rdf_terms.specs.Classes.Class.{the, digit}
-use Rattle.rdf_terms.specs.Regex.{Regex}
-use Rattle.rdf_terms.specs.Regex.Regex.{nothing, one, ◌·◌, ◌∣◌, many}
-use Rattle.rdf_terms.specs.Shapes.{shape, dot, sign, digits, exponent}
+use Rattle.rdf_tokens.proofs.Prelude.{◌≡◌, ℕ, true, List, [], ◌∷◌, refl, inl, map, Kind, Integer, Decimal, Dialect, Lines, Turtle, Class, has, the, digit, Regex, nothing, one, ◌·◌, ◌∣◌, many, shape, dot, sign, digits, exponent}
+use Rattle.rdf_terms.specs.declared.kind.Kind.TheVariants.{Double}
 use Rattle.rdf_tokens.specs.declared.states.number.Sort.{Sort}
 use Rattle.rdf_tokens.specs.declared.states.number.Sort.TheVariants as sort
 use Rattle.rdf_tokens.specs.declared.states.number.Number.{Number}

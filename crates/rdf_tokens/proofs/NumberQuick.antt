@@ -1,25 +1,12 @@
 -- Numbers that begin with a digit, or with a sign and a digit: the states over their digits, and after the byte that ends them.
-use Rattle.std.proofs.Common.{◌≡◌, ℕ, zero, suc, ◌+◌, ◌-◌, ◌<◌, ◌≤◌, Bool, true, false, cond, nat_lt, List, [], ◌∷◌, ◌&&◌, ◌||◌, ◌==◌, not, refl, sym, ap, ◌∙◌, subst, length, get_or, inl, inr, ◌⊎◌, arith, Option, Some, None, IsUtf8}
-use Rattle.std.proofs.lemmas.Bool.{agree_below, agree_below_at, and_parts, false≢true, eqb-true, ltb-true, ltb-false, or_left, or_right}
-use Rattle.std.proofs.lemmas.Bool.Decides.{nat_tests}
-use Rattle.std.proofs.lemmas.Str.{encode_ascii, length-encode}
-use Rattle.std.specs.Str.{chars}
-use Rattle.rdf_terms.specs.declared.kind.Kind.{Kind}
-use Rattle.rdf_terms.specs.declared.kind.Kind.TheVariants.{Integer, Decimal, Double}
-use Rattle.rdf_terms.specs.declared.kind.Dialect.TheVariants.{Turtle}
-use Rattle.rdf_terms.specs.Classes.{is_digit, one_of}
-use Rattle.rdf_terms.specs.Shapes.{fixed}
-use Rattle.rdf_terms.specs.Runs.{IsRun, PassBetween}
-use Rattle.rdf_terms.specs.Values.{is_fit}
-use Rattle.rdf_tokens.specs.declared.states.machine.State.{State}
+use Rattle.rdf_tokens.proofs.Prelude.{◌≡◌, ℕ, zero, suc, ◌+◌, ◌-◌, ◌<◌, ◌≤◌, Bool, true, false, cond, nat_lt, List, [], ◌∷◌, ◌&&◌, ◌||◌, ◌==◌, not, refl, sym, ap, ◌∙◌, subst, length, get_or, inl, inr, ◌⊎◌, arith, Option, Some, None, IsUtf8, agree_below, agree_below_at, and_parts, false≢true, eqb-true, ltb-true, ltb-false, or_left, or_right, nat_tests, encode_ascii, length-encode, chars, Kind, Integer, Decimal, Turtle, is_digit, one_of, fixed, IsRun, PassBetween, is_fit, State, with_length, three_quotes, only_long, Row, fits, is_begun, live_by, rows_of, Reached, longer_front, begins, front_by, BeginsNumber, IsMantissa, after_sign, is_sign, is_point, is_exponent, is_integer_end, is_decimal_end, is_double_end, ends_integer, ends_number}
+use Rattle.rdf_terms.specs.declared.kind.Kind.TheVariants.{Double}
 use Rattle.rdf_tokens.specs.declared.states.machine.State.TheVariants.{Start, Number}
 use Rattle.rdf_tokens.specs.declared.states.number.Number.TheVariants as number
 use Rattle.rdf_tokens.specs.declared.states.number.Number as numbers
-use Rattle.rdf_tokens.specs.Tokens.{with_length, three_quotes, only_long}
-use Rattle.rdf_tokens.specs.Fixed.{Row, fits, left, is_begun, live_by, rows_of}
-use Rattle.rdf_tokens.specs.Front.{Reached, longer_front, begins, front_by}
+use Rattle.rdf_tokens.specs.Fixed.{left}
 use Rattle.rdf_tokens.specs.Machine.{step, kind_at}
-use Rattle.rdf_tokens.specs.Quick.{BeginsNumber, IsMantissa, IsToken, after_sign, is_sign, is_point, is_exponent, is_integer_end, is_decimal_end, is_double_end, ends_integer, ends_number}
+use Rattle.rdf_tokens.specs.Quick.{IsToken}
 use Rattle.rdf_tokens.proofs.ByteLemmas.{at-start, ascii_first}
 use Rattle.rdf_tokens.proofs.NoNamesLemmas.{implied, one_on}
 use Rattle.rdf_tokens.proofs.QuickLemmas.{settled, not_true, other, at_ended, ended-state}

@@ -1,25 +1,9 @@
 -- What leaves the next token open is held.
-use Rattle.std.proofs.Common.{◌≡◌, ℕ, zero, suc, ◌+◌, ◌<◌, ◌≤◌, Bool, true, false, cond, List, [], ◌∷◌, ◌++◌, ◌||◌, ◌==◌, refl, sym, ap, ◌∙◌, subst, ⊎_elim, is_some, length, take, drop, length-drop, arith, length-append}
-use Rattle.std.proofs.lemmas.Bool.{cond-false, cases_Bool, cases_lt, ne_eqb, false≢true}
-use Rattle.std.proofs.lemmas.List.{append-nil, take_all, take-append-le, take-append-drop, length-take-le}
-use Rattle.std.proofs.lemmas.Str.{encodes-append, encodes-chars, utf8_valid_len_le}
-use Rattle.std.proofs.Math.Seq.{get_or-append_seam}
-use Rattle.std.proofs.Math.Utf8.{encodes}
-use Rattle.std.specs.Str.{chars, IsUtf8}
-use Rattle.std.specs.Str.Lossy.{utf8_valid_len, utf8_error_len}
-use Rattle.rdf_terms.specs.declared.kind.Dialect.{Dialect}
-use Rattle.rdf_terms.specs.declared.kind.Kind.{Kind}
-use Rattle.rdf_terms.proofs.ValueBytes.{utf8_bytes}
-use Rattle.rdf_tokens.specs.Tokens.{Place, past, Tail, Outcome, Reading, Step, blank, is_empty, over, by_tail, step, rest_of, place_of, tokens, with_token, with_tokens, end_tokens, stop_place}
-use Rattle.rdf_tokens.specs.Tokens.Tail.{goes_on, broken}
+use Rattle.rdf_tokens.proofs.Prelude.{◌≡◌, ℕ, zero, suc, ◌+◌, ◌<◌, ◌≤◌, Bool, true, false, cond, List, [], ◌∷◌, ◌++◌, ◌||◌, ◌==◌, refl, sym, ap, ◌∙◌, subst, ⊎_elim, is_some, length, take, drop, length-drop, arith, length-append, cond-false, cases_Bool, cases_lt, ne_eqb, false≢true, append-nil, take_all, take-append-le, take-append-drop, length-take-le, encodes-append, encodes-chars, utf8_valid_len_le, get_or-append_seam, encodes, chars, IsUtf8, utf8_valid_len, utf8_error_len, Dialect, Kind, utf8_bytes, Place, past, Tail, Outcome, Reading, Step, blank, is_empty, over, by_tail, rest_of, tokens, with_token, with_tokens, end_tokens, stop_place, broken, undecided, complete, token_too_long, bad_utf8, no_token, bad_escape, is_live, first_place, good, mark, tail_of, tokens_at, tokens_of, is_broken, Unread, Reads, reading_by, unread_bytes, EndsFor, OpenTextIsPending}
+use Rattle.rdf_tokens.specs.Tokens.{step, place_of}
+use Rattle.rdf_tokens.specs.Tokens.Tail.{goes_on}
 use Rattle.rdf_tokens.specs.Tokens.Step.{token, stop}
-use Rattle.rdf_tokens.specs.Tokens.Outcome.{undecided, complete, token_too_long, bad_utf8, no_token, bad_escape}
-use Rattle.rdf_terms.specs.Shapes.{is_live}
-use Rattle.rdf_tokens.specs.Good.{first_place, good, mark, tail_of, tokens_at, tokens_of}
-use Rattle.rdf_tokens.specs.Moves.{is_broken}
-use Rattle.rdf_tokens.specs.Unread.{Unread}
-use Rattle.rdf_tokens.specs.Scans.{Reads, reading_by, reading_of, unread_bytes}
-use Rattle.rdf_tokens.specs.Laws.{EndsFor, OpenTextIsPending}
+use Rattle.rdf_tokens.specs.Scans.{reading_of}
 use Rattle.rdf_tokens.proofs.GoodLemmas.{at_least, good_front, valid_more}
 use Rattle.rdf_tokens.proofs.PastGood.{tail_broken}
 use Rattle.rdf_tokens.proofs.PlaceLemmas.{past-encodes}

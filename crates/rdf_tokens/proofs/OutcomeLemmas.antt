@@ -1,25 +1,11 @@
 -- What the longest front is, and why the tokens end where they end.
-use Rattle.std.proofs.Common.{Some, None, ◌≡◌, ◌≢◌, ℕ, zero, suc, ◌+◌, ◌<◌, ◌≤◌, Bool, true, false, cond, nat_lt, List, [], ◌∷◌, ◌++◌, ◌||◌, ◌==◌, ◌⊎◌, inl, inr, refl, sym, ap, ◌∙◌, subst, ⊎_elim, append_assoc, Option, is_some, length, take, drop, arith, length-append}
-use Rattle.std.proofs.lemmas.List.{take_all, drop_at, drop_all, take-append-drop, length-take-le}
-use Rattle.std.proofs.lemmas.List.Elements.{All-nil, All-cons}
-use Rattle.std.proofs.lemmas.Bool.{and_parts, or_cases, cases_lt, false≢true, eqb-true, eq-eqb, ltb-true}
-use Rattle.std.proofs.lemmas.Str.{encodes-append, encodes-chars, chars-encodes, scalars-chars, utf8_valid_len_le}
-use Rattle.std.proofs.Math.Utf8.{encodes, scalars, scalar}
-use Rattle.std.specs.List.{All}
-use Rattle.std.specs.Str.{chars}
-use Rattle.std.specs.Str.Lossy.{utf8_valid_len, utf8_error_len}
-use Rattle.rdf_terms.specs.declared.kind.Dialect.{Dialect}
-use Rattle.rdf_terms.specs.declared.kind.Kind.{Kind}
-use Rattle.rdf_terms.specs.declared.kind.Kind.TheVariants.{LongString, End}
-use Rattle.rdf_terms.specs.Shapes.{Shape, Live, kind_of, is_live}
-use Rattle.rdf_terms.specs.Values.{is_fit}
+use Rattle.rdf_tokens.proofs.Prelude.{Some, None, ◌≡◌, ◌≢◌, ℕ, zero, suc, ◌+◌, ◌<◌, ◌≤◌, Bool, true, false, cond, nat_lt, List, [], ◌∷◌, ◌++◌, ◌||◌, ◌==◌, ◌⊎◌, inl, inr, refl, sym, ap, ◌∙◌, subst, ⊎_elim, append_assoc, Option, is_some, length, take, drop, arith, length-append, take_all, drop_at, drop_all, take-append-drop, length-take-le, All-nil, All-cons, and_parts, or_cases, cases_lt, false≢true, eqb-true, eq-eqb, ltb-true, encodes-append, encodes-chars, chars-encodes, scalars-chars, utf8_valid_len_le, encodes, scalars, All, chars, utf8_valid_len, utf8_error_len, Dialect, Kind, LongString, End, Shape, Live, kind_of, is_live, is_fit, Place, past, Tail, Outcome, Reading, blank, three_quotes, only_long, with_length, longest, over, is_empty, chosen, decided, by_tail, rest_of, with_token, end_tokens, stop_place, ended, broken, undecided, complete, token_too_long, bad_utf8, no_token, bad_escape, first_place, good, mark, tail_of, end_of, tokens_of, text_at, IsLongest, HasNoFront, LongestIsFound, IsLongestIn, TokensAreLongest, IsOver, IsUnfit, EndsFor, OutcomesHaveReasons}
+use Rattle.std.proofs.Math.Utf8.{scalar}
 use Rattle.rdf_terms.proofs.KindsLemmas.{kind-shape, shape-kind, live-shape}
-use Rattle.rdf_tokens.specs.Tokens.{Place, past, Tail, Outcome, Reading, blank, three_quotes, only_long, with_length, longest, over, is_empty, chosen, decided, by_tail, step, rest_of, place_of, with_token, end_tokens, stop_place}
-use Rattle.rdf_tokens.specs.Tokens.Tail.{goes_on, ended, broken}
+use Rattle.rdf_tokens.specs.Tokens.{step, place_of}
+use Rattle.rdf_tokens.specs.Tokens.Tail.{goes_on}
 use Rattle.rdf_tokens.specs.Tokens.Step.{token, stop}
-use Rattle.rdf_tokens.specs.Tokens.Outcome.{undecided, complete, token_too_long, bad_utf8, no_token, bad_escape}
-use Rattle.rdf_tokens.specs.Good.{first_place, good, mark, tail_of, end_of, tokens_of}
-use Rattle.rdf_tokens.specs.Laws.{text_at, IsFront, IsLongest, HasNoFront, LongestIsFound, IsLongestIn, TokensAreLongest, IsOver, IsUnfit, EndsFor, OutcomesHaveReasons}
+use Rattle.rdf_tokens.specs.Laws.{IsFront}
 use Rattle.rdf_tokens.proofs.GoodLemmas.{good_front}
 use Rattle.rdf_tokens.proofs.PlaceLemmas.{past-encodes, end_of-append}
 use Rattle.rdf_tokens.proofs.StepLemmas.{only_long-kind, decided-token, step-decided}

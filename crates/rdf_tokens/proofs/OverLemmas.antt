@@ -1,25 +1,9 @@
 -- A token is longer than the limit by the states or by a spelling.
-use Rattle.std.proofs.Common.{◌≡◌, ℕ, zero, suc, ◌+◌, ◌-◌, ◌<◌, ◌≤◌, Bool, true, false, cond, nat_lt, List, [], ◌∷◌, ◌&&◌, ◌||◌, ◌⊎◌, inl, inr, refl, sym, ap, ◌∙◌, ⊎_elim, length, take, get_or, nat_le, arith, Option, Some, None, is_some, IsUtf8}
-use Rattle.std.proofs.lemmas.Bool.{and_parts, and_from, cases_lt, lt-ltb, le-ltb, ltb-true, false≢true}
-use Rattle.std.proofs.lemmas.Bool.Decides.{nat_tests}
-use Rattle.std.proofs.lemmas.List.{length-take-le}
-use Rattle.std.proofs.lemmas.Str.{encodes-chars, length-le-encodes}
-use Rattle.std.specs.Prelude.{encode_utf8_all}
-use Rattle.std.specs.Str.{chars}
-use Rattle.rdf_terms.specs.declared.kind.Kind.{Kind}
-use Rattle.rdf_terms.specs.declared.kind.Dialect.{Dialect}
+use Rattle.rdf_tokens.proofs.Prelude.{◌≡◌, ℕ, zero, suc, ◌+◌, ◌-◌, ◌<◌, ◌≤◌, Bool, true, false, cond, nat_lt, List, [], ◌∷◌, ◌&&◌, ◌||◌, ◌⊎◌, inl, inr, refl, sym, ap, ◌∙◌, ⊎_elim, length, take, get_or, nat_le, arith, Option, Some, None, is_some, IsUtf8, and_parts, and_from, cases_lt, lt-ltb, le-ltb, ltb-true, false≢true, nat_tests, length-take-le, encodes-chars, length-le-encodes, encode_utf8_all, chars, Kind, Dialect, fixed, kind_of, is_live, or_else, State, over, IsChars, Row, fits, is_done, is_begun, kind_by, live_by, rows_of, kind_by_table, live_by_table, IsAt, begins, state_of, NoNames, HasNoNames, Ends, ends_within, shaped_over, row_over, fixed_over, HasCome}
 use Rattle.rdf_terms.specs.Classes.{is_letter}
-use Rattle.rdf_terms.specs.Shapes.{fixed, kind_of, is_live, or_else}
-use Rattle.rdf_tokens.specs.declared.states.machine.State.{State}
-use Rattle.rdf_tokens.specs.Tokens.{over}
-use Rattle.rdf_tokens.specs.Machines.{IsChars}
 use Rattle.rdf_tokens.specs.Machine.{kind_at, goes_on}
-use Rattle.rdf_tokens.specs.Fixed.{Row, fits, left, is_done, is_begun, kind_by, live_by, rows_of, kind_by_table, live_by_table}
-use Rattle.rdf_tokens.specs.Front.{IsAt, begins, state_of}
-use Rattle.rdf_tokens.specs.declared.front.NoNames.{NoNames}
+use Rattle.rdf_tokens.specs.Fixed.{left}
 use Rattle.rdf_tokens.specs.declared.over.Begun.{Begun}
-use Rattle.rdf_tokens.specs.NoNames.{HasNoNames, Ends, ends_within}
-use Rattle.rdf_tokens.specs.Over.{shaped_over, row_over, fixed_over, HasCome}
 use Rattle.rdf_tokens.proofs.ByteLemmas.{at-end, chars_take, is-chars}
 use Rattle.rdf_tokens.proofs.MachineLemmas.{whole-kind, whole-live}
 use Rattle.rdf_tokens.proofs.SpellingLemmas.{short, is_low, all_low, rows_low, begins_bytes}

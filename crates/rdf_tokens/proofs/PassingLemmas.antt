@@ -1,18 +1,6 @@
 -- Bytes that a scanner passes are read.
-use Rattle.std.proofs.Common.{◌≡◌, ◌||◌, ◌&&◌, ◌==◌, ℕ, Bool, true, false, not, List, [], ◌∷◌, ◌++◌, refl, sym, ap, ◌∙◌, subst, length, take, drop, is_some, arith}
-use Rattle.std.specs.Str.{chars, IsUtf8}
-use Rattle.std.specs.Str.Lossy.{utf8_valid_len, utf8_error_len}
-use Rattle.std.proofs.lemmas.Bool.{cond-false, and_parts, eqb-true}
-use Rattle.std.proofs.lemmas.List.{append-nil, take_all, drop_all}
-use Rattle.std.proofs.lemmas.Str.{utf8_valid_len-IsUtf8}
-use Rattle.rdf_terms.specs.declared.kind.Dialect.{Dialect}
-use Rattle.rdf_tokens.specs.Tokens.{Place, Token, past, tokens, with_tokens, is_empty}
+use Rattle.rdf_tokens.proofs.Prelude.{◌≡◌, ◌||◌, ◌&&◌, ◌==◌, ℕ, Bool, true, false, not, List, [], ◌∷◌, ◌++◌, refl, sym, ap, ◌∙◌, subst, length, take, drop, is_some, arith, chars, IsUtf8, utf8_valid_len, utf8_error_len, cond-false, and_parts, eqb-true, append-nil, take_all, drop_all, utf8_valid_len-IsUtf8, Dialect, Place, Token, past, tokens, with_tokens, is_empty, undecided, good, tokens_of, Unread, beyond, grown, rest_of_bytes, is_broken, Moves, HasScanned}
 use Rattle.rdf_tokens.specs.Tokens.Tail.{goes_on}
-use Rattle.rdf_tokens.specs.Tokens.Outcome.{undecided}
-use Rattle.rdf_tokens.specs.Good.{good, tokens_of}
-use Rattle.rdf_tokens.specs.Unread.{Unread}
-use Rattle.rdf_tokens.specs.Moves.{beyond, grown, rest_of_bytes, is_broken, Moves}
-use Rattle.rdf_tokens.specs.Scans.{HasScanned}
 use Rattle.rdf_tokens.specs.Passing.{is_idle, passed, Spells, PassedTokensAreRead}
 use Rattle.rdf_tokens.proofs.GoodLemmas.{utf8_error_len-nil}
 use Rattle.rdf_tokens.proofs.PlaceLemmas.{past-chars}

@@ -1,14 +1,6 @@
 -- The good text of bytes whose front is good already, or can never be.
-use Rattle.std.proofs.Common.{◌≡◌, ℕ, ◌+◌, ◌-◌, ◌≤◌, Bool, true, false, cond, List, [], ◌++◌, ◌||◌, ◌==◌, refl, sym, ap, ◌∙◌, subst, is_some, length, take, drop, arith, length-append}
-use Rattle.std.proofs.Math.Seq.{take-append-add, drop-append-add}
-use Rattle.std.proofs.lemmas.Bool.{cond-true, cond-false, or_right, eqb-true, false_from_ne_true, false≢true}
-use Rattle.std.proofs.lemmas.Bool.Decides.{nat_tests}
-use Rattle.std.proofs.lemmas.List.{take-append-le, drop-append-le, take_at, drop_at, drop_all}
-use Rattle.std.proofs.lemmas.Str.{IsUtf8-append, IsUtf8-drop, IsCharBoundary-from_take, utf8_valid_len_le, chars-append}
-use Rattle.std.specs.Str.{chars, IsUtf8}
-use Rattle.std.specs.Str.Lossy.{utf8_valid_len, utf8_error_len}
-use Rattle.rdf_tokens.specs.Tokens.Tail.{goes_on, ended, broken}
-use Rattle.rdf_tokens.specs.Good.{good, tail_of}
+use Rattle.rdf_tokens.proofs.Prelude.{◌≡◌, ℕ, ◌+◌, ◌-◌, ◌≤◌, Bool, true, false, cond, List, [], ◌++◌, ◌||◌, ◌==◌, refl, sym, ap, ◌∙◌, subst, is_some, length, take, drop, arith, length-append, take-append-add, drop-append-add, cond-true, cond-false, or_right, eqb-true, false_from_ne_true, false≢true, nat_tests, take-append-le, drop-append-le, take_at, drop_at, drop_all, IsUtf8-append, IsUtf8-drop, IsCharBoundary-from_take, utf8_valid_len_le, chars-append, chars, IsUtf8, utf8_valid_len, utf8_error_len, ended, broken, good, tail_of}
+use Rattle.rdf_tokens.specs.Tokens.Tail.{goes_on}
 use Rattle.rdf_tokens.proofs.GoodLemmas.{at_least, good_front, valid_broken, error_more, utf8_error_len-nil}
 
 module _ (u y : List ℕ) (text : IsUtf8 u) where

@@ -1,25 +1,12 @@
 -- A token that is seen before it is taken: the white space before it, and that it is the next step.
-use Rattle.std.proofs.Common.{◌≡◌, ℕ, zero, suc, ◌+◌, ◌-◌, ◌≤◌, ◌==◌, Bool, true, false, cond, not, nat_lt, List, [], ◌∷◌, ◌++◌, ◌<◌, refl, sym, ap, ◌∙◌, subst, length, length-append, length-drop, get_or, take, drop, count_by, arith, Option, Some, None, IsUtf8, ⊎_elim}
-use Rattle.std.specs.Prelude.{◌&&◌, IfSome, encode_utf8_all}
-use Rattle.std.specs.Str.{chars, IsCharBoundary}
-use Rattle.std.proofs.lemmas.Bool.{and_parts, cases_Bool, eqb-true, ltb-true, or_left, true≢false}
-use Rattle.std.proofs.lemmas.List.{append-nil, drop-take, get_or-take, length-take-le, take-append-drop}
-use Rattle.std.proofs.lemmas.Str.{encodes-append, encodes-chars, IsCharBoundary-after_ascii, IsCharBoundary-start}
-use Rattle.rdf_terms.specs.Classes.{is_letter, is_turtle}
-use Rattle.rdf_terms.specs.Runs.{IsRun, PassBetween, is_name_byte, is_unescaped}
+use Rattle.rdf_tokens.proofs.Prelude.{◌≡◌, ℕ, zero, suc, ◌+◌, ◌-◌, ◌≤◌, ◌==◌, Bool, true, false, cond, not, nat_lt, List, [], ◌∷◌, ◌++◌, ◌<◌, refl, sym, ap, ◌∙◌, subst, length, length-append, length-drop, get_or, take, drop, count_by, arith, Option, Some, None, IsUtf8, ⊎_elim, ◌&&◌, IfSome, encode_utf8_all, chars, IsCharBoundary, and_parts, cases_Bool, eqb-true, ltb-true, or_left, true≢false, append-nil, drop-take, get_or-take, length-take-le, take-append-drop, encodes-append, encodes-chars, IsCharBoundary-after_ascii, IsCharBoundary-start, is_turtle, IsRun, PassBetween, is_name_byte, is_unescaped, Dialect, Lines, Turtle, comment_after, bytes_of, IsLook, BeginsChar, GivesWithColon, MovesBytes, Moves, Stands, moved, tail_now, IsBare, IsPeeked, IsSeen, MayPeek, Sees, TakesSeen, is_local, one_space, is_colon, is_name_end, stands_at, HasScanned, IsPlainName, PassesBlank, KnowsColon, is_end, token_of, Place, Tail, blank, over, past, rest_of, Unread}
+use Rattle.rdf_terms.specs.Classes.{is_letter}
 use Rattle.rdf_terms.specs.Terms.{all_have}
 use Rattle.rdf_terms.proofs.EscapesLemmas.{slice_passes}
-use Rattle.rdf_terms.specs.declared.kind.Dialect.{Dialect}
-use Rattle.rdf_terms.specs.declared.kind.Dialect.TheVariants.{Lines, Turtle}
-use Rattle.rdf_tokens.specs.Blank.{comment_after}
-use Rattle.rdf_tokens.specs.Front.{bytes_of}
-use Rattle.rdf_tokens.specs.Look.{IsLook}
-use Rattle.rdf_tokens.specs.Moves.{BeginsChar, GivesWithColon, MovesBytes, Moves, Stands, moved, tail_now}
-use Rattle.rdf_tokens.specs.Peek.{IsBare, IsPeeked, IsSeen, MayPeek, Sees, TakesSeen, is_local, is_plain, one_space}
-use Rattle.rdf_tokens.specs.Quick.{IsToken, is_colon, is_name_end, stands_at}
-use Rattle.rdf_tokens.specs.Scans.{HasScanned, IsPlainName, PassesBlank, KnowsColon, is_end, left, token_of}
-use Rattle.rdf_tokens.specs.Tokens.{Place, Tail, blank, over, past, rest_of, step}
-use Rattle.rdf_tokens.specs.Unread.{Unread}
+use Rattle.rdf_tokens.specs.Peek.{is_plain}
+use Rattle.rdf_tokens.specs.Quick.{IsToken}
+use Rattle.rdf_tokens.specs.Scans.{left}
+use Rattle.rdf_tokens.specs.Tokens.{step}
 use Rattle.rdf_tokens.specs.declared.look.Look.TheVariants.{Token as IsAt}
 use Rattle.rdf_tokens.specs.declared.peek.Peeked.{Peeked}
 use Rattle.rdf_tokens.specs.declared.token.Token.{Token as Given}

@@ -1,16 +1,5 @@
 -- Places after bytes, and after the characters that they spell.
-use Rattle.std.proofs.Common.{◌≡◌, ℕ, ◌+◌, ◌/◌, ◌%◌, ◌≤◌, cond, List, [], ◌∷◌, ◌++◌, ◌==◌, refl, sym, ap, ◌∙◌, ⊎_elim, arith, length-append}
-use Rattle.std.proofs.lemmas.Bool.{cases_lt}
-use Rattle.std.proofs.lemmas.Bool.Decides.{nat_tests}
-use Rattle.std.proofs.lemmas.List.Sums.{sum_by-append}
-use Rattle.std.proofs.lemmas.Str.{chars-encodes, length-encode}
-use Rattle.std.proofs.Math.Utf8.{encode, encodes}
-use Rattle.std.specs.Char.{len_utf8}
-use Rattle.std.specs.List.{count_by}
-use Rattle.std.specs.Str.{chars, IsUtf8}
-use Rattle.rdf_tokens.specs.Tokens.{Place, past}
-use Rattle.rdf_tokens.specs.Good.{end_of}
-use Rattle.rdf_tokens.specs.Moves.{beyond}
+use Rattle.rdf_tokens.proofs.Prelude.{◌≡◌, ℕ, ◌+◌, ◌/◌, ◌%◌, ◌≤◌, cond, List, [], ◌∷◌, ◌++◌, ◌==◌, refl, sym, ap, ◌∙◌, ⊎_elim, arith, length-append, cases_lt, nat_tests, sum_by-append, chars-encodes, length-encode, encode, encodes, len_utf8, count_by, chars, IsUtf8, Place, past, end_of, beyond}
 use Rattle.rdf_tokens.proofs.GoodLemmas.{encode_one, encode_two, encode_three, encode_four}
 
 -- how many line feeds there are

@@ -1,32 +1,13 @@
 -- References and labels whose bytes are plain up to their end, and strings with one quote at each end.
-use Rattle.std.proofs.Common.{◌≡◌, ℕ, ◌+◌, ◌<◌, Bool, true, false, nat_lt, List, [], ◌∷◌, ◌&&◌, ◌||◌, ◌==◌, not, refl, sym, ap, ◌∙◌, subst, length, get_or, take, drop, arith, Option, Some, None, IsUtf8}
-use Rattle.std.proofs.lemmas.Bool.{agree_below, agree_below_at, and_parts, false≢true, eqb-true, ltb-true}
-use Rattle.std.proofs.lemmas.Bool.Decides.{nat_tests}
-use Rattle.std.proofs.lemmas.List.{drop_more}
-use Rattle.std.proofs.lemmas.Str.{encode_ascii, length-encode}
-use Rattle.std.specs.Str.{chars}
-use Rattle.rdf_terms.specs.declared.kind.Kind.{Kind}
-use Rattle.rdf_terms.specs.declared.kind.Kind.TheVariants.{IriRef, ShortString, LabelNode}
-use Rattle.rdf_terms.specs.declared.kind.Dialect.{Dialect}
-use Rattle.rdf_terms.specs.declared.kind.Dialect.TheVariants.{Lines, Turtle}
-use Rattle.rdf_terms.specs.Shapes.{fixed}
-use Rattle.rdf_terms.specs.Runs.{IsRun, goes_over, iri_byte, is_name_byte, is_unescaped}
-use Rattle.rdf_terms.specs.Values.{is_fit}
+use Rattle.rdf_tokens.proofs.Prelude.{◌≡◌, ℕ, ◌+◌, ◌<◌, Bool, true, false, nat_lt, List, [], ◌∷◌, ◌&&◌, ◌||◌, ◌==◌, not, refl, sym, ap, ◌∙◌, subst, length, get_or, take, drop, arith, Option, Some, None, IsUtf8, agree_below, agree_below_at, and_parts, false≢true, eqb-true, ltb-true, nat_tests, drop_more, encode_ascii, length-encode, chars, Kind, IriRef, ShortString, LabelNode, Dialect, Lines, Turtle, fixed, IsRun, goes_over, iri_byte, is_name_byte, is_unescaped, is_fit, utf8_bytes, State, Quote, Single, FitsInIri, FitsInString, RestsInIri, with_length, three_quotes, only_long, live_by, rows_of, IsAt, Reached, front_by, short_run, stands_at, begins_label, begins_label_name, quote_byte, has_quote, opens_with, begins_string, is_empty_string, begins_iri, ends_name, is_name_end}
 use Rattle.rdf_terms.proofs.PlainTokens.{valued_iri_fit, valued_string_fit}
-use Rattle.rdf_terms.proofs.ValueBytes.{utf8_bytes}
-use Rattle.rdf_tokens.specs.declared.states.machine.State.{State}
 use Rattle.rdf_tokens.specs.declared.states.machine.State.TheVariants.{Start, Iri, Text, Label}
 use Rattle.rdf_tokens.specs.declared.states.iri.Iri.TheVariants as iri
 use Rattle.rdf_tokens.specs.declared.states.label.Label.TheVariants as label
 use Rattle.rdf_tokens.specs.declared.states.text.Text.TheVariants as text
-use Rattle.rdf_tokens.specs.declared.states.text.Quote.{Quote}
-use Rattle.rdf_tokens.specs.declared.states.text.Quote.TheVariants.{Double, Single}
-use Rattle.rdf_tokens.specs.Escapes.{FitsInIri, FitsInString, RestsInIri}
-use Rattle.rdf_tokens.specs.Tokens.{with_length, three_quotes, only_long}
-use Rattle.rdf_tokens.specs.Fixed.{live_by, rows_of}
-use Rattle.rdf_tokens.specs.Front.{IsAt, Reached, front_by}
+use Rattle.rdf_tokens.specs.declared.states.text.Quote.TheVariants.{Double}
 use Rattle.rdf_tokens.specs.Machine.{step, kind_at}
-use Rattle.rdf_tokens.specs.Quick.{IsToken, is_plain, short_run, stands_at, begins_label, begins_label_name, quote_byte, has_quote, opens_with, begins_string, is_empty_string, begins_iri, ends_name, is_name_end}
+use Rattle.rdf_tokens.specs.Quick.{IsToken, is_plain}
 use Rattle.rdf_tokens.proofs.ByteLemmas.{at-start, ascii_first}
 use Rattle.rdf_tokens.proofs.FitEscapes.{fits_byte, fits_iri_run, fits_none, fits_run, fits-more, fits-value, short_slash}
 use Rattle.rdf_tokens.proofs.NoNamesLemmas.{implied, no_long, one_on}

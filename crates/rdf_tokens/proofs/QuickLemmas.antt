@@ -1,28 +1,13 @@
 -- Tokens that the first bytes of a text settle: the states end after them, and no spelling is longer or begins so.
-use Rattle.std.proofs.Common.{◌≡◌, ℕ, zero, suc, ◌+◌, ◌<◌, ◌≤◌, Bool, true, false, cond, nat_lt, List, [], ◌∷◌, ◌&&◌, ◌||◌, ◌==◌, not, refl, sym, ap, ◌∙◌, subst, length, get_or, take, drop, inl, inr, arith, Option, Some, None, IsUtf8, lt-ltb}
-use Rattle.std.proofs.lemmas.Bool.{agree_below_at, and_parts, false≢true, eqb-true, ltb-true}
-use Rattle.std.proofs.lemmas.Bool.Decides.{nat_tests}
-use Rattle.std.proofs.lemmas.Str.{encode_ascii, length-encode}
-use Rattle.std.specs.Str.{chars}
-use Rattle.rdf_terms.specs.declared.kind.Kind.{Kind}
-use Rattle.rdf_terms.specs.declared.kind.Kind.TheVariants.{A, Carets, Dot, LineEnd, Semicolon, Comma, OpenBracket, CloseBracket, OpenParen, CloseParen, OpenBrace, CloseBrace, PnameNs, PnameLn}
-use Rattle.rdf_terms.specs.declared.kind.Dialect.{Dialect}
-use Rattle.rdf_terms.specs.declared.kind.Dialect.TheVariants.{Lines, Turtle}
-use Rattle.rdf_terms.specs.Classes.{is_digit, is_letter}
-use Rattle.rdf_terms.specs.Shapes.{fixed}
-use Rattle.rdf_terms.specs.Runs.{IsRun, is_name_byte}
-use Rattle.rdf_terms.specs.Values.{is_fit}
-use Rattle.rdf_tokens.specs.declared.front.NoNames.{NoNames}
-use Rattle.rdf_tokens.specs.declared.states.machine.State.{State}
+use Rattle.rdf_tokens.proofs.Prelude.{◌≡◌, ℕ, zero, suc, ◌+◌, ◌<◌, ◌≤◌, Bool, true, false, cond, nat_lt, List, [], ◌∷◌, ◌&&◌, ◌||◌, ◌==◌, not, refl, sym, ap, ◌∙◌, subst, length, get_or, take, drop, inl, inr, arith, Option, Some, None, IsUtf8, lt-ltb, agree_below_at, and_parts, false≢true, eqb-true, ltb-true, nat_tests, encode_ascii, length-encode, chars, Kind, A, Carets, LineEnd, Semicolon, Comma, OpenBracket, CloseBracket, OpenParen, CloseParen, OpenBrace, CloseBrace, PnameNs, PnameLn, Dialect, Lines, Turtle, is_digit, fixed, IsRun, is_name_byte, is_fit, NoNames, State, with_length, three_quotes, only_long, Row, fits, is_begun, live_by, rows_of, Reached, kind_here, longer_front, begins, row_front, front_by, state_of, LeadsIn, RestsInLocal, IsQuick, single, is_sought, is_named, IsPrefix, is_colon, ends_name, is_name_end, is_a, is_dot, BeginsNumber, begins_number, begins_signed, is_sign, are_carets, stands_at, is_over, is_last, ends_local}
+use Rattle.rdf_terms.specs.declared.kind.Kind.TheVariants.{Dot}
+use Rattle.rdf_terms.specs.Classes.{is_letter}
 use Rattle.rdf_tokens.specs.declared.states.machine.State.TheVariants.{Start, Name, Number}
 use Rattle.rdf_tokens.specs.declared.states.name.Name.TheVariants as name
 use Rattle.rdf_tokens.specs.declared.states.number.Number.TheVariants as number
-use Rattle.rdf_tokens.specs.Tokens.{with_length, three_quotes, only_long}
-use Rattle.rdf_tokens.specs.Fixed.{Row, fits, left, is_begun, live_by, rows_of}
-use Rattle.rdf_tokens.specs.Front.{Reached, kind_here, longer_front, begins, row_front, front_by, state_of}
-use Rattle.rdf_tokens.specs.Local.{LeadsIn, RestsInLocal}
+use Rattle.rdf_tokens.specs.Fixed.{left}
 use Rattle.rdf_tokens.specs.Machine.{step, kind_at, goes_on}
-use Rattle.rdf_tokens.specs.Quick.{IsToken, IsQuick, single, is_sought, is_named, IsPrefix, is_colon, ends_name, is_name_end, is_a, is_dot, BeginsNumber, begins_number, begins_signed, is_sign, are_carets, stands_at, is_over, is_last, ends_local}
+use Rattle.rdf_tokens.specs.Quick.{IsToken}
 use Rattle.rdf_tokens.proofs.ByteLemmas.{at-start, ascii_first}
 use Rattle.rdf_tokens.proofs.NoNamesLemmas.{implied, low-letter, letter_steps, no_long, no_quotes, one_on}
 use Rattle.rdf_tokens.proofs.RestLemmas.{reached-run}

@@ -1,19 +1,8 @@
 -- How reading goes on.
-use Rattle.std.proofs.Common.{◌+◌, ◌≡◌, ℕ, ◌<◌, ◌≤◌, min, Bool, true, false, cond, List, [], ◌∷◌, ◌++◌, ◌||◌, ◌==◌, inl, inr, refl, sym, ap, ◌∙◌, subst, append_assoc, is_some, length, take, drop, arith}
-use Rattle.std.proofs.lemmas.List.{length-take-le, append-nil, take-append-drop}
-use Rattle.std.proofs.lemmas.Bool.{cond-true, cond-false}
-use Rattle.std.proofs.lemmas.Bool.Decides.{nat_tests}
-use Rattle.std.proofs.lemmas.Str.{chars-nil}
-use Rattle.std.specs.Str.{chars}
-use Rattle.std.specs.Str.Lossy.{utf8_valid_len, utf8_error_len}
-use Rattle.rdf_tokens.specs.Tokens.{Token, Reading, is_empty, with_tokens}
-use Rattle.rdf_tokens.specs.Tokens.Tail.{goes_on, ended, broken}
-use Rattle.rdf_terms.specs.declared.kind.Dialect.{Dialect}
-use Rattle.rdf_tokens.specs.Good.{first_place, good, tail_of, tokens_at, tokens_of}
-use Rattle.rdf_tokens.specs.Held.{all_bytes}
-use Rattle.rdf_tokens.specs.Unread.{Unread}
-use Rattle.rdf_tokens.specs.Scans.{most_bytes, reading_by, reading_of, Reads, HasScanned, PassesBlank, SameButHeld, SameScan, IsOpen, TakesBytes, unread_bytes, most_unread, fitting, at_once}
-use Rattle.rdf_tokens.specs.Moves.{beyond, BeginsChar, good_bytes, rest_of_bytes, is_broken, counted, lengthened, grown, tail_now, moved, Moves}
+use Rattle.rdf_tokens.proofs.Prelude.{◌+◌, ◌≡◌, ℕ, ◌<◌, ◌≤◌, min, Bool, true, false, cond, List, [], ◌∷◌, ◌++◌, ◌||◌, ◌==◌, inl, inr, refl, sym, ap, ◌∙◌, subst, append_assoc, is_some, length, take, drop, arith, length-take-le, append-nil, take-append-drop, cond-true, cond-false, nat_tests, chars-nil, chars, utf8_valid_len, utf8_error_len, Token, Reading, is_empty, with_tokens, ended, broken, Dialect, first_place, good, tail_of, tokens_at, tokens_of, all_bytes, Unread, most_bytes, reading_by, Reads, HasScanned, PassesBlank, SameButHeld, SameScan, IsOpen, TakesBytes, unread_bytes, most_unread, fitting, at_once, beyond, BeginsChar, good_bytes, rest_of_bytes, is_broken, lengthened, grown, tail_now, moved, Moves}
+use Rattle.rdf_tokens.specs.Tokens.Tail.{goes_on}
+use Rattle.rdf_tokens.specs.Scans.{reading_of}
+use Rattle.rdf_tokens.specs.Moves.{counted}
 use Rattle.rdf_tokens.proofs.GoodLemmas.{good_front}
 use Rattle.rdf_tokens.proofs.PlaceLemmas.{end_of-append}
 use Rattle.rdf_tokens.proofs.PastGood.{good_past, tail_past, good_broken, still_broken, tail_broken}

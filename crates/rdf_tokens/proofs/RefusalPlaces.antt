@@ -1,14 +1,6 @@
 -- The place of a refusal is one of the bytes.
-use Rattle.std.proofs.Common.{◌≡◌, ℕ, ◌+◌, Bool, List, [], ◌∷◌, ◌++◌, length, take, sym, ap, subst, count_by, ◌==◌, arith}
-use Rattle.std.specs.List.{All}
-use Rattle.std.proofs.lemmas.List.Elements.{All-head, All-tail}
-use Rattle.std.proofs.lemmas.List.{length-take-le}
-use Rattle.rdf_terms.specs.declared.reason.Reason.{Reason}
-use Rattle.rdf_terms.specs.declared.reason.Reason.TheVariants.{BadUtf8, NoToken, BadEscape, TokenTooLong, DocumentTooLong, Memory, Ended, Sink}
-use Rattle.rdf_tokens.specs.Tokens.{Place, Outcome, Token}
-use Rattle.rdf_tokens.specs.Laws.{IsPlaceIn, StandsIn}
-use Rattle.rdf_tokens.specs.Grammars.{IsTooLong, LanguageOf, Refused, RefusedIn, StopsAt, reading_of}
-use Rattle.rdf_tokens.specs.Scans.{most_bytes}
+use Rattle.rdf_tokens.proofs.Prelude.{◌≡◌, ℕ, ◌+◌, Bool, List, [], ◌∷◌, ◌++◌, length, take, sym, ap, subst, count_by, ◌==◌, arith, All, All-head, All-tail, length-take-le, Reason, BadUtf8, NoToken, BadEscape, TokenTooLong, DocumentTooLong, Memory, Ended, Sink, Place, Outcome, Token, IsPlaceIn, StandsIn, IsTooLong, LanguageOf, Refused, RefusedIn, StopsAt, most_bytes}
+use Rattle.rdf_tokens.specs.Grammars.{reading_of}
 use Rattle.rdf_tokens.proofs.LawLemmas.{places}
 
 -- a token of a list

@@ -1,36 +1,19 @@
 -- A whole escape leads from the state within a string or an IRI back to it.
-use Rattle.std.proofs.Common.{◌≡◌, ℕ, zero, suc, ◌+◌, ◌<◌, ◌≤◌, Bool, true, false, not, ◌||◌, ◌⊎◌, List, ◌++◌, get_or, nat_le, ◌&&◌, ◌==◌, refl, sym, ap, ◌∙◌, subst, arith, ⊎_elim, length, drop, Option, None}
-use Rattle.std.specs.Str.{chars}
-use Rattle.std.proofs.lemmas.Bool.{agree_below, agree_below_at, and_parts, cases_lt, eqb-true, leb-true, false≢true}
-use Rattle.std.proofs.lemmas.Bool.Decides.{nat_tests}
-use Rattle.std.proofs.lemmas.List.{drop_more}
-use Rattle.std.proofs.lemmas.Str.{encode_ascii, len_utf8_ascii}
-use Rattle.rdf_terms.specs.declared.kind.Dialect.{Dialect}
-use Rattle.rdf_terms.specs.declared.kind.Kind.{Kind}
-use Rattle.rdf_terms.specs.declared.runs.Run.{Run}
-use Rattle.rdf_terms.specs.Classes.{has}
-use Rattle.rdf_terms.specs.Classes.Class.{hex_digit}
+use Rattle.rdf_tokens.proofs.Prelude.{◌≡◌, ℕ, zero, suc, ◌+◌, ◌<◌, ◌≤◌, Bool, true, false, not, ◌||◌, ◌⊎◌, List, ◌++◌, get_or, nat_le, ◌&&◌, ◌==◌, refl, sym, ap, ◌∙◌, subst, arith, ⊎_elim, length, drop, Option, None, chars, agree_below, agree_below_at, and_parts, cases_lt, eqb-true, leb-true, false≢true, nat_tests, drop_more, encode_ascii, len_utf8_ascii, Dialect, Kind, Run, has, hex_digit, PassBetween, State, Quote, Single, Reached, Rests, kind_here, long_run, short_run, sort_by, with_length, only_long, three_quotes, is_hex, IsEchar, IsEscapeThen, RestsInIri}
 use Rattle.rdf_terms.specs.Escapes.{IsUchar, IsUcharOf}
-use Rattle.rdf_terms.specs.Runs.{PassBetween}
-use Rattle.rdf_tokens.specs.declared.states.machine.State.{State}
 use Rattle.rdf_tokens.specs.declared.states.machine.State.TheVariants as state
 use Rattle.rdf_tokens.specs.declared.states.iri.Iri.TheVariants as iri_state
 use Rattle.rdf_tokens.specs.declared.states.iri.Sort.{Sort as IriSort}
 use Rattle.rdf_tokens.specs.declared.states.iri.Sort.TheVariants as iri_sort
-use Rattle.rdf_tokens.specs.declared.states.text.Quote.{Quote}
-use Rattle.rdf_tokens.specs.declared.states.text.Quote.TheVariants.{Double, Single}
+use Rattle.rdf_tokens.specs.declared.states.text.Quote.TheVariants.{Double}
 use Rattle.rdf_tokens.specs.declared.states.text.Text.{Text}
 use Rattle.rdf_tokens.specs.declared.states.text.Text.TheVariants as text_state
 use Rattle.rdf_tokens.specs.declared.states.text.Sort.{Sort as TextSort}
 use Rattle.rdf_tokens.specs.declared.states.text.Sort.TheVariants as text_sort
-use Rattle.rdf_tokens.specs.Front.{Reached, Rests, kind_here}
 use Rattle.rdf_tokens.specs.Machine.{step, kind_at}
-use Rattle.rdf_tokens.specs.Quick.{long_run, short_run}
-use Rattle.rdf_tokens.specs.Sorts.{sort_by}
-use Rattle.rdf_tokens.specs.Tokens.{with_length, only_long, three_quotes}
 use Rattle.rdf_tokens.specs.Iri as iri
 use Rattle.rdf_tokens.specs.Text as text
-use Rattle.rdf_tokens.specs.Escapes.{is_hex, is_letter, IsEchar, IsEscapeThen, RestsInIri}
+use Rattle.rdf_tokens.specs.Escapes.{is_letter}
 use Rattle.rdf_tokens.proofs.NoNamesLemmas.{no_long}
 use Rattle.rdf_tokens.proofs.RestLemmas.{rests-more}
 use Rattle.rdf_tokens.proofs.RestStates.{rests_short, rests_long}

@@ -1,18 +1,6 @@
 -- Runs of bytes that leave a state as it is.
-use Rattle.std.proofs.Common.{◌≡◌, ℕ, zero, suc, ◌+◌, ◌-◌, ◌<◌, ◌≤◌, Bool, true, false, List, [], ◌∷◌, ◌++◌, ⊎_elim, get_or, refl, sym, ap, ◌∙◌, subst, length, length-append, length-drop, drop, arith, encode_utf8, Option, Some, None, IsUtf8}
-use Rattle.std.specs.Prelude.{encode_utf8_all}
-use Rattle.std.specs.Char.{len_utf8}
-use Rattle.std.specs.Str.{chars}
-use Rattle.std.proofs.lemmas.Bool.{cases_lt}
-use Rattle.std.proofs.lemmas.List.{get_or-drop, get_or_append_left}
-use Rattle.std.proofs.lemmas.Str.{encode_ascii, length-encode, len_utf8_bounds, drop_past_char}
-use Rattle.rdf_terms.specs.Runs.{IsRun}
-use Rattle.rdf_terms.specs.declared.kind.Dialect.{Dialect}
-use Rattle.rdf_terms.specs.declared.kind.Kind.{Kind}
-use Rattle.rdf_tokens.specs.declared.states.machine.State.{State}
-use Rattle.rdf_tokens.specs.Front.{Reached, Rests, Stays, kind_here}
+use Rattle.rdf_tokens.proofs.Prelude.{◌≡◌, ℕ, zero, suc, ◌+◌, ◌-◌, ◌<◌, ◌≤◌, Bool, true, false, List, [], ◌∷◌, ◌++◌, ⊎_elim, get_or, refl, sym, ap, ◌∙◌, subst, length, length-append, length-drop, drop, arith, encode_utf8, Option, Some, None, IsUtf8, encode_utf8_all, len_utf8, chars, cases_lt, get_or-drop, get_or_append_left, encode_ascii, length-encode, len_utf8_bounds, drop_past_char, IsRun, Dialect, Kind, State, Reached, Rests, Stays, kind_here, with_length, three_quotes, only_long}
 use Rattle.rdf_tokens.specs.Machine.{step, kind_at}
-use Rattle.rdf_tokens.specs.Tokens.{with_length, three_quotes, only_long}
 use Rattle.rdf_tokens.proofs.BlankLemmas.{high-encode}
 use Rattle.rdf_tokens.proofs.StateLemmas.{reached-step}
 

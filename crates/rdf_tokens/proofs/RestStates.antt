@@ -1,23 +1,14 @@
 -- The states that a run of bytes leaves as they are, by a test of each byte.
-use Rattle.std.proofs.Common.{◌≡◌, ℕ, ◌<◌, ◌==◌, Bool, true, false, not, ◌||◌, nat_lt, List, [], ◌∷◌, get_or, refl, sym, ap, ◌∙◌, arith, ⊎_elim}
-use Rattle.std.proofs.lemmas.Bool.{agree_below, agree_below_at, cases_lt, cond-false, eqb-true, le-ltb, false≢true}
-use Rattle.std.proofs.lemmas.Bool.Decides.{nat_tests}
-use Rattle.rdf_terms.specs.Runs.{goes_over, iri_byte, IsRun, is_long_byte, is_name_byte, is_short_byte}
-use Rattle.rdf_terms.specs.declared.kind.Dialect.{Dialect}
-use Rattle.rdf_tokens.specs.declared.states.machine.State.{State}
+use Rattle.rdf_tokens.proofs.Prelude.{◌≡◌, ℕ, ◌<◌, ◌==◌, Bool, true, false, not, ◌||◌, nat_lt, List, [], ◌∷◌, get_or, refl, sym, ap, ◌∙◌, arith, ⊎_elim, agree_below, agree_below_at, cases_lt, cond-false, eqb-true, le-ltb, false≢true, nat_tests, goes_over, iri_byte, IsRun, is_long_byte, is_name_byte, is_short_byte, Dialect, State, Quote, Single, Rests, long_run, short_run, wide_of}
 use Rattle.rdf_tokens.specs.declared.states.machine.State.TheVariants as state
 use Rattle.rdf_tokens.specs.declared.states.iri.Iri.TheVariants as iri_state
 use Rattle.rdf_tokens.specs.declared.states.label.Label.TheVariants as label_state
-use Rattle.rdf_tokens.specs.declared.states.text.Quote.{Quote}
-use Rattle.rdf_tokens.specs.declared.states.text.Quote.TheVariants.{Double, Single}
+use Rattle.rdf_tokens.specs.declared.states.text.Quote.TheVariants.{Double}
 use Rattle.rdf_tokens.specs.declared.states.text.Text.{Text}
 use Rattle.rdf_tokens.specs.declared.states.text.Text.TheVariants as text_state
 use Rattle.rdf_tokens.specs.declared.states.text.Sort.TheVariants as text_sort
 use Rattle.rdf_tokens.specs.declared.states.name.Name.TheVariants as name_state
-use Rattle.rdf_tokens.specs.Front.{Rests}
 use Rattle.rdf_tokens.specs.Machine.{step}
-use Rattle.rdf_tokens.specs.Quick.{long_run, short_run}
-use Rattle.rdf_tokens.specs.Sorts.{wide_of}
 use Rattle.rdf_tokens.specs.Iri as iri
 use Rattle.rdf_tokens.specs.Text as text
 use Rattle.rdf_tokens.proofs.RestLemmas.{rests_run}

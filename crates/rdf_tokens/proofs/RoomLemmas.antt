@@ -1,19 +1,7 @@
 -- How many bytes a scanner holds, and how many more it can take.
-use Rattle.std.proofs.Common.{◌≡◌, ℕ, ◌+◌, ◌-◌, ◌*◌, ◌/◌, ◌<◌, ◌≤◌, min, Bool, true, false, cond, ◌||◌, List, [], ◌∷◌, refl, sym, ap, ◌∙◌, subst, ⊎_elim, length, take, drop, arith, Some, is_some, encode_utf8, length-append, slice_index}
-use Rattle.std.specs.Prelude.{encode_utf8_all}
+use Rattle.rdf_tokens.proofs.Prelude.{◌≡◌, ℕ, ◌+◌, ◌-◌, ◌*◌, ◌/◌, ◌<◌, ◌≤◌, min, Bool, true, false, cond, ◌||◌, List, [], ◌∷◌, refl, sym, ap, ◌∙◌, subst, ⊎_elim, length, take, drop, arith, Some, is_some, encode_utf8, length-append, slice_index, encode_utf8_all, utf8_error_len, second_byte_min, second_byte_max, cases_lt, lt-ltb, le-ltb, ne_eqb, and_from, false≢true, take-append-drop, len_utf8_bounds, length-encode, Dialect, is_live, live-front, is_empty, over, Unread, BeginsChar, most_bytes, most_unread, unread_bytes, fitting, at_once}
 use Rattle.std.specs.Int.{is_in_range}
-use Rattle.std.specs.Str.Lossy.{utf8_error_len, second_byte_min, second_byte_max}
 use Rattle.std.proofs.Math.Nat.{min-le_left, min-le_right, min-eq_left, min-eq_right, le-min, le-max_left}
-use Rattle.std.proofs.lemmas.Bool.{cases_lt, lt-ltb, le-ltb, ne_eqb, and_from, false≢true}
-use Rattle.std.proofs.lemmas.List.{take-append-drop}
-use Rattle.std.proofs.lemmas.Str.{len_utf8_bounds, length-encode}
-use Rattle.rdf_terms.specs.declared.kind.Dialect.{Dialect}
-use Rattle.rdf_terms.specs.Shapes.{is_live}
-use Rattle.rdf_terms.proofs.ShapesLemmas.{live-front}
-use Rattle.rdf_tokens.specs.Tokens.{is_empty, over}
-use Rattle.rdf_tokens.specs.Unread.{Unread}
-use Rattle.rdf_tokens.specs.Moves.{BeginsChar}
-use Rattle.rdf_tokens.specs.Scans.{most_bytes, most_unread, unread_bytes, fitting, at_once}
 
 -- a character has four bytes at most
 few_bytes : (w : List ℕ) → length (encode_utf8_all w) ≤ 4 * length w

@@ -1,15 +1,7 @@
 -- A class tells characters apart by their sort alone: below 128 by a test of each, and from 128 on by their width.
-use Rattle.std.proofs.Common.{◌≡◌, ℕ, ◌<◌, ◌≤◌, Bool, true, false, cond, List, [], ◌∷◌, ◌||◌, ◌&&◌, ◌==◌, nat_lt, refl, sym, ap, ◌∙◌, arith, ⊎_elim}
+use Rattle.rdf_tokens.proofs.Prelude.{◌≡◌, ℕ, ◌<◌, ◌≤◌, Bool, true, false, cond, List, [], ◌∷◌, ◌||◌, ◌&&◌, ◌==◌, nat_lt, refl, sym, ap, ◌∙◌, arith, ⊎_elim, AllByRecursion, agree_below, agree_below_at, and_parts, cond-false, cases_lt, le-ltb, ltb-true, false≢true, nat_tests, Class, has, is_base, within, the, digit, hex_digit, letter, letter_or_digit, iri_char, local_escape, escape_letter, plain_double, plain_single, long_double, long_single, pn_base, pn_u, pn_char, Lines, Turtle, Wide, Letter, Mark, Other, wide_of, sort_by, is_mark}
 use Rattle.std.specs.Bool.{beq}
-use Rattle.std.specs.List.{AllByRecursion}
-use Rattle.std.proofs.lemmas.Bool.{agree_below, agree_below_at, and_parts, cond-false, cases_lt, le-ltb, ltb-true, false≢true}
-use Rattle.std.proofs.lemmas.Bool.Decides.{nat_tests}
-use Rattle.rdf_terms.specs.Classes.{Class, has, scalar, is_base, within}
-use Rattle.rdf_terms.specs.Classes.Class.{the, digit, hex_digit, letter, letter_or_digit, iri_char, local_escape, escape_letter, plain_double, plain_single, long_double, long_single, pn_base, pn_u, pn_char}
-use Rattle.rdf_terms.specs.declared.kind.Dialect.TheVariants.{Lines, Turtle}
-use Rattle.rdf_tokens.specs.declared.states.wide.Wide.{Wide}
-use Rattle.rdf_tokens.specs.declared.states.wide.Wide.TheVariants.{Letter, Mark, Other}
-use Rattle.rdf_tokens.specs.Sorts.{wide_of, sort_by, is_mark}
+use Rattle.rdf_terms.specs.Classes.{scalar}
 
 -- what a class says of a width
 abbrev pub holds : Class → Wide → Bool

@@ -1,20 +1,6 @@
 -- The longest spelling at the front of a text, by characters and by bytes: spellings are ASCII.
-use Rattle.std.proofs.Common.{true≢false, ◌≡◌, ℕ, zero, suc, ◌+◌, ◌<◌, ◌≤◌, Bool, true, false, cond, nat_lt, List, [], ◌∷◌, ◌++◌, ◌&&◌, ◌||◌, ◌==◌, refl, sym, ap, ◌∙◌, subst, ⊎_elim, length, take, drop, arith, encode_utf8, length-append, Option, Some, None, IsUtf8}
-use Rattle.std.proofs.lemmas.Bool.{and_parts, cases_lt, lt-ltb, le-ltb, ltb-true, eqb-true, or_cases, or_left, or_right, false≢true}
-use Rattle.std.proofs.lemmas.Bool.Decides.{nat_tests}
-use Rattle.std.proofs.lemmas.List.{drop_all, drop_more}
-use Rattle.std.proofs.lemmas.Str.{encode_ascii, char_from_byte, len_utf8_bounds, length-encode, encodes-chars}
-use Rattle.std.specs.Prelude.{encode_utf8_all}
-use Rattle.std.specs.Str.{chars}
-use Rattle.rdf_terms.specs.declared.kind.Kind.{Kind}
-use Rattle.rdf_terms.specs.declared.kind.Dialect.{Dialect}
-use Rattle.rdf_terms.specs.declared.kind.Dialect.TheVariants.{Lines, Turtle}
-use Rattle.rdf_terms.specs.Classes.{is_turtle}
-use Rattle.rdf_terms.specs.Shapes.{fixed, or_else}
-use Rattle.rdf_tokens.specs.Tokens.{three_quotes, only_long, with_length}
-use Rattle.std.specs.List.{slice_get}
-use Rattle.rdf_tokens.specs.Fixed.{Row, fits, left, is_done, is_begun, kind_by, live_by, rows_of, kind_by_table, live_by_table}
-use Rattle.rdf_tokens.specs.Front.{at_first, bytes_of, in_bytes, longest_by, longer_front, begins, row_front, front_by}
+use Rattle.rdf_tokens.proofs.Prelude.{true≢false, ◌≡◌, ℕ, zero, suc, ◌+◌, ◌<◌, ◌≤◌, Bool, true, false, cond, nat_lt, List, [], ◌∷◌, ◌++◌, ◌&&◌, ◌||◌, ◌==◌, refl, sym, ap, ◌∙◌, subst, ⊎_elim, length, take, drop, arith, encode_utf8, length-append, Option, Some, None, IsUtf8, and_parts, cases_lt, lt-ltb, le-ltb, ltb-true, eqb-true, or_cases, or_left, or_right, false≢true, nat_tests, drop_all, drop_more, encode_ascii, char_from_byte, len_utf8_bounds, length-encode, encodes-chars, encode_utf8_all, chars, Kind, Dialect, Lines, Turtle, is_turtle, fixed, or_else, three_quotes, only_long, with_length, slice_get, Row, fits, is_done, is_begun, kind_by, live_by, rows_of, kind_by_table, live_by_table, at_first, bytes_of, in_bytes, longest_by, longer_front, begins, row_front, front_by}
+use Rattle.rdf_tokens.specs.Fixed.{left}
 use Rattle.rdf_tokens.proofs.FrontLemmas.{AtMost, longest_by-or, longest_by-same, longest_by-at_most, in_bytes-longer}
 
 -- a front of n characters is the spelling

@@ -1,15 +1,5 @@
 -- What the loop over a text's states keeps.
-use Rattle.std.proofs.Common.{◌≡◌, ℕ, zero, suc, ◌+◌, ◌-◌, ◌<◌, ◌≤◌, Bool, true, false, List, [], ◌∷◌, ◌++◌, ◌||◌, ◌⊎◌, ⊎_elim, ◌&&◌, cond, get_or, refl, sym, ap, ◌∙◌, subst, length, take, drop, arith, encode_utf8, Option, Some, None, is_some, add-one, IsUtf8}
-use Rattle.std.proofs.lemmas.Bool.{true≢false, cond-false}
-use Rattle.std.proofs.lemmas.List.{take_all, drop_more}
-use Rattle.std.proofs.Math.Seq.{take-add}
-use Rattle.std.specs.Str.{chars}
-use Rattle.std.specs.Char.{len_utf8}
-use Rattle.rdf_terms.specs.declared.kind.Kind.{Kind}
-use Rattle.rdf_terms.specs.declared.kind.Dialect.{Dialect}
-use Rattle.rdf_terms.specs.declared.kind.Dialect.TheVariants.{Lines, Turtle}
-use Rattle.rdf_terms.specs.Shapes.{is_live, kind_of, or_else, fixed}
-use Rattle.rdf_tokens.specs.declared.states.machine.State.{State}
+use Rattle.rdf_tokens.proofs.Prelude.{◌≡◌, ℕ, zero, suc, ◌+◌, ◌-◌, ◌<◌, ◌≤◌, Bool, true, false, List, [], ◌∷◌, ◌++◌, ◌||◌, ◌⊎◌, ⊎_elim, ◌&&◌, cond, get_or, refl, sym, ap, ◌∙◌, subst, length, take, drop, arith, encode_utf8, Option, Some, None, is_some, add-one, IsUtf8, true≢false, cond-false, take_all, drop_more, take-add, chars, len_utf8, Kind, Dialect, Lines, Turtle, is_live, kind_of, or_else, fixed, State, longest, with_length, three_quotes, only_long, Reached, bytes_of, in_bytes, longest_by, longer_front, front_by, state_of, kind_by_states, kind_here, open_state, kind_by_table, rows_of, live_by, run, IsChars, sort_by, closes}
 use Rattle.rdf_tokens.specs.declared.states.machine.State.TheVariants.{Start, Iri, Label, Text, Tag, Number, Name, Dead}
 use Rattle.rdf_tokens.specs.declared.states.iri.Iri.TheVariants as iri_state
 use Rattle.rdf_tokens.specs.declared.states.label.Label.TheVariants as label_state
@@ -17,12 +7,7 @@ use Rattle.rdf_tokens.specs.declared.states.text.Text.TheVariants as text_state
 use Rattle.rdf_tokens.specs.declared.states.tag.Tag.TheVariants as tag_state
 use Rattle.rdf_tokens.specs.declared.states.number.Number.TheVariants as number_state
 use Rattle.rdf_tokens.specs.declared.states.name.Name.TheVariants as name_state
-use Rattle.rdf_tokens.specs.Tokens.{longest, with_length, three_quotes, only_long}
-use Rattle.rdf_tokens.specs.Front.{Reached, bytes_of, in_bytes, longest_by, longer_front, front_by, state_of, kind_by_states, kind_here, open_state}
-use Rattle.rdf_tokens.specs.Fixed.{kind_by_table, rows_of, live_by}
-use Rattle.rdf_tokens.specs.Machines.{run, IsChars}
-use Rattle.rdf_tokens.specs.Sorts.{sort_by}
-use Rattle.rdf_tokens.specs.Text.{ascii, high, closes}
+use Rattle.rdf_tokens.specs.Text.{ascii, high}
 use Rattle.rdf_tokens.specs.Machine.{step, kind_at, goes_on}
 use Rattle.rdf_tokens.proofs.ByteLemmas.{at-start, char-step, at-end, run-append, run-more, chars_take, is-chars}
 use Rattle.rdf_tokens.proofs.FrontLemmas.{longest-by, longest_by-same, longest_by-or, longest_by-at_most, in_bytes-longer}

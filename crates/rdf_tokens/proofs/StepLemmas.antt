@@ -1,14 +1,8 @@
 -- A token that a step gives has the shape of its kind, and fit escapes.
-use Rattle.std.proofs.Common.{◌≡◌, ◌≢◌, ℕ, zero, suc, Bool, true, false, cond, ◌||◌, List, [], ◌∷◌, refl, sym, ap, ◌∙◌, subst, Option, Some, None, length, take}
-use Rattle.rdf_terms.specs.declared.kind.Dialect.{Dialect}
-use Rattle.rdf_terms.specs.declared.kind.Kind.{Kind}
-use Rattle.rdf_terms.specs.declared.kind.Kind.TheVariants.{LongString, End}
-use Rattle.rdf_terms.specs.Shapes.{Shape, shape, kind_of, is_live}
-use Rattle.rdf_terms.specs.Values.{is_fit}
+use Rattle.rdf_tokens.proofs.Prelude.{◌≡◌, ◌≢◌, ℕ, zero, suc, Bool, true, false, cond, ◌||◌, List, [], ◌∷◌, refl, sym, ap, ◌∙◌, subst, Option, Some, None, length, take, Dialect, Kind, LongString, End, Shape, shape, kind_of, is_live, is_fit, Tail, longest, with_length, three_quotes, only_long, over, is_empty, chosen, decided, by_tail, ended, broken, undecided, complete, token_too_long, bad_utf8, no_token, bad_escape}
 use Rattle.rdf_terms.proofs.KindsLemmas.{kind-shape}
-use Rattle.rdf_tokens.specs.Tokens.{Tail, longest, with_length, three_quotes, only_long, over, is_empty, chosen, decided, by_tail, step}
-use Rattle.rdf_tokens.specs.Tokens.Tail.{goes_on, ended, broken}
-use Rattle.rdf_tokens.specs.Tokens.Outcome.{undecided, complete, token_too_long, bad_utf8, no_token, bad_escape}
+use Rattle.rdf_tokens.specs.Tokens.{step}
+use Rattle.rdf_tokens.specs.Tokens.Tail.{goes_on}
 use Rattle.rdf_tokens.specs.Tokens.Step.{token, stop}
 
 -- the kind of the longest front is a kind of that front

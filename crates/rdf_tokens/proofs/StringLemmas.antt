@@ -1,27 +1,12 @@
 -- Strings with one quote at each end: how the states come to a place inside them, and what stands before it means.
-use Rattle.std.proofs.Common.{◌≡◌, ℕ, ◌+◌, ◌-◌, ◌<◌, ◌≤◌, true, false, not, ◌==◌, nat_lt, List, ◌++◌, refl, sym, ap, ◌∙◌, subst, arith, ⊎_elim, length, get_or, drop, inl, inr, lt-ltb, IsUtf8, None, encode_utf8}
-use Rattle.std.specs.Char.{len_utf8}
-use Rattle.std.specs.Str.{chars}
-use Rattle.std.proofs.lemmas.Bool.{and_from, and_parts, cases_lt, cond-false, eqb-true, le-ltb, le-leb, leb-true, lt-leb, ltb-true, ne_eqb}
-use Rattle.std.proofs.lemmas.List.{get_or-drop, get_or_append_left}
-use Rattle.std.proofs.lemmas.Str.{encode_ascii, length-encode, len_utf8_bounds}
-use Rattle.rdf_terms.specs.declared.kind.Dialect.{Dialect}
-use Rattle.rdf_terms.specs.declared.kind.Kind.TheVariants.{ShortString}
-use Rattle.rdf_terms.specs.Runs.{IsRun, goes_over, is_ascii_byte, is_short_byte}
+use Rattle.rdf_tokens.proofs.Prelude.{◌≡◌, ℕ, ◌+◌, ◌-◌, ◌<◌, ◌≤◌, true, false, not, ◌==◌, nat_lt, List, ◌++◌, refl, sym, ap, ◌∙◌, subst, arith, ⊎_elim, length, get_or, drop, inl, inr, lt-ltb, IsUtf8, None, encode_utf8, len_utf8, chars, and_from, and_parts, cases_lt, cond-false, eqb-true, le-ltb, le-leb, leb-true, lt-leb, ltb-true, ne_eqb, get_or-drop, get_or_append_left, encode_ascii, length-encode, len_utf8_bounds, Dialect, ShortString, IsRun, goes_over, is_ascii_byte, is_short_byte, Quote, Single, FitsInString, Reached, opens_with, quote_byte, short_run, stands_at, wide_of, IsFirst, IsHighChar, RestsInQuotes, begins_high, three_quotes, IsFit}
 use Rattle.rdf_tokens.specs.declared.states.machine.State.TheVariants.{Text}
 use Rattle.rdf_tokens.specs.declared.states.text.Sort.TheVariants as sort
 use Rattle.rdf_tokens.specs.declared.states.text.Text.TheVariants as text
-use Rattle.rdf_tokens.specs.declared.states.text.Quote.{Quote}
-use Rattle.rdf_tokens.specs.declared.states.text.Quote.TheVariants.{Double, Single}
-use Rattle.rdf_tokens.specs.Escapes.{FitsInString}
-use Rattle.rdf_tokens.specs.Front.{Reached}
+use Rattle.rdf_tokens.specs.declared.states.text.Quote.TheVariants.{Double}
 use Rattle.rdf_tokens.specs.Machine.{step}
-use Rattle.rdf_tokens.specs.Quick.{IsToken, opens_with, quote_byte, short_run, stands_at}
-use Rattle.rdf_tokens.specs.Sorts.{wide_of}
-use Rattle.rdf_tokens.specs.Strings.{IsFirst, IsHighChar, RestsInQuotes, begins_high}
+use Rattle.rdf_tokens.specs.Quick.{IsToken}
 use Rattle.rdf_tokens.specs.Text as strings
-use Rattle.rdf_tokens.specs.Tokens.{three_quotes}
-use Rattle.rdf_tokens.specs.Walk.{IsFit}
 use Rattle.rdf_tokens.proofs.BlankLemmas.{high-encode}
 use Rattle.rdf_tokens.proofs.FitEscapes.{fits_echar, fits_run, fits_uchar, fits_unescaped, fits-more, short_slash}
 use Rattle.rdf_tokens.proofs.NoNamesLemmas.{no_long}

@@ -1,12 +1,5 @@
 -- The states of language tags against their shape.
-use Rattle.std.proofs.Common.{◌≡◌, ℕ, true, cond, List, [], ◌∷◌, refl, inl, Some, None, map}
-use Rattle.rdf_terms.specs.declared.kind.Kind.TheVariants.{LangTag}
-use Rattle.rdf_terms.specs.declared.kind.Dialect.{Dialect}
-use Rattle.rdf_terms.specs.Classes.{Class, has}
-use Rattle.rdf_terms.specs.Classes.Class.{the, letter, letter_or_digit}
-use Rattle.rdf_terms.specs.Regex.{Regex}
-use Rattle.rdf_terms.specs.Regex.Regex.{nothing, one, ◌·◌, many}
-use Rattle.rdf_terms.specs.Shapes.{shape, some}
+use Rattle.rdf_tokens.proofs.Prelude.{◌≡◌, ℕ, true, cond, List, [], ◌∷◌, refl, inl, Some, None, map, LangTag, Dialect, Class, has, the, letter, letter_or_digit, Regex, nothing, one, ◌·◌, many, shape, some}
 use Rattle.rdf_tokens.specs.declared.states.tag.Sort.{Sort}
 use Rattle.rdf_tokens.specs.declared.states.tag.Sort.TheVariants as sort
 use Rattle.rdf_tokens.specs.declared.states.tag.Tag.{Tag}

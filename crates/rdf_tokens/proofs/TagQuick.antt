@@ -1,25 +1,12 @@
 -- Language tags: the states over their letters and digits, and after the byte that ends them.
-use Rattle.std.proofs.Common.{◌≡◌, ℕ, ◌+◌, ◌<◌, Bool, true, false, cond, nat_lt, List, [], ◌∷◌, ◌&&◌, ◌||◌, ◌==◌, not, refl, sym, ap, ◌∙◌, subst, length, get_or, drop, arith, Option, Some, None, IsUtf8}
-use Rattle.std.proofs.lemmas.Bool.{agree_below, agree_below_at, and_parts, false≢true, eqb-true, ltb-true}
-use Rattle.std.proofs.lemmas.Bool.Decides.{nat_tests}
-use Rattle.std.specs.Str.{chars}
-use Rattle.std.specs.Prelude.{codes}
-use Rattle.rdf_terms.specs.declared.kind.Kind.TheVariants.{LangTag, AtPrefix, AtBase}
-use Rattle.rdf_terms.specs.declared.kind.Dialect.{Dialect}
-use Rattle.rdf_terms.specs.declared.kind.Dialect.TheVariants.{Lines, Turtle}
+use Rattle.rdf_tokens.proofs.Prelude.{◌≡◌, ℕ, ◌+◌, ◌<◌, Bool, true, false, cond, nat_lt, List, [], ◌∷◌, ◌&&◌, ◌||◌, ◌==◌, not, refl, sym, ap, ◌∙◌, subst, length, get_or, drop, arith, Option, Some, None, IsUtf8, agree_below, agree_below_at, and_parts, false≢true, eqb-true, ltb-true, nat_tests, chars, codes, LangTag, AtPrefix, AtBase, Dialect, Lines, Turtle, fixed, IsRun, is_fit, State, three_quotes, only_long, is_begun, live_by, rows_of, Reached, Rests, longer_front, begins, front_by, IsLaterPart, IsTagTo, begins_directive, begins_tag, is_part_byte, ends_tag, is_tag_end}
 use Rattle.rdf_terms.specs.Classes.{is_letter}
-use Rattle.rdf_terms.specs.Shapes.{fixed}
-use Rattle.rdf_terms.specs.Runs.{IsRun}
-use Rattle.rdf_terms.specs.Values.{is_fit}
-use Rattle.rdf_tokens.specs.declared.states.machine.State.{State}
 use Rattle.rdf_tokens.specs.declared.states.machine.State.TheVariants.{Start, Tag}
 use Rattle.rdf_tokens.specs.declared.states.tag.Tag.{Tag as PartOfTag}
 use Rattle.rdf_tokens.specs.declared.states.tag.Tag.TheVariants as tag
-use Rattle.rdf_tokens.specs.Tokens.{three_quotes, only_long}
-use Rattle.rdf_tokens.specs.Fixed.{left, is_begun, live_by, rows_of}
-use Rattle.rdf_tokens.specs.Front.{Reached, Rests, longer_front, begins, front_by}
+use Rattle.rdf_tokens.specs.Fixed.{left}
 use Rattle.rdf_tokens.specs.Machine.{step}
-use Rattle.rdf_tokens.specs.Quick.{IsLaterPart, IsTagTo, IsToken, begins_directive, begins_tag, is_part_byte, ends_tag, is_tag_end}
+use Rattle.rdf_tokens.specs.Quick.{IsToken}
 use Rattle.rdf_tokens.specs.Tag.{accepts}
 use Rattle.rdf_tokens.proofs.NoNamesLemmas.{implied}
 use Rattle.rdf_tokens.proofs.NumberQuick.{first_rows}

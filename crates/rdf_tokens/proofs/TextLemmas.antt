@@ -1,18 +1,8 @@
 -- The states of strings against their shapes.
-use Rattle.std.proofs.Common.{◌≡◌, ℕ, zero, suc, true, List, [], ◌∷◌, refl, inl, map}
-use Rattle.rdf_terms.specs.declared.kind.Kind.{Kind}
-use Rattle.rdf_terms.specs.declared.kind.Kind.TheVariants.{ShortString, LongString}
-use Rattle.rdf_terms.specs.declared.kind.Dialect.{Dialect}
-use Rattle.rdf_terms.specs.declared.kind.Dialect.TheVariants.{Lines, Turtle}
-use Rattle.rdf_terms.specs.Classes.{Class, has}
-use Rattle.rdf_terms.specs.Classes.Class.{the, hex_digit, escape_letter, plain_double, plain_single, long_double, long_single}
-use Rattle.rdf_terms.specs.Regex.{Regex}
-use Rattle.rdf_terms.specs.Regex.Regex.{nothing, empty, one, ◌·◌, ◌∣◌, many}
-use Rattle.rdf_terms.specs.Shapes.{shape, optional, uchar, echar, only_turtle, double_quote, single_quote}
+use Rattle.rdf_tokens.proofs.Prelude.{◌≡◌, ℕ, zero, suc, true, List, [], ◌∷◌, refl, inl, map, Kind, ShortString, LongString, Dialect, Lines, Turtle, Class, has, the, hex_digit, escape_letter, plain_double, plain_single, long_double, long_single, Regex, nothing, empty, one, ◌·◌, ◌∣◌, many, shape, optional, uchar, echar, only_turtle, double_quote, single_quote, Quote, Single}
 use Rattle.rdf_tokens.specs.declared.states.text.Sort.{Sort}
 use Rattle.rdf_tokens.specs.declared.states.text.Sort.TheVariants as sort
-use Rattle.rdf_tokens.specs.declared.states.text.Quote.{Quote}
-use Rattle.rdf_tokens.specs.declared.states.text.Quote.TheVariants.{Double, Single}
+use Rattle.rdf_tokens.specs.declared.states.text.Quote.TheVariants.{Double}
 use Rattle.rdf_tokens.specs.declared.states.text.Text.{Text}
 use Rattle.rdf_tokens.specs.declared.states.text.Text.TheVariants.{Start, Opened, Empty, Short, ShortEscape, ShortHex, ShortWhole, Long, LongOneQuote, LongTwoQuotes, LongEscape, LongHex, LongWhole, Dead}
 use Rattle.rdf_tokens.specs.Text.{ascii, high, move, kind_at, goes_on}

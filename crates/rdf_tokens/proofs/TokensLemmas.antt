@@ -1,18 +1,8 @@
 -- What comes later changes nothing that is decided.
-use Rattle.std.proofs.Common.{◌≡◌, ◌≢◌, ℕ, zero, suc, ◌+◌, ◌<◌, ◌≤◌, Bool, true, false, cond, List, [], ◌∷◌, ◌++◌, ◌&&◌, ◌||◌, ◌==◌, ◌⊎◌, inl, inr, refl, sym, ap, ◌∙◌, subst, ⊎_elim, Option, Some, None, length, take, drop, nat_lt, length-drop, arith, length-append}
-use Rattle.std.proofs.lemmas.Bool.{cases_Bool, cond-true, cond-false, false≢true, and_parts, or_parts, or_from, ltb-true, lt-ltb, le-ltb, cases_lt, eqb-true, false_from_ne_true}
-use Rattle.std.proofs.lemmas.List.{append-nil, take-append-le, drop-append-le}
-use Rattle.rdf_terms.specs.declared.kind.Dialect.{Dialect}
-use Rattle.rdf_terms.specs.Classes.{has}
-use Rattle.rdf_terms.specs.declared.kind.Dialect.TheVariants.{Lines, Turtle}
-use Rattle.rdf_terms.specs.declared.kind.Kind.{Kind}
-use Rattle.rdf_terms.specs.Shapes.{kind_of, is_live, shape}
-use Rattle.rdf_tokens.specs.Tokens.{Place, past, Tail, Outcome, Token, is_line_end, is_space, blank, three_quotes, only_long, with_length, longest, over, is_empty, Step, chosen, decided, by_tail, step, Reading, with_token, go_on, end_tokens, stop_place, rest_of, place_of, read, tokens, with_tokens}
-use Rattle.rdf_terms.specs.Values.{is_fit}
-use Rattle.rdf_tokens.specs.Tokens.Tail.{goes_on, ended, broken}
-use Rattle.rdf_tokens.specs.Tokens.Outcome.{undecided, complete, token_too_long, bad_utf8, no_token, bad_escape}
+use Rattle.rdf_tokens.proofs.Prelude.{◌≡◌, ◌≢◌, ℕ, zero, suc, ◌+◌, ◌<◌, ◌≤◌, Bool, true, false, cond, List, [], ◌∷◌, ◌++◌, ◌&&◌, ◌||◌, ◌==◌, ◌⊎◌, inl, inr, refl, sym, ap, ◌∙◌, subst, ⊎_elim, Option, Some, None, length, take, drop, nat_lt, length-drop, arith, length-append, cases_Bool, cond-true, cond-false, false≢true, and_parts, or_parts, or_from, ltb-true, lt-ltb, le-ltb, cases_lt, eqb-true, false_from_ne_true, append-nil, take-append-le, drop-append-le, Dialect, has, Lines, Turtle, Kind, kind_of, is_live, shape, Place, past, Tail, Outcome, Token, is_line_end, is_space, blank, three_quotes, only_long, with_length, longest, over, is_empty, Step, chosen, decided, by_tail, Reading, with_token, go_on, end_tokens, stop_place, rest_of, read, tokens, with_tokens, is_fit, ended, broken, undecided, complete, token_too_long, bad_utf8, no_token, bad_escape, live-front, kind-front}
+use Rattle.rdf_tokens.specs.Tokens.{step, place_of}
+use Rattle.rdf_tokens.specs.Tokens.Tail.{goes_on}
 use Rattle.rdf_tokens.specs.Tokens.Step.{token, stop}
-use Rattle.rdf_terms.proofs.ShapesLemmas.{live-front, kind-front}
 
 -- at the end of a front that is not live, no more than the front has a kind
 no_kind : (d : Dialect) (u : List ℕ) (c : ℕ) (v : List ℕ) → is_live d u ≡ false → kind_of d (u ++ c ∷ v) ≡ None

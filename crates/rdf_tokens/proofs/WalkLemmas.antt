@@ -1,29 +1,12 @@
 -- What is kept of an open token stays right where more text comes.
-use Rattle.std.proofs.Common.{◌≡◌, ℕ, zero, suc, ◌+◌, ◌-◌, ◌≤◌, Bool, true, false, cond, List, [], ◌∷◌, ◌++◌, refl, sym, ap, ◌∙◌, subst, ⊎_elim, length, length-append, length-drop, take, drop, arith, Option, Some, None, IsUtf8}
-use Rattle.std.specs.Prelude.{encode_utf8_all, is_some, nat_lt, slice_range, ◌==◌}
-use Rattle.std.proofs.lemmas.Bool.{and_from, and_parts, cond-true, cond-false, cases_lt, lt-ltb, le-ltb}
-use Rattle.std.proofs.lemmas.List.{take_all, drop_all, take-append-drop, take-append-le, drop-append-le}
-use Rattle.std.proofs.lemmas.Str.{chars-append, chars-nil, encodes-chars, IsCharBoundary-from_drop, IsUtf8-append, IsUtf8-nil, IsUtf8-drop, IsUtf8-take}
-use Rattle.std.specs.Str.{chars, IsCharBoundary}
-use Rattle.rdf_terms.specs.declared.kind.Kind.{Kind}
-use Rattle.rdf_terms.specs.declared.kind.Dialect.{Dialect}
-use Rattle.rdf_terms.specs.declared.kind.Dialect.TheVariants.{Lines, Turtle}
-use Rattle.rdf_terms.specs.Values.{of_string, outside, value}
-use Rattle.rdf_tokens.specs.declared.states.machine.State.{State}
+use Rattle.rdf_tokens.proofs.Prelude.{◌≡◌, ℕ, zero, suc, ◌+◌, ◌-◌, ◌≤◌, Bool, true, false, cond, List, [], ◌∷◌, ◌++◌, refl, sym, ap, ◌∙◌, subst, ⊎_elim, length, length-append, length-drop, take, drop, arith, Option, Some, None, IsUtf8, encode_utf8_all, is_some, nat_lt, slice_range, ◌==◌, and_from, and_parts, cond-true, cond-false, cases_lt, lt-ltb, le-ltb, take_all, drop_all, take-append-drop, take-append-le, drop-append-le, chars-append, chars-nil, encodes-chars, IsCharBoundary-from_drop, IsUtf8-append, IsUtf8-nil, IsUtf8-drop, IsUtf8-take, chars, IsCharBoundary, Kind, Dialect, Lines, Turtle, of_string, outside, value, State, Quote, FitsInString, has_quote, opens_with, quote_byte, stands_at, HasCome, with_length, three_quotes, only_long, IsAt, Reached, in_bytes, longest_by, state_of, kind_by_states, open_state, good_bytes, IsFit, IsFitFor, IsWalk, Walked, counted_bytes, counted_chars, walk_kept}
 use Rattle.rdf_tokens.specs.declared.states.machine.State.TheVariants.{Text}
 use Rattle.rdf_tokens.specs.declared.states.text.Text.TheVariants.{Short}
-use Rattle.rdf_tokens.specs.declared.states.text.Quote.{Quote}
-use Rattle.rdf_tokens.specs.Escapes.{FitsInString}
-use Rattle.rdf_tokens.specs.Quick.{has_quote, opens_with, quote_byte, stands_at}
-use Rattle.rdf_tokens.specs.Over.{HasCome}
 use Rattle.rdf_tokens.proofs.ByteLemmas.{at-start}
 use Rattle.rdf_tokens.proofs.FitEscapes.{slice-split}
 use Rattle.rdf_tokens.specs.declared.front.Walk.{Walk}
-use Rattle.rdf_tokens.specs.Tokens.{with_length, three_quotes, only_long}
 use Rattle.rdf_tokens.specs.Machine.{kind_at, goes_on}
-use Rattle.rdf_tokens.specs.Front.{IsAt, Reached, in_bytes, longest_by, state_of, kind_by_states, open_state}
-use Rattle.rdf_tokens.specs.Moves.{good_bytes}
-use Rattle.rdf_tokens.specs.Walk.{IsFit, IsFitFor, IsWalk, IsWithin, Walked, counted_bytes, counted_chars, walk_kept}
+use Rattle.rdf_tokens.specs.Walk.{IsWithin}
 use Rattle.rdf_tokens.proofs.FrontLemmas.{AtMost, longest_by-at_most}
 use Rattle.rdf_tokens.proofs.GoodLemmas.{good_front}
 use Rattle.rdf_tokens.proofs.SpellingLemmas.{quotes-bytes}

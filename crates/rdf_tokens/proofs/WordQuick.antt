@@ -1,24 +1,10 @@
 -- The words `true` and `false` before a byte with which no name goes on: the states have no token there, and the spellings have one.
-use Rattle.std.proofs.Common.{◌≡◌, ℕ, ◌+◌, ◌<◌, true, false, nat_lt, List, [], ◌∷◌, ◌++◌, ◌==◌, refl, sym, ap, ◌∙◌, length, get_or, take, drop, arith, Some, None, IsUtf8}
-use Rattle.std.proofs.lemmas.Bool.{agree_below_at, and_parts, false≢true, eqb-true, ltb-true}
-use Rattle.std.proofs.lemmas.List.{drop_more, get_or_append_left}
-use Rattle.std.proofs.lemmas.Str.{encode_ascii, length-encode}
-use Rattle.std.specs.List.{starts_with}
-use Rattle.std.specs.Str.{chars}
-use Rattle.rdf_terms.specs.declared.kind.Kind.{Kind}
-use Rattle.rdf_terms.specs.declared.kind.Kind.TheVariants.{True, False}
-use Rattle.rdf_terms.specs.declared.kind.Dialect.TheVariants.{Turtle}
+use Rattle.rdf_tokens.proofs.Prelude.{◌≡◌, ℕ, ◌+◌, ◌<◌, true, false, nat_lt, List, [], ◌∷◌, ◌++◌, ◌==◌, refl, sym, ap, ◌∙◌, length, get_or, take, drop, arith, Some, None, IsUtf8, agree_below_at, and_parts, false≢true, eqb-true, ltb-true, drop_more, get_or_append_left, encode_ascii, length-encode, starts_with, chars, Kind, True, False, Turtle, IsRun, is_name_byte, fixed, is_fit, three_quotes, only_long, live_by, rows_of, front_by, ends_name, is_name_end, is_word}
 use Rattle.rdf_terms.specs.Classes.{is_letter}
-use Rattle.rdf_terms.specs.Runs.{IsRun, is_name_byte}
-use Rattle.rdf_terms.specs.Shapes.{fixed}
-use Rattle.rdf_terms.specs.Values.{is_fit}
 use Rattle.rdf_tokens.specs.declared.states.machine.State.TheVariants.{Name}
 use Rattle.rdf_tokens.specs.declared.states.name.Name.TheVariants as name
-use Rattle.rdf_tokens.specs.Tokens.{three_quotes, only_long}
-use Rattle.rdf_tokens.specs.Fixed.{live_by, rows_of}
-use Rattle.rdf_tokens.specs.Front.{front_by}
 use Rattle.rdf_tokens.specs.Machine.{step, kind_at}
-use Rattle.rdf_tokens.specs.Quick.{IsToken, ends_name, is_name_end, is_word}
+use Rattle.rdf_tokens.specs.Quick.{IsToken}
 use Rattle.rdf_tokens.proofs.ByteLemmas.{ascii_first}
 use Rattle.rdf_tokens.proofs.NoNamesLemmas.{implied, letter_steps, low-letter, no_long}
 use Rattle.rdf_tokens.proofs.QuickLemmas.{ended-state, first-none, other, settled, word_tests}

@@ -1,3 +1,4 @@
+mod Prelude
 pub mod trees
 pub mod machine
 pub mod code

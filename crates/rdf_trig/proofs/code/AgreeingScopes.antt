@@ -1,18 +1,6 @@
 -- Scopes that agree in every look-up give tokens the same meaning, and stay so.
-use Rattle.std.proofs.Common.{◌≡◌, ◌+◌, ℕ, cond, List, ◌++◌, ◌&&◌, not, length, Option, Some, None, option_map, refl, sym, ap, ◌∙◌, subst}
-use Rattle.std.proofs.lemmas.Bool.{false≢true}
-use Rattle.std.specs.Prelude.{nat_le, is_some, Result, Ok, Err, OnOk, IfErr}
-use Rattle.rdf_terms.specs.declared.kind.Kind.{Kind}
-use Rattle.rdf_terms.specs.declared.kind.Kind.TheVariants.{IriRef, PnameNs, PnameLn}
-use Rattle.rdf_iri.specs.Limits.{Sizes}
-use Rattle.rdf_iri.specs.Texts.{equal}
-use Rattle.rdf_iri.specs.Resolve.{resolved}
-use Rattle.rdf_iri.specs.Scope.{InForce, bound_to, Binds}
-use Rattle.rdf_tokens.specs.Leaves.{Leaf, iri_of}
-use Rattle.rdf_trig.specs.declared.form.DocForm.{DocForm}
-use Rattle.rdf_trig.specs.declared.form.DocForm.TheVariants.{Turtle, TriG}
-use Rattle.rdf_trig.specs.declared.fault.StepFault.{StepFault}
-use Rattle.rdf_trig.specs.declared.state.Outer.{Outer}
+use Rattle.rdf_trig.proofs.Prelude.{◌≡◌, ◌+◌, ℕ, cond, List, ◌++◌, ◌&&◌, not, length, Option, Some, None, option_map, refl, sym, ap, ◌∙◌, subst, false≢true, nat_le, is_some, Result, Ok, Err, OnOk, IfErr, Kind, IriRef, PnameNs, PnameLn, Sizes, equal, resolved, InForce, bound_to, Binds, Leaf, iri_of, DocForm, TriG, StepFault, Outer, Turn, reference_in, name_in, prefix_of, local_of, with_base, with_binding, is_full, Use, stands, binds, IsNamedIn, name_at, use_at, mode_at, outer_of, level_of, place_in, text_in, after_semicolon_at, IsAdmitted, IsDenied, Names, Unnamed, Based, Binding, NotBinding, SameScope, LooksUp, LooksUpNone, Suits, SuitsIn}
+use Rattle.rdf_trig.specs.declared.form.DocForm.TheVariants.{Turtle}
 use Rattle.rdf_trig.specs.declared.state.Outer.TheVariants as outer
 use Rattle.rdf_trig.specs.declared.state.State.{State}
 use Rattle.rdf_trig.specs.declared.state.Mode.{Mode}
@@ -20,13 +8,7 @@ use Rattle.rdf_trig.specs.declared.state.Mode.TheVariants as mode
 use Rattle.rdf_trig.specs.declared.state.Spelling.{Spelling}
 use Rattle.rdf_trig.specs.declared.straight.Slot.{Slot}
 use Rattle.rdf_trig.specs.declared.straight.Slot.TheVariants as slot
-use Rattle.rdf_trig.specs.declared.turn.Turn.{Turn}
-use Rattle.rdf_trig.specs.Names.{reference_in, name_in, prefix_of, local_of, with_base, with_binding, is_full}
-use Rattle.rdf_trig.specs.Events.{Use, stands, binds}
 use Rattle.rdf_trig.specs.Machine as M
-use Rattle.rdf_trig.specs.States.{IsNamedIn, name_at, use_at, mode_at, outer_of, level_of, place_in, text_in, after_semicolon_at}
-use Rattle.rdf_trig.specs.Scopes.{IsAdmitted, IsDenied, Names, Unnamed, Based, Binding, NotBinding, SameScope, LooksUp, LooksUpNone}
-use Rattle.rdf_trig.specs.Turns.{Suits, SuitsIn}
 use Rattle.rdf_trig.specs.Straight.{slot_turn}
 use Rattle.rdf_trig.proofs.trees.NamesLemmas.{bind_bound, bind_length}
 

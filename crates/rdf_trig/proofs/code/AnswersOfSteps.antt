@@ -1,34 +1,14 @@
 -- What the machine answers, from the parts of a step.
-use Rattle.std.proofs.Common.{◌≡◌, ◌≤◌, ◌<◌, ◌+◌, ◌*◌, ◌^◌, ℕ, Bool, true, false, List, [], ◌++◌, ◌&&◌, length, Option, None, refl, sym, ap, ◌∙◌, subst, arith}
-use Rattle.std.specs.Prelude.{nat_le}
-use Rattle.std.proofs.lemmas.Bool.{cond-true, cond-false, false≢true}
-use Rattle.rdf_terms.specs.declared.kind.Kind.{Kind}
-use Rattle.rdf_terms.specs.declared.kind.Kind.TheVariants.{IriRef, PnameNs, PnameLn, OpenBracket, CloseBracket, OpenParen, CloseParen}
-use Rattle.rdf_terms.specs.Terms.{Quad}
-use Rattle.rdf_terms.specs.Sinks.{Appends}
-use Rattle.rdf_iri.specs.Limits.{Sizes}
+use Rattle.rdf_trig.proofs.Prelude.{◌≡◌, ◌≤◌, ◌<◌, ◌+◌, ◌*◌, ◌^◌, ℕ, Bool, true, false, List, [], ◌++◌, ◌&&◌, length, Option, None, refl, sym, ap, ◌∙◌, subst, arith, nat_le, cond-true, cond-false, false≢true, Kind, IriRef, PnameNs, PnameLn, OpenBracket, CloseBracket, OpenParen, CloseParen, Quad, Appends, Sizes, Reason, byte_len, InForce, Leaf, DocForm, StepFault, reference_in, Setting, Use, Reply, No, Go, kept, by_use, refuses, accepts, mode_at, use_in, scope_in, is_go, moved, DepthMoves, ShortPrefix, PrefixFits, StandsForIri, IsAdmitted, SameScope, LooksUp, LooksUpNone, most_text, frames_most, Fits, GaveUp, state_of, May, DepthMay, Keeps, Accepts, answered, Fails}
 use Rattle.rdf_terms.proofs.CharsLemmas.{few_bytes}
-use Rattle.rdf_terms.specs.declared.reason.Reason.{Reason}
 use Rattle.rdf_terms.specs.declared.reason.Reason.TheVariants as reason
-use Rattle.rdf_iri.specs.Texts.{byte_len}
-use Rattle.rdf_iri.specs.Scope.{InForce}
-use Rattle.rdf_tokens.specs.Leaves.{Leaf}
-use Rattle.rdf_trig.specs.declared.form.DocForm.{DocForm}
-use Rattle.rdf_trig.specs.declared.fault.StepFault.{StepFault}
 use Rattle.rdf_trig.specs.declared.fault.StepFault.TheVariants as fault
 use Rattle.rdf_trig.specs.declared.state.State.{State}
 use Rattle.rdf_trig.specs.declared.state.Mode.{Mode}
 use Rattle.rdf_trig.specs.declared.state.Mode.TheVariants as mode
 use Rattle.rdf_trig.specs.declared.state.Outer.TheVariants as outer
-use Rattle.rdf_trig.specs.Names.{reference_in}
-use Rattle.rdf_trig.specs.Quads.{Setting}
-use Rattle.rdf_trig.specs.Events.{Use}
 use Rattle.rdf_trig.specs.Machine as M
-use Rattle.rdf_trig.specs.Machine.{Reply, No, Go, kept, by_use, refuses, accepts}
-use Rattle.rdf_trig.specs.States.{mode_at, use_in, scope_in, is_go, moved, DepthMoves, ShortPrefix, PrefixFits}
-use Rattle.rdf_trig.specs.Scopes.{StandsForIri, IsAdmitted, SameScope, LooksUp, LooksUpNone}
-use Rattle.rdf_trig.specs.Holding.{most_text, frames_most, Fits}
-use Rattle.rdf_trig.specs.Steps.{Begins, GaveUp, state_of, May, DepthMay, Keeps, Accepts, answered, Fails}
+use Rattle.rdf_trig.specs.Steps.{Begins}
 use Rattle.rdf_trig.proofs.code.StepBounds.{step_use, step_depth, step_prefix}
 use Rattle.rdf_trig.proofs.code.PutsInRow.{begins_all}
 use Rattle.rdf_trig.proofs.machine.DepthAndSense.{with_base_limits, with_binding_limits}

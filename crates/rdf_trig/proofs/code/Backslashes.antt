@@ -1,16 +1,8 @@
 -- A local part without backslashes is its own value.
-use Rattle.std.proofs.Common.{◌≡◌, ℕ, true, false, ◌==◌, List, [], ◌∷◌, Option, Some, None, option_map, refl, sym, ap, ◌∙◌, subst, ⊎_elim}
-use Rattle.std.specs.Prelude.{is_some}
-use Rattle.std.specs.Str.{chars, IsUtf8}
-use Rattle.std.proofs.lemmas.Bool.{and_parts, cases_Bool, cond-true, cond-false, not-true, false≢true}
+use Rattle.rdf_trig.proofs.Prelude.{◌≡◌, ℕ, true, false, ◌==◌, List, [], ◌∷◌, Option, Some, None, option_map, refl, sym, ap, ◌∙◌, subst, ⊎_elim, is_some, chars, IsUtf8, and_parts, cases_Bool, cond-true, cond-false, not-true, false≢true, iri_char, all_have, is_unescaped, without_backslashes, local_value, iri_value, value, of_string, of_iri, move, allowed, outside, slash, leads, means, fails, local-means}
 use Rattle.rdf_terms.specs.Classes.{has}
-use Rattle.rdf_terms.specs.Classes.Class.{iri_char}
-use Rattle.rdf_terms.specs.Terms.{all_have}
-use Rattle.rdf_terms.specs.Runs.{is_unescaped}
-use Rattle.rdf_terms.specs.Local.{without_backslashes}
-use Rattle.rdf_terms.specs.Values.{local_value, iri_value, value, of_string, of_iri, move, allowed, go, outside, slash, leads, means, fails}
+use Rattle.rdf_terms.specs.Values.{go}
 use Rattle.rdf_terms.proofs.ValuesLemmas.{iri_value_characters}
-use Rattle.rdf_terms.proofs.LocalLemmas.{local-means}
 use Rattle.rdf_terms.proofs.EscapesLemmas.{run_stands}
 
 -- a text without backslashes is what it is without them

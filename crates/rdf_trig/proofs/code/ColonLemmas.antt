@@ -1,16 +1,8 @@
 -- The parts of a name round its first colon, by bytes and by characters.
-use Rattle.std.proofs.Common.{◌≡◌, ◌<◌, ◌+◌, ◌-◌, ℕ, zero, suc, get_or, Bool, true, false, cond, List, [], ◌∷◌, ◌==◌, not, length, take, drop, Option, Some, None, option_map, refl, sym, ap, ◌∙◌, subst, ⊎_elim, arith}
-use Rattle.std.specs.Prelude.{unwrap_or}
-use Rattle.std.specs.List.{before_first, after_first, position_or_len}
-use Rattle.std.specs.Str.{IsCharBoundary, IsUtf8, chars, encode_utf8_all}
-use Rattle.std.proofs.lemmas.Bool.{cases_Bool, cond-true, cond-false, and_parts, and_from, eqb-true, false≢true}
-use Rattle.std.proofs.lemmas.List.Sums.{position_or_len_is}
-use Rattle.std.proofs.lemmas.Str.{IsCharBoundary-after_ascii, IsCharBoundary-before_ascii, encodes-chars, chars-encodes, scalars-chars}
+use Rattle.rdf_trig.proofs.Prelude.{◌≡◌, ◌<◌, ◌+◌, ◌-◌, ℕ, zero, suc, get_or, Bool, true, false, cond, List, [], ◌∷◌, ◌==◌, not, length, drop, Option, Some, None, option_map, refl, sym, ap, ◌∙◌, subst, ⊎_elim, arith, unwrap_or, before_first, after_first, position_or_len, IsCharBoundary, IsUtf8, chars, encode_utf8_all, cases_Bool, cond-true, cond-false, and_parts, and_from, eqb-true, false≢true, position_or_len_is, IsCharBoundary-after_ascii, IsCharBoundary-before_ascii, encodes-chars, chars-encodes, scalars-chars, is_name_byte, is_unescaped, all_have, IsPlainName, KnowsColon, before}
+use Rattle.std.proofs.Common.{take}
 use lib.Utf8.{scalar, scalars}
-use Rattle.rdf_terms.specs.Runs.{is_name_byte, is_unescaped}
-use Rattle.rdf_terms.specs.Terms.{all_have}
-use Rattle.rdf_tokens.specs.Scans.{IsPlainName, KnowsColon}
-use Rattle.rdf_iri.specs.Texts.{before, after}
+use Rattle.rdf_iri.specs.Texts.{after}
 use Rattle.rdf_iri.proofs.Encoded.{before-bytes, after-bytes}
 
 -- ':' as a byte, by which the code looks for the end of a prefix

@@ -1,32 +1,18 @@
 -- The quad that is due at a token: of the object whose quad is ready, or that the token decides.
-use Rattle.std.proofs.Common.{◌≡◌, ℕ, List, [], ◌++◌, Option, Some, None, length, ◌-◌, ◌⊎◌, inl, inr, refl, sym, ap, subst, ◌∙◌}
-use Rattle.std.specs.Prelude.{⊤, is_some, option_map, slice_get}
-use Rattle.std.proofs.lemmas.Bool.{false≢true}
-use Rattle.std.proofs.lemmas.List.{append-nil}
-use Rattle.rdf_terms.specs.declared.kind.Kind.{Kind}
-use Rattle.rdf_terms.specs.declared.kind.Kind.TheVariants.{LangTag, AtBase, AtPrefix, Carets, CloseParen}
+use Rattle.rdf_trig.proofs.Prelude.{◌≡◌, ℕ, List, [], ◌++◌, Option, Some, None, length, ◌-◌, ◌⊎◌, inl, inr, refl, sym, ap, subst, ◌∙◌, ⊤, is_some, option_map, slice_get, false≢true, append-nil, Kind, LangTag, AtBase, AtPrefix, Carets, CloseParen, Quad, Leaf, InForce, DocForm, TriG, Outer, Frame, stated, kept, leaf, mode_at, level_of, place_at, place_in, up_in, outer_of, after_semicolon_at, setting, graph_of, graph_at, graph_in, mode_in, text_in, object_of, rest_of, ready_of, given, last_of, plain_term, collection_term, due_term, due_quad, IsQuadAt, IsListed, HasCome, IsAfterObject}
 use Rattle.rdf_terms.specs.Terms as term
-use Rattle.rdf_terms.specs.Terms.{Quad}
-use Rattle.rdf_tokens.specs.Leaves.{Leaf}
 use Rattle.rdf_tokens.specs.declared.token.Token.{Token as Given}
-use Rattle.rdf_iri.specs.Scope.{InForce}
-use Rattle.rdf_trig.specs.declared.form.DocForm.{DocForm}
-use Rattle.rdf_trig.specs.declared.form.DocForm.TheVariants.{Turtle, TriG}
+use Rattle.rdf_trig.specs.declared.form.DocForm.TheVariants.{Turtle}
 use Rattle.rdf_trig.specs.declared.state.Mode.{Mode}
 use Rattle.rdf_trig.specs.declared.state.Mode.TheVariants as mode
-use Rattle.rdf_trig.specs.declared.state.Outer.{Outer}
 use Rattle.rdf_trig.specs.declared.state.Outer.TheVariants as outer
 use Rattle.rdf_trig.specs.declared.state.Ready.{Ready}
 use Rattle.rdf_trig.specs.declared.state.Ready.TheVariants as ready
 use Rattle.rdf_trig.specs.declared.state.Container.{Container}
 use Rattle.rdf_trig.specs.declared.state.Container.TheVariants as container
-use Rattle.rdf_trig.specs.declared.state.Frame.{Frame}
 use Rattle.rdf_trig.specs.declared.state.State.{State}
-use Rattle.rdf_trig.specs.Quads.{stated}
 use Rattle.rdf_trig.specs.Machine as M
-use Rattle.rdf_trig.specs.Machine.{kept}
-use Rattle.rdf_trig.specs.States.{leaf, mode_at, level_of, place_at, place_in, verb_of, up_in, outer_of, after_semicolon_at, setting, graph_of, graph_at, graph_in, mode_in, text_in, object_of, object_quad, rest_of, ready_of}
-use Rattle.rdf_trig.specs.Steps.{given, last_of, plain_term, collection_term, due_term, due_quad, IsQuadAt, IsListed, HasCome, IsAfterObject}
+use Rattle.rdf_trig.specs.States.{verb_of, object_quad}
 use Rattle.rdf_trig.proofs.code.FrameStack.{up_last}
 
 -- without an object there is no quad

@@ -1,9 +1,7 @@
 -- The stack of frames as what a bracket stands for.
-use Rattle.std.proofs.Common.{◌≡◌, suc, ◌-◌, List, [], ◌∷◌, ◌++◌, Some, length, refl, ap, ◌∙◌, arith}
-use Rattle.std.specs.Prelude.{slice_get}
-use Rattle.rdf_trig.specs.declared.state.Frame.{Frame}
+use Rattle.rdf_trig.proofs.Prelude.{◌≡◌, suc, ◌-◌, List, [], ◌∷◌, ◌++◌, Some, length, refl, ap, ◌∙◌, arith, slice_get, Frame, up_from, up_of}
 use Rattle.rdf_trig.specs.Machine as M
-use Rattle.rdf_trig.specs.States.{place_of, up_from, up_of}
+use Rattle.rdf_trig.specs.States.{place_of}
 
 -- the last frame of the stack is the innermost place
 up_from-append : {A : Type 0} (v : M.Level) (u : M.Up) (fs : List (Frame A)) (f : Frame A) → up_from v u (fs ++ f ∷ []) ≡ M.At (place_of v f (up_from v u fs))

@@ -1,37 +1,17 @@
 -- The texts that a token brings are no longer than the token, and the stack of frames keeps what holds of each.
-use Rattle.std.proofs.Common.{◌≡◌, ℕ, Option, Some, None, ◌+◌, ◌^◌, ◌*◌, ◌≤◌, List, [], ◌∷◌, ◌++◌, length, drop, subst, sym, ap, ap₂, ◌∙◌, arith, length-append}
-use Rattle.std.specs.List.{AllByRecursion, sum_by}
+use Rattle.rdf_trig.proofs.Prelude.{◌≡◌, ℕ, Option, Some, None, ◌+◌, ◌^◌, ◌*◌, ◌≤◌, List, [], ◌∷◌, ◌++◌, length, drop, subst, sym, ap, ap₂, ◌∙◌, arith, length-append, AllByRecursion, sum_by, sum_by-le, chars, string_bytes, length-drop, IsUtf8-string_bytes, byte_len, before, from, before-from, byte_len-chars, DocForm, Frame, most_bytes, Sizes, InRange, most_bytes_held, leaf, Keeps, iri_size, most_kept, Topic, topic_at, frame_bytes, state_bytes, most_text, TextFits, NameFits, FrameFits, Fits}
 use Rattle.std.proofs.lemmas.Nat.{mul-le}
 use native.Mathlib.Nat.{le-max_left, le-max_right, max-le, mul-add, mul_comm, mul_assoc}
 use Rattle.std.proofs.lemmas.List.Elements.{All-weaker, All-from_recursion}
-use Rattle.std.proofs.lemmas.List.Sums.{sum_by-le}
-use Rattle.std.specs.Str.{chars}
-use Rattle.std.specs.String.{string_bytes}
 use Rattle.std.specs.Prelude.{String}
-use Rattle.std.proofs.lemmas.List.{length-drop}
-use Rattle.std.proofs.lemmas.Str.{IsUtf8-string_bytes}
-use Rattle.rdf_iri.specs.Texts.{byte_len, before, from}
-use Rattle.rdf_iri.proofs.TextsLemmas.{before-from}
-use Rattle.rdf_iri.proofs.ResolvedText.{byte_len-chars}
-use Rattle.rdf_trig.specs.declared.form.DocForm.{DocForm}
-use Rattle.rdf_trig.specs.declared.state.Frame.{Frame}
 use Rattle.rdf_trig.specs.declared.state.Mode.{Mode}
 use Rattle.rdf_trig.specs.declared.state.Mode.TheVariants as mode
 use Rattle.rdf_trig.specs.declared.state.Ready.{Ready}
 use Rattle.rdf_trig.specs.declared.state.Ready.TheVariants as ready
 use Rattle.rdf_trig.specs.declared.state.State.{State}
 use Rattle.rdf_tokens.specs.declared.token.Token.{Token as Given}
-use Rattle.rdf_tokens.specs.Good.{most_bytes}
-use Rattle.rdf_iri.specs.Limits.{Sizes, InRange}
-use Rattle.rdf_iri.specs.Scope.{most_bytes_held}
-use Rattle.rdf_trig.specs.States.{leaf}
-use Rattle.rdf_trig.specs.Steps.{Keeps}
-use Rattle.rdf_trig.specs.Owed.{iri_size, most_kept}
-use Rattle.rdf_trig.specs.Machine.{Topic}
-use Rattle.rdf_trig.specs.Slots.{topic_at}
 use Rattle.rdf_trig.specs.declared.slots.SubjectKind.{SubjectKind}
 use Rattle.rdf_trig.specs.declared.slots.SubjectKind.TheVariants as kind
-use Rattle.rdf_trig.specs.Holding.{frame_bytes, state_bytes, most_text, TextFits, NameFits, FrameFits, Fits}
 use Rattle.rdf_trig.proofs.code.AnswersOfSteps.{bytes_at_most}
 
 -- a text of no more characters than another has at most four bytes for each of the other's

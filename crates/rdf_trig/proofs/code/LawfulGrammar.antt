@@ -1,27 +1,9 @@
 -- What the machine of Turtle and TriG promises a reader.
-use Rattle.std.proofs.Common.{◌≡◌, ◌+◌, ◌≤◌, arith, ℕ, Bool, List, [], ◌∷◌, ◌++◌, length, refl, sym, ap, ◌∙◌, subst, append_assoc}
-use Rattle.std.proofs.lemmas.List.{append-nil}
-use Rattle.rdf_terms.specs.declared.kind.Kind.TheVariants.{End}
-use Rattle.rdf_terms.specs.declared.reason.Reason.{Reason}
-use Rattle.rdf_terms.specs.Terms.{Quad}
-use Rattle.rdf_terms.specs.Sinks.{Attempts}
-use Rattle.rdf_tokens.specs.Tokens.{Token}
-use Rattle.rdf_tokens.specs.Grammars.{Marked, unmarked, Viable, Due, PassesNone}
-use Rattle.rdf_iri.specs.Scope.{InForce, bytes_held}
-use Rattle.rdf_tokens.specs.Leaves.{leaf_of}
-use Rattle.rdf_driver.specs.Words.{Lawful, Takes, GivesUp, Blames, Misses}
-use Rattle.rdf_trig.specs.declared.form.DocForm.{DocForm}
-use Rattle.rdf_trig.specs.declared.fault.StepFault.{StepFault}
+use Rattle.rdf_trig.proofs.Prelude.{◌≡◌, ◌+◌, ◌≤◌, arith, ℕ, Bool, List, [], ◌∷◌, ◌++◌, length, refl, sym, ap, ◌∙◌, subst, append_assoc, append-nil, End, Reason, Quad, Attempts, Token, Marked, unmarked, Viable, Due, PassesNone, InForce, bytes_held, leaf_of, Lawful, Takes, GivesUp, Blames, Misses, DocForm, StepFault, documents, Passes, Answer, accepts, refuses, accept, at_start, mode_size, SameState, mode_in, reason_of, state_of, Accepts, answered, Fails, Chosen, Blamed, TreeAt, tree_words}
 use Rattle.rdf_trig.specs.declared.fault.StepFault.TheVariants as fault
 use Rattle.rdf_trig.specs.declared.state.State.{State as Code}
-use Rattle.rdf_trig.specs.Documents.{documents, Passes}
-use Rattle.rdf_trig.specs.Machine.{State, Answer, accepts, refuses, accept, at_start, mode_size}
-use Rattle.rdf_trig.specs.Alike.{SameState}
-use Rattle.rdf_trig.specs.States.{mode_in}
-use Rattle.rdf_trig.specs.Steps.{reason_of, state_of, Accepts, answered, Begins, Fails}
-use Rattle.rdf_trig.specs.Language.{Chosen}
-use Rattle.rdf_trig.specs.Refusals.{Blamed}
-use Rattle.rdf_trig.specs.Accepting.{TreeAt, tree_words}
+use Rattle.rdf_trig.specs.Machine.{State}
+use Rattle.rdf_trig.specs.Steps.{Begins}
 use Rattle.rdf_trig.proofs.machine.AlikeLemmas.{state_self}
 use Rattle.rdf_trig.proofs.machine.ExactDocuments.{due_ran, accepted_document, not_both}
 use Rattle.rdf_trig.proofs.machine.EndOfInput.{ends_over}

@@ -1,25 +1,12 @@
 -- What stands after a name's colon means a text.
-use Rattle.std.proofs.Common.{◌≡◌, ◌≤◌, ℕ, Bool, true, false, List, [], ◌∷◌, ◌++◌, ◌&&◌, ◌||◌, ◌==◌, not, Some, refl, sym, ap, ◌∙◌, subst, ⊎_elim, arith}
-use Rattle.std.specs.Prelude.{nat_lt, nat_le, is_some, unwrap_or}
-use Rattle.std.specs.List.{AllByRecursion, concat}
-use Rattle.std.proofs.lemmas.Bool.{cases_Bool, and_parts, and_from, or_from, ne_eqb, ltb-true, ltb-false, lt-leb, not_from_false, agree_below, agree_below_at, false≢true}
-use Rattle.std.proofs.lemmas.List.{append-nil, append_assoc}
-use Rattle.rdf_terms.specs.Classes.{Class, has, scalar, member, one_of}
-use Rattle.rdf_terms.specs.Classes.Class.{the, digit, hex_digit, iri_char, local_escape, pn_u, pn_char}
+use Rattle.rdf_trig.proofs.Prelude.{◌≡◌, ◌≤◌, ℕ, Bool, true, false, List, [], ◌∷◌, ◌++◌, ◌&&◌, ◌||◌, ◌==◌, not, Some, refl, sym, ap, ◌∙◌, subst, ⊎_elim, arith, nat_lt, nat_le, is_some, unwrap_or, AllByRecursion, concat, cases_Bool, and_parts, and_from, or_from, ne_eqb, ltb-true, ltb-false, lt-leb, not_from_false, agree_below, agree_below_at, false≢true, append-nil, append_assoc, Class, member, one_of, the, digit, hex_digit, iri_char, local_escape, pn_u, pn_char, Kind, PnameNs, PnameLn, shape, Shape, pn_local, pn_prefix, plx, optional, local_value, local_from, local-next, Lacks, cut_suffix, leaf, IsTurtleToken, IsPrefixed, MeansLocal}
+use Rattle.rdf_terms.specs.Classes.{has, scalar}
 use Rattle.rdf_terms.specs.Regex.{Regex, Matches}
 use Rattle.rdf_terms.specs.Regex.Regex.{empty, one, ◌·◌, ◌∣◌, many}
 use Rattle.rdf_terms.specs.declared.kind.Dialect.TheVariants.{Turtle}
-use Rattle.rdf_terms.specs.declared.kind.Kind.{Kind}
-use Rattle.rdf_terms.specs.declared.kind.Kind.TheVariants.{PnameNs, PnameLn}
-use Rattle.rdf_terms.specs.Shapes.{shape, Shape, pn_local, pn_prefix, plx, optional}
-use Rattle.rdf_terms.specs.Values.{local_value, local_from}
-use Rattle.rdf_terms.proofs.LocalLemmas.{local-next}
 use Rattle.rdf_terms.proofs.UsedCharacters.{uses, all_used}
 use Rattle.rdf_tokens.specs.declared.token.Token.{Token as Given}
-use Rattle.rdf_iri.specs.Texts.{after, Lacks}
-use Rattle.rdf_iri.proofs.TextsLemmas.{cut_suffix}
-use Rattle.rdf_trig.specs.States.{leaf, IsTurtleToken}
-use Rattle.rdf_trig.specs.Scopes.{IsPrefixed, MeansLocal}
+use Rattle.rdf_iri.specs.Texts.{after}
 use Rattle.rdf_trig.proofs.code.SpelledLemmas.{the_one}
 
 -- a text that may stand before one that means something

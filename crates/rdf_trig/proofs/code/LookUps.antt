@@ -1,28 +1,12 @@
 -- Look-ups in scopes, and what directives do to them.
-use Rattle.std.proofs.Common.{◌≡◌, ◌≢◌, ◌≤◌, ◌<◌, ℕ, true, false, List, [], ◌++◌, ◌&&◌, not, length, Option, Some, None, option_map, refl, sym, ap, ◌∙◌, subst}
-use Rattle.std.specs.Prelude.{nat_le, is_some, unwrap_or}
-use Rattle.std.proofs.lemmas.Bool.{cond-true, cond-false, le-ltb, lt-ltb, le-leb, lt-leb}
-use Rattle.rdf_terms.specs.declared.kind.Kind.{Kind}
-use Rattle.rdf_terms.specs.declared.kind.Kind.TheVariants.{IriRef, PnameNs, PnameLn}
-use Rattle.rdf_terms.specs.Local.{without_backslashes}
-use Rattle.rdf_terms.specs.Terms.{has_scheme}
-use Rattle.rdf_terms.specs.Values.{iri_value, inside}
-use Rattle.rdf_terms.proofs.LocalLemmas.{value_is}
+use Rattle.rdf_trig.proofs.Prelude.{◌≡◌, ◌≢◌, ◌≤◌, ◌<◌, ℕ, true, false, List, [], ◌++◌, ◌&&◌, not, length, Option, Some, None, option_map, refl, sym, ap, ◌∙◌, subst, nat_le, is_some, unwrap_or, cond-true, cond-false, le-ltb, lt-ltb, le-leb, lt-leb, Kind, IriRef, PnameNs, PnameLn, without_backslashes, has_scheme, iri_value, value_is, Sizes, byte_len, Resolves, resolved, based, InForce, bound_to, HasRoom, ResolvesHere, UnresolvedHere, IsBased, IsBound, NotBound, ExpandsHere, NotExpanded, Leaf, iri_of, StepFault, reference_in, name_in, prefix_of, local_of, with_base, is_full, stands, binds, by_use, refuses, too_long, IsReference, IsPrefixed, MeansLocal, step_fault, IsAdmitted, IsDenied, Names, Unnamed, Based, Binding, NotBinding}
+use Rattle.rdf_terms.specs.Values.{inside}
 use Rattle.rdf_terms.specs.declared.reason.Reason.TheVariants as reason
 use Rattle.rdf_iri.specs.declared.fault.IriFault.{IriFault}
 use Rattle.rdf_iri.specs.declared.fault.IriFault.TheVariants as iri
-use Rattle.rdf_iri.specs.Limits.{Sizes}
-use Rattle.rdf_iri.specs.Texts.{after, byte_len}
-use Rattle.rdf_iri.specs.Resolve.{Resolves, resolved, based}
-use Rattle.rdf_iri.specs.Scope.{InForce, bound_to, HasRoom, ResolvesHere, UnresolvedHere, IsBased, IsBound, NotBound, ExpandsHere, NotExpanded}
+use Rattle.rdf_iri.specs.Texts.{after}
 use Rattle.rdf_iri.proofs.ResolveLemmas.{resolves-only}
-use Rattle.rdf_tokens.specs.Leaves.{Leaf, iri_of}
-use Rattle.rdf_trig.specs.declared.fault.StepFault.{StepFault}
-use Rattle.rdf_trig.specs.Names.{reference_in, name_in, prefix_of, local_of, with_base, is_full}
-use Rattle.rdf_trig.specs.Events.{stands, binds}
 use Rattle.rdf_trig.specs.Machine as M
-use Rattle.rdf_trig.specs.Machine.{by_use, refuses, too_long}
-use Rattle.rdf_trig.specs.Scopes.{IsReference, IsPrefixed, MeansLocal, step_fault, IsAdmitted, IsDenied, Names, Unnamed, Based, Binding, NotBinding}
 
 -- the checks of what a token stands for
 stands_passes : (sizes : Sizes) (k : Kind) (o : Option (List ℕ)) (i : List ℕ) → o ≡ Some i → byte_len i ≤ sizes.iri → IsAdmitted sizes k (stands o)

@@ -1,27 +1,10 @@
 -- Which kinds of tokens can come next in Turtle and TriG: those to which the machine has a reply, whatever their names stand for.
-use Rattle.std.proofs.Common.{◌≡◌, ◌≢◌, ◌↔◌, ◌⊎◌, inl, inr, Bool, true, false, List, [], ◌∷◌, ◌++◌, Option, Some, None, refl, sym, ap, ◌∙◌, subst, ⊎_elim}
-use Rattle.std.specs.Prelude.{is_some, IfErr, IsErrAnd, Result, Ok, Err}
-use Rattle.rdf_terms.specs.declared.kind.Kind.{Kind}
-use Rattle.rdf_tokens.specs.Tokens.{Token}
-use Rattle.rdf_tokens.specs.Grammars.{Shaped}
+use Rattle.rdf_trig.proofs.Prelude.{◌≡◌, ◌≢◌, ◌↔◌, ◌⊎◌, inl, inr, Bool, true, false, List, [], ◌∷◌, ◌++◌, Option, Some, None, refl, sym, ap, ◌∙◌, subst, ⊎_elim, is_some, IfErr, IsErrAnd, Result, Ok, Err, Kind, Token, Shaped, Sizes, InForce, Leaf, leaf_of, KnowsNext, DocForm, StepFault, Turn, in_default, trees, Start, Reply, No, Go, graph_at, is_go, mode_at, setting, Decides, reason_of, Keeps, TreeAt, tree_words}
 use Rattle.rdf_terms.specs.declared.reason.Reason.TheVariants as reason
-use Rattle.rdf_iri.specs.Limits.{Sizes}
-use Rattle.rdf_iri.specs.Scope.{InForce}
-use Rattle.rdf_tokens.specs.Leaves.{Leaf, leaf_of}
-use Rattle.rdf_driver.specs.Words.{KnowsNext}
-use Rattle.rdf_trig.specs.declared.form.DocForm.{DocForm}
-use Rattle.rdf_trig.specs.declared.fault.StepFault.{StepFault}
 use Rattle.rdf_trig.specs.declared.fault.StepFault.TheVariants as fault
 use Rattle.rdf_trig.specs.declared.state.State.{State as Code}
 use Rattle.rdf_trig.specs.declared.state.Mode.{Mode as Stands}
-use Rattle.rdf_trig.specs.declared.turn.Turn.{Turn}
-use Rattle.rdf_trig.specs.Quads.{in_default}
-use Rattle.rdf_trig.specs.Documents.{trees}
-use Rattle.rdf_trig.specs.Machine.{Start, Reply, No, Go, step}
-use Rattle.rdf_trig.specs.States.{graph_at, is_go, mode_at, setting}
-use Rattle.rdf_trig.specs.Turns.{Decides}
-use Rattle.rdf_trig.specs.Steps.{reason_of, Keeps}
-use Rattle.rdf_trig.specs.Accepting.{TreeAt, tree_words}
+use Rattle.rdf_trig.specs.Machine.{step}
 use Rattle.rdf_trig.proofs.machine.ViableTokens.{Stand, stand, reach, reached_shaped, reach-snoc, and_on, lax, on_reply, unexpected}
 use Rattle.rdf_trig.proofs.machine.RefusedTokens.{reached_start}
 use Rattle.rdf_trig.proofs.code.TurnsLemmas.{turn_goes}

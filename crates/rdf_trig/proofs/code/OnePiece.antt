@@ -1,16 +1,9 @@
 -- A document that is read in one piece.
-use Rattle.std.proofs.Common.{◌≡◌, ℕ, true, false, List, [], ◌∷◌, ◌++◌, sym, ap, ◌∙◌, subst, append_assoc}
-use Rattle.std.proofs.lemmas.List.{append-nil}
-use Rattle.rdf_terms.specs.declared.reason.Reason.{Reason}
-use Rattle.rdf_terms.specs.declared.reason.Reason.TheVariants.{DocumentTooLong, Memory, Ended, Sink}
-use Rattle.rdf_terms.specs.Terms.{Quad}
-use Rattle.rdf_terms.specs.Sinks.{Appends}
+use Rattle.rdf_trig.proofs.Prelude.{◌≡◌, ℕ, true, false, List, [], ◌∷◌, ◌++◌, sym, ap, ◌∙◌, subst, append_assoc, append-nil, Reason, DocumentTooLong, Ended, Quad, Appends, Language, reading_of, IsDocumentOf, IsWhole, RefusedIn, Words, Lawful, in_words, Driven, HasRead, Feeds, FeedFails, Finishes, FinishFails}
+use Rattle.rdf_terms.specs.declared.reason.Reason.TheVariants.{Memory, Sink}
 use Rattle.rdf_tokens.specs.Tokens.{Place}
-use Rattle.rdf_tokens.specs.Grammars.{Language, reading_of, IsDocumentOf, IsWhole, RefusedIn}
 use Rattle.rdf_tokens.proofs.LanguageLemmas.{refused_in_more}
 use Rattle.rdf_driver.specs.declared.summary.Summary.{Summary}
-use Rattle.rdf_driver.specs.Words.{Words, Lawful, in_words}
-use Rattle.rdf_driver.specs.Readers.{Driven, HasRead, Feeds, FeedFails, Finishes, FinishFails}
 use Rattle.rdf_trig.specs.ReadWhole.{NotRead}
 
 -- what puts do to a list

@@ -1,23 +1,15 @@
 -- What the open predicate lists hold is among the texts of a state.
-use Rattle.std.proofs.Common.{◌≡◌, ℕ, Option, ◌+◌, ◌≤◌, List, [], ◌∷◌, refl, sym, subst, arith}
-use Rattle.std.specs.List.{sum_by}
-use Rattle.std.proofs.lemmas.List.Sums.{sum_by-cons}
-use Rattle.rdf_trig.specs.declared.form.DocForm.{DocForm}
-use Rattle.rdf_trig.specs.declared.form.DocForm.TheVariants.{Turtle, TriG}
+use Rattle.rdf_trig.proofs.Prelude.{◌≡◌, ℕ, Option, ◌+◌, ◌≤◌, List, [], ◌∷◌, refl, sym, subst, arith, sum_by, sum_by-cons, DocForm, TriG, Frame, Outer, place_size, up_size, mode_size, level_of, place_at, up_from, up_in, text_in, outer_of, after_semicolon_at, mode_at, mode_in, iri_size, frame_bytes, state_bytes}
+use Rattle.rdf_trig.specs.declared.form.DocForm.TheVariants.{Turtle}
 use Rattle.rdf_trig.specs.declared.state.Around.TheVariants as around
-use Rattle.rdf_trig.specs.declared.state.Frame.{Frame}
 use Rattle.rdf_trig.specs.declared.state.Container.{Container}
 use Rattle.rdf_trig.specs.declared.state.Container.TheVariants as container
-use Rattle.rdf_trig.specs.declared.state.Outer.{Outer}
 use Rattle.rdf_trig.specs.declared.state.Outer.TheVariants as outer
 use Rattle.rdf_trig.specs.declared.state.Mode.{Mode}
 use Rattle.rdf_trig.specs.declared.state.Mode.TheVariants as mode
 use Rattle.rdf_trig.specs.declared.state.State.{State}
 use Rattle.rdf_trig.specs.Machine as M
-use Rattle.rdf_trig.specs.Machine.{place_size, up_size, mode_size}
-use Rattle.rdf_trig.specs.States.{level_of, place_at, place_of, up_from, up_in, text_in, outer_of, after_semicolon_at, mode_at, mode_in}
-use Rattle.rdf_trig.specs.Owed.{iri_size}
-use Rattle.rdf_trig.specs.Holding.{frame_bytes, state_bytes}
+use Rattle.rdf_trig.specs.States.{place_of}
 
 -- what is open holds what its place has beside what stands round it
 list_within : (v : M.Level) (o : Container) (s : M.Topic) (p : Option (List ℕ)) (u : M.Up) → place_size (place_at v o s p u) ≤ up_size u + (s.size + iri_size p)

@@ -1,17 +1,7 @@
 -- A reader holds at least what it owes.
-use Rattle.std.proofs.Common.{◌≡◌, ◌+◌, ◌≤◌, ℕ, false, List, ap, sym, subst, length, arith}
-use Rattle.rdf_terms.specs.Terms.{Quad}
-use Rattle.rdf_tokens.specs.Good.{tokens_of}
-use Rattle.rdf_tokens.specs.Tokens.Outcome.{undecided}
-use Rattle.rdf_tokens.specs.Scans.{unread_bytes}
+use Rattle.rdf_trig.proofs.Prelude.{◌≡◌, ◌+◌, ◌≤◌, ℕ, false, List, ap, sym, subst, length, arith, Quad, tokens_of, undecided, unread_bytes, bytes_held, HasRead, mode_size, Owed, OwedInAll, scope_size, Chosen, TrigRead, tree_words}
 use Rattle.rdf_tokens.specs.Laws.{open_bytes}
 use Rattle.rdf_tokens.proofs.OpenText.{open_text_pending}
-use Rattle.rdf_iri.specs.Scope.{bytes_held}
-use Rattle.rdf_driver.specs.Readers.{HasRead}
-use Rattle.rdf_trig.specs.Machine.{mode_size}
-use Rattle.rdf_trig.specs.Owed.{Owed, OwedInAll, scope_size}
-use Rattle.rdf_trig.specs.Language.{Chosen}
-use Rattle.rdf_trig.specs.Accepting.{TrigRead, tree_words}
 use Rattle.rdf_trig.proofs.machine.OpenSizes.{held_is_open}
 use Rattle.rdf_trig.proofs.code.ScopeSizes.{scopes_alike}
 

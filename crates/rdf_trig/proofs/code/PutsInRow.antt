@@ -1,12 +1,7 @@
 -- Puts one after the other.
-use Rattle.std.proofs.Common.{◌≡◌, Bool, List, [], ◌∷◌, ◌++◌, Result, Ok, Err, inr, sym, ap, ◌∙◌, subst}
-use Rattle.std.proofs.lemmas.List.{append-nil, append_assoc}
-use Rattle.rdf_terms.specs.Terms.{Quad}
-use Rattle.rdf_terms.specs.Sinks.{Appends, Attempts}
-use Rattle.rdf_trig.specs.declared.fault.StepFault.{StepFault}
+use Rattle.rdf_trig.proofs.Prelude.{◌≡◌, Bool, List, [], ◌∷◌, ◌++◌, Result, Ok, Err, inr, sym, ap, ◌∙◌, subst, append-nil, append_assoc, Quad, Appends, Attempts, StepFault, IfErr, IsErrAnd, GaveUp}
 use Rattle.rdf_trig.specs.declared.fault.StepFault.TheVariants.{Memory, Sink}
-use Rattle.std.specs.Prelude.{IfErr, IsErrAnd}
-use Rattle.rdf_trig.specs.Steps.{Begins, GaveUp}
+use Rattle.rdf_trig.specs.Steps.{Begins}
 
 -- puts of two lists, one after the other, are the puts of both
 pub appends_append : {S : Type 0} (takes : S → Quad → S → Type 0) (a b c : S) (qs rs : List Quad) → Appends takes a qs b → Appends takes b rs c →

@@ -1,13 +1,5 @@
 -- Scopes that agree in every look-up take the same bytes.
-use Rattle.std.proofs.Common.{◌≡◌, ◌+◌, ◌≤◌, ℕ, true, false, cond, List, [], ◌∷◌, Option, Some, None, is_some, refl, sym, ap, ◌∙◌, subst, ⊎_elim, arith}
-use Rattle.std.proofs.lemmas.Bool.{cond-true, cond-false, cases_Bool}
-use Rattle.std.specs.List.{sum_by}
-use Rattle.std.proofs.lemmas.List.Sums.{sum_by-cons}
-use Rattle.rdf_iri.specs.Texts.{equal, byte_len}
-use Rattle.rdf_iri.specs.Scope.{bound_to, base_bytes, binding_bytes}
-use Rattle.rdf_iri.proofs.TextsLemmas.{equal-true, equal-self}
-use Rattle.rdf_trig.specs.Owed.{in_force}
-use Rattle.rdf_trig.specs.Laws.{ScopesAlikeTakeAlike}
+use Rattle.rdf_trig.proofs.Prelude.{◌≡◌, ◌+◌, ◌≤◌, ℕ, true, false, cond, List, [], ◌∷◌, Option, Some, None, is_some, refl, sym, ap, ◌∙◌, subst, ⊎_elim, arith, cond-true, cond-false, cases_Bool, sum_by, sum_by-cons, equal, byte_len, bound_to, base_bytes, binding_bytes, equal-true, equal-self, in_force, ScopesAlikeTakeAlike}
 
 abbrev Bindings : Type 0
 Bindings = List (List ℕ × List ℕ)

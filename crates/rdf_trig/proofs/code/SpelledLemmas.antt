@@ -1,19 +1,9 @@
 -- What the shape of a token says of what it spells.
-use Rattle.std.proofs.Common.{◌≡◌, ℕ, true, List, [], ◌∷◌, ◌++◌, ◌==◌, length, drop, refl, sym, ap, ◌∙◌, subst, ⊎_elim}
-use Rattle.std.specs.Prelude.{codes}
-use Rattle.std.proofs.lemmas.Bool.{eqb-true, and_parts}
+use Rattle.rdf_trig.proofs.Prelude.{◌≡◌, ℕ, true, List, [], ◌∷◌, ◌++◌, ◌==◌, length, drop, refl, sym, ap, ◌∙◌, subst, ⊎_elim, codes, eqb-true, and_parts, the, Kind, IriRef, LangTag, AtPrefix, AtBase, True, False, End, shape, Shape, tag_name, word, IsTag, is_fit, IsReference, leaf, IsTurtleToken}
 use Rattle.rdf_terms.specs.Classes.{has, scalar}
-use Rattle.rdf_terms.specs.Classes.Class.{the}
 use Rattle.rdf_terms.specs.Regex.{Matches}
-use Rattle.rdf_terms.specs.declared.kind.Kind.{Kind}
 use Rattle.rdf_terms.specs.declared.kind.Dialect.TheVariants.{Turtle}
-use Rattle.rdf_terms.specs.declared.kind.Kind.TheVariants.{IriRef, LangTag, AtPrefix, AtBase, True, False, End}
-use Rattle.rdf_terms.specs.Shapes.{shape, Shape, tag_name, word}
-use Rattle.rdf_terms.specs.Terms.{IsTag}
-use Rattle.rdf_terms.specs.Values.{is_fit}
-use Rattle.rdf_trig.specs.Scopes.{IsReference}
 use Rattle.rdf_tokens.specs.declared.token.Token.{Token as Given}
-use Rattle.rdf_trig.specs.States.{leaf, IsTurtleToken}
 use Rattle.rdf_trig.specs.Spelled.{SpellsTag}
 use Rattle.rdf_terms.proofs.ShapesLemmas.{form-matches}
 use Rattle.rdf_terms.proofs.SpelledLemmas.{tag_in}

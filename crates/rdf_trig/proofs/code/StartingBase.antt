@@ -1,12 +1,5 @@
 -- The base that a reader begins with.
-use Rattle.std.proofs.Common.{◌≡◌, ◌≤◌, ℕ, true, List, length, Option, Some, sym, ap, ◌∙◌, subst, arith}
-use Rattle.std.specs.Prelude.{nat_le}
-use Rattle.std.specs.Str.{chars, IsUtf8}
-use Rattle.std.proofs.lemmas.Bool.{le-leb, leb-true}
-use Rattle.rdf_iri.specs.Limits.{Sizes}
-use Rattle.rdf_iri.specs.Texts.{byte_len}
-use Rattle.rdf_iri.specs.Scope.{BaseFits}
-use Rattle.rdf_iri.proofs.ResolvedText.{byte_len-chars}
+use Rattle.rdf_trig.proofs.Prelude.{◌≡◌, ◌≤◌, ℕ, true, List, length, Option, Some, sym, ap, ◌∙◌, subst, arith, nat_le, chars, IsUtf8, le-leb, leb-true, Sizes, byte_len, BaseFits, byte_len-chars}
 
 module _ (base : Option (List ℕ)) (i w : List ℕ) (n : ℕ) (limits : Sizes) (is : base ≡ Some i) (text : chars w ≡ i) (utf8 : IsUtf8 w)
     (limit : n ≡ limits.iri) where

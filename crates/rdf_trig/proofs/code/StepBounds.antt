@@ -1,20 +1,9 @@
 -- What every step of the machine keeps to: what its token stands for, how many brackets are open after it, how long a directive's prefix is.
-use Rattle.std.proofs.Common.{◌≡◌, ◌≤◌, ◌+◌, ℕ, List, Option, Some, None, refl, sym, ap, ◌∙◌, subst, arith}
-use Rattle.rdf_terms.specs.declared.kind.Kind.{Kind}
-use Rattle.rdf_terms.specs.declared.kind.Kind.TheVariants.{IriRef, LabelNode, ShortString, LongString, LangTag, Carets, Dot, Integer, Decimal, Double, True, False, A, AtPrefix, AtBase, Prefix, Base, Graph, PnameNs, PnameLn, Semicolon, Comma, OpenBracket, CloseBracket, OpenParen, CloseParen, OpenBrace, CloseBrace, End}
-use Rattle.rdf_terms.specs.Terms.{Quad}
+use Rattle.rdf_trig.proofs.Prelude.{◌≡◌, ◌≤◌, ◌+◌, ℕ, List, Option, Some, None, refl, sym, ap, ◌∙◌, subst, arith, Kind, IriRef, LabelNode, ShortString, LongString, LangTag, Carets, Dot, Integer, Decimal, Double, True, False, A, AtPrefix, AtBase, Prefix, Base, Graph, PnameNs, PnameLn, Semicolon, Comma, OpenBracket, CloseBracket, OpenParen, CloseParen, OpenBrace, CloseBrace, End, Quad, byte_len, before, from, before-from, Leaf, DocForm, TriG, Setting, in_default, rest_quad, cell_at, node, Use, itself, Reply, No, Go, depth, depth_at, depth_around, depth_up, use_at, use_in, DepthMoves, ShortPrefix}
 use Rattle.rdf_terms.specs.Terms as term
-use Rattle.rdf_iri.specs.Texts.{byte_len, before, from}
-use Rattle.rdf_iri.proofs.TextsLemmas.{before-from}
 use Rattle.rdf_iri.proofs.ScopeLemmas.{byte_len-append}
-use Rattle.rdf_tokens.specs.Leaves.{Leaf}
-use Rattle.rdf_trig.specs.declared.form.DocForm.{DocForm}
-use Rattle.rdf_trig.specs.declared.form.DocForm.TheVariants.{Turtle, TriG}
-use Rattle.rdf_trig.specs.Quads.{Setting, in_default, rest_quad, cell_at, node}
-use Rattle.rdf_trig.specs.Events.{Use, itself}
+use Rattle.rdf_trig.specs.declared.form.DocForm.TheVariants.{Turtle}
 use Rattle.rdf_trig.specs.Machine as M
-use Rattle.rdf_trig.specs.Machine.{Reply, No, Go, depth, depth_at, depth_around, depth_up}
-use Rattle.rdf_trig.specs.States.{use_at, use_in, DepthMoves, ShortPrefix}
 
 -- a reply to a token that stands for this, where so many brackets are open
 abbrev Fits : Use → ℕ → Kind → Leaf → Reply → Type 0

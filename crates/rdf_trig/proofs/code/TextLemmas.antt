@@ -1,14 +1,6 @@
 -- A text that is used again: where it is empty there is none, and an IRI and a tag are not empty.
-use Rattle.std.proofs.Common.{◌≡◌, ◌<◌, ◌≤◌, ℕ, List, [], ◌∷◌, Option, Some, None, refl, sym, ap, ◌∙◌, subst, arith}
-use Rattle.std.specs.Prelude.{is_some, IfSome, false, true}
-use Rattle.std.proofs.lemmas.Bool.{false≢true}
-use Rattle.std.specs.Str.{chars}
-use Rattle.std.proofs.lemmas.Str.{chars-nil, length-le-encodes}
-use Rattle.rdf_terms.specs.Terms.{IsIri, IsTag}
+use Rattle.rdf_trig.proofs.Prelude.{◌≡◌, ◌<◌, ◌≤◌, ℕ, List, [], ◌∷◌, Option, Some, None, refl, sym, ap, ◌∙◌, subst, arith, is_some, IfSome, false, true, false≢true, chars, chars-nil, length-le-encodes, IsIri, IsTag, byte_len, iri_size, text_at}
 use Rattle.rdf_terms.proofs.NamesLemmas.{tag_goes_on-IsTag}
-use Rattle.rdf_iri.specs.Texts.{byte_len}
-use Rattle.rdf_trig.specs.Owed.{iri_size}
-use Rattle.rdf_trig.specs.Slots.{text_at}
 
 -- an IRI is a text that is there
 pub iri_there : (w : List ℕ) → IsIri w → Some w ≡ text_at w

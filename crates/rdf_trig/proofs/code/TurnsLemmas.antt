@@ -1,14 +1,7 @@
 -- What parts of the table mean, and what is known of each turn and of the states after it.
-use Rattle.std.proofs.Common.{◌≡◌, ℕ, Option, None, List, Result, Ok, Err, true, Some, refl, sym, ap, subst, ◌∙◌}
-use Rattle.std.specs.Prelude.{OnOk, IfOk, IfErr, IfSome, MatchOption, is_some}
-use Rattle.rdf_iri.specs.Scope.{InForce}
-use Rattle.rdf_terms.specs.declared.kind.Kind.{Kind}
+use Rattle.rdf_trig.proofs.Prelude.{◌≡◌, ℕ, Option, None, List, Result, Ok, Err, true, Some, refl, sym, ap, subst, ◌∙◌, OnOk, IfOk, IfErr, IfSome, MatchOption, is_some, InForce, Kind, Quad, Leaf, DocForm, TriG, StepFault, Turn, Use, topic_at, Setting, cell_at, rest_quad, Reply, Go, IsNamedIn, NameIn, is_go, name_at, use_in, scope_in, cells_quad, first_of, after_semicolon_at, up_in, place_in, level_of, graph_of, graph_at, setting, setting_in, mode_at, moved, Means, Decides, IsTurn, IsSuited, Suits, begun, turned}
 use Rattle.rdf_terms.specs.Terms as term
-use Rattle.rdf_terms.specs.Terms.{Quad}
-use Rattle.rdf_tokens.specs.Leaves.{Leaf}
-use Rattle.rdf_trig.specs.declared.form.DocForm.{DocForm}
-use Rattle.rdf_trig.specs.declared.form.DocForm.TheVariants.{Turtle, TriG}
-use Rattle.rdf_trig.specs.declared.fault.StepFault.{StepFault}
+use Rattle.rdf_trig.specs.declared.form.DocForm.TheVariants.{Turtle}
 use Rattle.rdf_trig.specs.declared.slots.SubjectKind.{SubjectKind}
 use Rattle.rdf_trig.specs.declared.slots.SubjectKind.TheVariants as kind
 use Rattle.rdf_trig.specs.declared.state.Block.{Block}
@@ -19,15 +12,9 @@ use Rattle.rdf_trig.specs.declared.state.Mode.{Mode}
 use Rattle.rdf_trig.specs.declared.state.Ready.TheVariants as ready
 use Rattle.rdf_trig.specs.declared.turn.ObjectStart.{ObjectStart}
 use Rattle.rdf_trig.specs.declared.turn.ObjectStart.TheVariants as object
-use Rattle.rdf_trig.specs.declared.turn.Turn.{Turn}
 use Rattle.rdf_trig.specs.declared.turn.Turn.TheVariants as turn
-use Rattle.rdf_trig.specs.Events.{Use}
-use Rattle.rdf_trig.specs.Slots.{topic_at}
-use Rattle.rdf_trig.specs.Quads.{Setting, cell_at, rest_quad}
 use Rattle.rdf_trig.specs.Machine as M
-use Rattle.rdf_trig.specs.Machine.{Reply, Go}
-use Rattle.rdf_trig.specs.States.{IsNamedIn, NameIn, is_go, name_at, use_in, scope_in, cells_quad, first_of, cell_of, after_semicolon_at, up_in, place_in, level_of, graph_of, graph_at, setting, setting_in, mode_at, moved}
-use Rattle.rdf_trig.specs.Turns.{Means, Decides, IsTurn, IsSuited, Suits, begun, turned}
+use Rattle.rdf_trig.specs.States.{cell_of}
 
 -- what a success brings leads on to what it is to bring
 pub on_ok : {T E : Type 0} (r : Result T E) (P Q : Type 0) → (P → Q) → OnOk r P → OnOk r Q

@@ -1,29 +1,12 @@
 -- Documents whose quads, with their marks, are computed from the definitions: from a list of tokens to what it means.
-use Rattle.std.proofs.Common.{◌≡◌, ◌≤◌, ℕ, Bool, true, List, [], ◌∷◌, ◌++◌, ◌&&◌, take, drop, Option, Some, None, refl, sym, ◌∙◌}
-use Rattle.std.specs.Prelude.{codes}
-use Rattle.std.proofs.lemmas.Bool.{and_parts}
+use Rattle.rdf_trig.proofs.Prelude.{◌≡◌, ◌≤◌, ℕ, Bool, true, List, [], ◌∷◌, ◌++◌, ◌&&◌, drop, Option, Some, None, refl, sym, ◌∙◌, codes, and_parts, Typed, Lang, Resource, resolved, IriRef, LabelNode, ShortString, LangTag, Carets, Dot, Integer, True, False, A, AtBase, Prefix, Base, Graph, PnameNs, PnameLn, Comma, OpenBracket, CloseBracket, OpenParen, CloseParen, OpenBrace, CloseBrace, End, Label, Anon, Cell, Blank, Term, Quad, known_chars, RdfType, RdfFirst, RdfRest, RdfNil, XsdString, XsdInteger, XsdBoolean, Token, Marked, InForce, bytes_held, Leaf, token, TriG, pname_ln, Iri, iri_ref, prefixed, label, anon, predicate, type_word, short, lang_tag, base_tag, plain, tagged, typed, integer, true_word, false_word, Literal, rdf, numeric, boolean, iri_object, blank_object, collection_object, list_object, literal_object, collection, no_items, item, property_list, predicate_objects, no_more, objects, no_commas, comma, iri_subject, blank_subject, collection_subject, subject_triples, list_triples, base, sparql_prefix, sparql_base, iri_label, blank_label, last, last_dot, dot, wrapped, named_graph, label_triples, triples_or_graph, default_graph, Document, end, with_directive, with_body, reference_in, name_in, is_full, Event, Took, Gave, document_events, event_quads, Bound, documents, document_held, held_after, Owed, OwedInAll, scope_size, most_held, encode}
+use Rattle.std.proofs.Common.{take}
 use Rattle.rdf_terms.specs.Classes.{has}
-use Rattle.rdf_terms.specs.Terms.{Typed, Lang, Resource}
-use Rattle.rdf_iri.specs.Resolve.{resolved}
 use Rattle.rdf_iri.specs.Parts.{parts_of}
 use Rattle.rdf_iri.specs.Dots.{remove_dots, finish, step}
-use Rattle.rdf_terms.specs.declared.kind.Kind.TheVariants.{IriRef, LabelNode, ShortString, LangTag, Carets, Dot, Integer, True, False, A, AtBase, Prefix, Base, Graph, PnameNs, PnameLn, Comma, OpenBracket, CloseBracket, OpenParen, CloseParen, OpenBrace, CloseBrace, End}
-use Rattle.rdf_terms.specs.Terms.{Label, Anon, Cell, Blank, Term, Quad}
 use Rattle.rdf_terms.specs.Terms as term
-use Rattle.rdf_terms.specs.Known.{known_chars}
-use Rattle.rdf_terms.specs.declared.constants.Known.TheVariants.{RdfType, RdfFirst, RdfRest, RdfNil, XsdString, XsdInteger, XsdBoolean}
-use Rattle.rdf_tokens.specs.Tokens.{Token}
-use Rattle.rdf_tokens.specs.Grammars.{Marked}
-use Rattle.rdf_iri.specs.Scope.{InForce, bytes_held}
-use Rattle.rdf_tokens.specs.Leaves.{Leaf, token}
-use Rattle.rdf_trig.specs.declared.form.DocForm.TheVariants.{Turtle, TriG}
-use Rattle.rdf_trig.specs.Trees.{pname_ln, Iri, iri_ref, prefixed, label, anon, predicate, type_word, short, lang_tag, base_tag, plain, tagged, typed, integer, true_word, false_word, Literal, rdf, numeric, boolean, iri_object, blank_object, collection_object, list_object, literal_object, collection, no_items, item, property_list, predicate_objects, no_more, objects, no_commas, comma, iri_subject, blank_subject, collection_subject, subject_triples, list_triples, base, sparql_prefix, sparql_base, iri_label, blank_label, last, last_dot, dot, wrapped, named_graph, label_triples, triples_or_graph, default_graph, Document, end, with_directive, with_body}
+use Rattle.rdf_trig.specs.declared.form.DocForm.TheVariants.{Turtle}
 use Rattle.rdf_trig.specs.Trees as tree
-use Rattle.rdf_trig.specs.Names.{reference_in, name_in, is_full}
-use Rattle.rdf_trig.specs.Events.{Event, Took, Gave, document_events, event_quads, Bound}
-use Rattle.rdf_trig.specs.Documents.{documents}
-use Rattle.rdf_trig.specs.Owed.{document_held, held_after, Owed, OwedInAll, scope_size, most_held}
-use Rattle.std.proofs.Math.Utf8.{encode}
 use Rattle.rdf_trig.proofs.machine.ClosingTokens.{has_iri}
 use Rattle.rdf_trig.proofs.machine.ViableTokens.{use_bound}
 use Rattle.rdf_trig.proofs.machine.OpenSizes.{held_is_settled}

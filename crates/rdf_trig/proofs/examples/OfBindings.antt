@@ -1,35 +1,14 @@
 -- The laws at documents that start with one prefix bound, `x` to `b:/`, where one may be bound.
-use Rattle.std.proofs.Common.{◌≡◌, ℕ, true, false, List, [], ◌∷◌, ◌++◌, Some, None, refl, sym, ◌∙◌, subst, lit≤}
-use Rattle.std.specs.Prelude.{codes}
-use Rattle.std.proofs.Math.Utf8.{encode}
-use Rattle.std.specs.Str.{chars, is_utf8}
+use Rattle.rdf_trig.proofs.Prelude.{◌≡◌, ℕ, true, false, List, [], ◌∷◌, ◌++◌, Some, None, refl, sym, ◌∙◌, subst, lit≤, codes, encode, chars, is_utf8, IriRef, PnameNs, PnameLn, Prefix, Dot, End, Reason, shape, kind_of, is_live, is_fit, Resource, Quad, TooManyBindings, Token, read, complete, token_too_long, tokens_of, Due, PassesNone, Language, reading_of, IsDocumentOf, IsWithin, Refused, IsReadToItsEnd, Marked, unmarked, HasRead, InForce, resolved, token, reference_in, name_in, is_full, in_default, documents, Passes, Sparql, WantPrefixIri, Start, Over, at_start, ran, accept_all, TrigRead, tree_words, IsRefusedAfter}
 use Rattle.std.specs.Str.Lossy.{utf8_valid_len, utf8_error_len}
 use Rattle.rdf_terms.specs.declared.kind.Dialect.TheVariants.{Turtle as turtle}
-use Rattle.rdf_terms.specs.declared.kind.Kind.TheVariants.{IriRef, PnameNs, PnameLn, Prefix, Dot, End}
-use Rattle.rdf_terms.specs.declared.reason.Reason.{Reason}
 use Rattle.rdf_terms.specs.Classes.{has}
-use Rattle.rdf_terms.specs.Shapes.{shape, kind_of, is_live}
-use Rattle.rdf_terms.specs.Values.{is_fit}
-use Rattle.rdf_terms.specs.Terms.{Resource, Quad}
 use Rattle.rdf_terms.specs.Terms as term
-use Rattle.rdf_terms.specs.declared.reason.Reason.TheVariants.{TooManyBindings}
-use Rattle.rdf_tokens.specs.Tokens.{Place, Token, step, read, tokens}
-use Rattle.rdf_tokens.specs.Tokens.Outcome.{complete, token_too_long}
-use Rattle.rdf_tokens.specs.Good.{tokens_of}
-use Rattle.rdf_tokens.specs.Grammars.{Due, PassesNone, Language, reading_of, IsDocumentOf, IsWithin, Refused, IsReadToItsEnd, Marked, unmarked}
-use Rattle.rdf_driver.specs.Readers.{HasRead}
-use Rattle.rdf_iri.specs.Scope.{InForce}
+use Rattle.rdf_tokens.specs.Tokens.{Place, step, tokens}
 use Rattle.rdf_iri.specs.Bindings.{bindings_of}
-use Rattle.rdf_iri.specs.Resolve.{resolved}
-use Rattle.rdf_tokens.specs.Leaves.{token}
 use Rattle.rdf_trig.specs.declared.form.DocForm.TheVariants.{Turtle}
-use Rattle.rdf_trig.specs.Names.{reference_in, name_in, is_full}
-use Rattle.rdf_trig.specs.Quads.{in_default}
-use Rattle.rdf_trig.specs.Documents.{documents, Passes}
-use Rattle.rdf_trig.specs.Machine.{Sparql, WantPrefixIri, Start, Over, State, at_start, ran, accept_all}
+use Rattle.rdf_trig.specs.Machine.{State}
 use Rattle.rdf_trig.specs.Language.{language}
-use Rattle.rdf_trig.specs.Accepting.{TrigRead, tree_words}
-use Rattle.rdf_trig.specs.Laws.{IsRefusedAfter}
 use Rattle.rdf_trig.proofs.examples.Documents.{leaf, quad}
 use Rattle.rdf_trig.proofs.theorems.StatedLaws.{begins, stops}
 use Rattle.rdf_trig.proofs.machine.ExactDocuments.{accepted_document, same_due, due_ran}

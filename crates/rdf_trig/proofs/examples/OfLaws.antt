@@ -1,30 +1,9 @@
 -- Each law at an example.
-use Rattle.std.proofs.Common.{◌++◌, ◌≡◌, List, [], ◌∷◌, take, drop, Some, None, refl, ◌∙◌, subst}
-use Rattle.std.specs.Prelude.{codes}
-use Rattle.std.proofs.Math.Utf8.{encode}
+use Rattle.rdf_trig.proofs.Prelude.{◌++◌, ◌≡◌, List, [], ◌∷◌, drop, Some, None, refl, ◌∙◌, subst, codes, encode, Typed, Resource, resolved, Due, unmarked, IsFront, Rises, bound_to, Binds, IriRef, Prefix, PnameNs, PnameLn, Semicolon, OpenBracket, CloseBracket, OpenBrace, End, Anon, Cell, Blank, Quad, known_chars, RdfFirst, XsdBoolean, Unexpected, TooDeep, Unbound, NoBase, IriTooLong, TooManyBindings, Token, Marked, InForce, token, TriG, reference_in, name_in, with_binding, is_full, in_default, Use, stands, document_events, event_quads, document_quads, documents, trees, InTree, sized, spelt, Top, Listed, WantPrefixIri, Sparql, Statement, InPropertyList, At, Start, Over, Want, After, AfterPropertyList, at_start, ran, accept_all, CompletedBy, IsRefusedAfter, Reads, ViableWhereBound, ShapedAndBound, NamelessWhere}
+use Rattle.std.proofs.Common.{take}
 use Rattle.rdf_terms.specs.Classes.{has}
-use Rattle.rdf_terms.specs.Terms.{Typed, Resource}
-use Rattle.rdf_iri.specs.Resolve.{resolved}
-use Rattle.rdf_tokens.specs.Grammars.{Due, unmarked, IsFront, Rises}
-use Rattle.rdf_iri.specs.Scope.{bound_to, Binds}
-use Rattle.rdf_terms.specs.declared.kind.Kind.TheVariants.{IriRef, Prefix, PnameNs, PnameLn, Semicolon, OpenBracket, CloseBracket, OpenBrace, End}
-use Rattle.rdf_terms.specs.Terms.{Anon, Cell, Blank, Quad}
 use Rattle.rdf_terms.specs.Terms as term
-use Rattle.rdf_terms.specs.Known.{known_chars}
-use Rattle.rdf_terms.specs.declared.constants.Known.TheVariants.{RdfFirst, XsdBoolean}
-use Rattle.rdf_terms.specs.declared.reason.Reason.TheVariants.{Unexpected, TooDeep, Unbound, NoBase, IriTooLong, TooManyBindings}
-use Rattle.rdf_tokens.specs.Tokens.{Token}
-use Rattle.rdf_tokens.specs.Grammars.{Marked}
-use Rattle.rdf_iri.specs.Scope.{InForce}
-use Rattle.rdf_tokens.specs.Leaves.{token}
-use Rattle.rdf_trig.specs.declared.form.DocForm.TheVariants.{TriG}
-use Rattle.rdf_trig.specs.Names.{reference_in, name_in, with_binding, is_full}
-use Rattle.rdf_trig.specs.Quads.{in_default}
-use Rattle.rdf_trig.specs.Events.{Use, stands, document_events, event_quads}
-use Rattle.rdf_trig.specs.TreeQuads.{document_quads}
-use Rattle.rdf_trig.specs.Documents.{documents, trees, InTree}
-use Rattle.rdf_trig.specs.Machine.{sized, spelt, Top, Listed, WantPrefixIri, Sparql, Statement, InPropertyList, At, Start, Over, Want, After, AfterPropertyList, State, at_start, ran, accept_all}
-use Rattle.rdf_trig.specs.Laws.{CompletedBy, IsRefusedAfter, Reads, ViableWhereBound, ShapedAndBound, NamelessWhere}
+use Rattle.rdf_trig.specs.Machine.{State}
 use Rattle.rdf_trig.proofs.examples.Documents.{leaf, quad, start, nested_tokens, nested_tree, nested_quads, nested_is, booleans_tokens, booleans_tree, booleans_quads, booleans_is, inner_collection_quads, inner_collection_tree, one_label_tokens, one_label_quads, one_label_is}
 use Rattle.rdf_trig.proofs.theorems.StatedLaws.{due_front, stops, begins, tree_told, never_fall}
 use Rattle.rdf_trig.proofs.machine.ExactDocuments.{same_quads, same_due, accepted_document, document_accepted}

@@ -1,17 +1,7 @@
 -- What the answers of the machine say: a token is accepted where nothing refuses it, and refused for its reason.
-use Rattle.std.proofs.Common.{◌≡◌, Bool, true, false, cond, List, [], ◌∷◌, ◌++◌, ◌&&◌, Option, Some, None, refl, sym, ap, ◌∙◌, append_assoc}
-use Rattle.std.specs.Prelude.{nat_le}
-use Rattle.rdf_iri.specs.Limits.{Sizes}
-use Rattle.rdf_terms.specs.declared.kind.Kind.{Kind}
-use Rattle.rdf_terms.specs.Terms.{Quad}
-use Rattle.rdf_terms.specs.declared.reason.Reason.TheVariants.{Unexpected, TooDeep, NoBase, IriTooLong, TooManyBindings}
-use Rattle.rdf_tokens.specs.Tokens.{Token}
-use Rattle.rdf_tokens.specs.Leaves.{leaf_of}
-use Rattle.rdf_trig.specs.declared.form.DocForm.{DocForm}
-use Rattle.rdf_trig.specs.Quads.{Setting}
-use Rattle.rdf_trig.specs.Events.{Use, itself, stands, binds}
-use Rattle.rdf_trig.specs.Machine.{Mode, Reply, No, Go, step, waiting}
-use Rattle.rdf_trig.specs.Machine.{kept, State, Answer, refuses, accepts, unnamed, too_long, by_use, deepens, answer, accept, Run, ran, refused, with_quads, go, accept_all, depth}
+use Rattle.rdf_trig.proofs.Prelude.{◌≡◌, Bool, true, false, cond, List, [], ◌∷◌, ◌++◌, ◌&&◌, Option, Some, None, refl, sym, ap, ◌∙◌, append_assoc, nat_le, Sizes, Kind, Quad, Unexpected, TooDeep, NoBase, IriTooLong, TooManyBindings, Token, leaf_of, DocForm, Setting, Use, itself, stands, binds, Reply, No, Go, waiting, kept, Answer, refuses, accepts, unnamed, too_long, by_use, deepens, answer, accept, Run, ran, refused, with_quads, accept_all, depth}
+use Rattle.rdf_trig.specs.Machine.{Mode, step}
+use Rattle.rdf_trig.specs.Machine.{State, go}
 use Rattle.rdf_trig.proofs.machine.ClosingTokens.{has_iri}
 use Rattle.rdf_trig.proofs.machine.ViableTokens.{stand, reach, on_reply, if_true}
 use Rattle.rdf_trig.proofs.machine.DueQuads.{emits, on_emits}

@@ -1,23 +1,8 @@
 -- The machine answers alike where the look-ups of its scope do.
-use Rattle.std.proofs.Common.{◌≡◌, ℕ, Bool, true, false, cond, List, [], ◌&&◌, Option, Some, None, refl, ap, ◌∙◌, subst}
-use Rattle.std.specs.Prelude.{nat_le}
-use Rattle.rdf_terms.specs.declared.kind.Kind.{Kind}
-use Rattle.rdf_terms.specs.declared.kind.Kind.TheVariants.{IriRef, LabelNode, ShortString, LongString, LangTag, Carets, Dot, Integer, Decimal, Double, True, False, A, AtPrefix, AtBase, Prefix, Base, Graph, PnameNs, PnameLn, Semicolon, Comma, OpenBracket, CloseBracket, OpenParen, CloseParen, OpenBrace, CloseBrace, End}
-use Rattle.rdf_terms.specs.Terms.{Anon, Cell, Blank, Quad}
+use Rattle.rdf_trig.proofs.Prelude.{◌≡◌, ℕ, Bool, true, false, cond, List, [], ◌&&◌, Option, Some, None, refl, ap, ◌∙◌, subst, nat_le, Kind, IriRef, LabelNode, ShortString, LongString, LangTag, Carets, Dot, Integer, Decimal, Double, True, False, A, AtPrefix, AtBase, Prefix, Base, Graph, PnameNs, PnameLn, Semicolon, Comma, OpenBracket, CloseBracket, OpenParen, CloseParen, OpenBrace, CloseBrace, End, Anon, Cell, Blank, Quad, Reason, TooDeep, IriTooLong, TooManyBindings, Sizes, InForce, Leaf, DocForm, TriG, reference_in, name_in, with_base, with_binding, is_full, SameNames, Setting, named, node, resource, typed_literal, cell_at, rest_quad, Use, itself, stands, binds, Topic, sized, spelt, Top, InBlock, Listed, InCollection, Around, Statement, InPropertyList, Up, At, Start, Over, WantPrefix, WantPrefixIri, WantBaseIri, WantDot, AfterLabel, GraphWord, GraphBracket, WantBrace, Inside, Want, After, AfterText, WantType, PropertyListStart, CollectionStart, WantVerb, AfterSemicolon, AfterPropertyList, Reply, No, Go, quad_at, object_start, want_type, verb_start, after_subject, predicate_list_end, after_semicolon, after_text, property_list_start, collection_start, after_property_list, subject_start, start, want_brace, after_label, graph_bracket, want_prefix, want_prefix_iri, want_base_iri, want_dot, waiting, depth, kept, Answer, refuses, accepts, too_long, by_use, deepens, answer, accept, SameState}
 use Rattle.rdf_terms.specs.Terms as term
-use Rattle.rdf_terms.specs.declared.reason.Reason.{Reason}
-use Rattle.rdf_terms.specs.declared.reason.Reason.TheVariants.{TooDeep, IriTooLong, TooManyBindings}
-use Rattle.rdf_iri.specs.Limits.{Sizes}
-use Rattle.rdf_iri.specs.Scope.{InForce}
-use Rattle.rdf_tokens.specs.Leaves.{Leaf}
-use Rattle.rdf_trig.specs.declared.form.DocForm.{DocForm}
-use Rattle.rdf_trig.specs.declared.form.DocForm.TheVariants.{TriG}
-use Rattle.rdf_trig.specs.Names.{reference_in, name_in, with_base, with_binding, is_full, SameNames}
-use Rattle.rdf_trig.specs.Quads.{Setting, named, node, resource, typed_literal, cell_at, rest_quad}
-use Rattle.rdf_trig.specs.Events.{Use, itself, stands, binds}
-use Rattle.rdf_trig.specs.Machine.{Topic, sized, spelt, Level, Top, InBlock, Place, Listed, InCollection, Around, Statement, InPropertyList, Up, Subject, At, Spelling, Mode, Start, Over, WantPrefix, WantPrefixIri, WantBaseIri, WantDot, AfterLabel, GraphWord, GraphBracket, WantBrace, Inside, Want, After, AfterText, WantType, PropertyListStart, CollectionStart, WantVerb, AfterSemicolon, AfterPropertyList, Reply, No, Go, quad_at, object_start, want_type, verb_start, after_subject, predicate_list_end, after_semicolon, after, after_text, property_list_start, collection_start, after_property_list, subject_start, start, inside, want_brace, after_label, graph_word, graph_bracket, want_prefix, want_prefix_iri, want_base_iri, want_dot, step, waiting, depth}
-use Rattle.rdf_trig.specs.Machine.{kept, State, Answer, refuses, accepts, too_long, by_use, deepens, answer, accept}
-use Rattle.rdf_trig.specs.Alike.{SameState}
+use Rattle.rdf_trig.specs.Machine.{Level, Place, Subject, Spelling, Mode, after, inside, graph_word, step}
+use Rattle.rdf_trig.specs.Machine.{State}
 use Rattle.rdf_trig.proofs.trees.NamesLemmas.{binds_prefix}
 use Rattle.rdf_trig.proofs.trees.ScopeCalls.{same_itself, same_reference, same_name, same_full, same_based, same_binding}
 

@@ -1,22 +1,9 @@
 -- Each state has one completion, which needs no binding and no base.
-use Rattle.std.proofs.Common.{◌≡◌, ℕ, Bool, true, false, List, [], ◌∷◌, Option, Some, None, refl, ap, ◌∙◌}
-use Rattle.std.specs.Prelude.{codes}
+use Rattle.rdf_trig.proofs.Prelude.{◌≡◌, ℕ, Bool, true, false, List, [], ◌∷◌, Option, Some, None, refl, ap, ◌∙◌, codes, resolved, first_place, Kind, IriRef, Dot, PnameNs, CloseBracket, CloseParen, OpenBrace, CloseBrace, End, Anon, Cell, Quad, Token, InForce, Leaf, token, DocForm, TriG, prefix_of, reference_in, with_base, with_binding, is_full, Setting, in_default, named, node, resource, plain_literal, typed_literal, rest_quad, Use, itself, stands, binds, Event, Took, Gave, give, Topic, Spelt, sized, unsized, spelt, Top, InBlock, Listed, InCollection, Around, Statement, InPropertyList, Up, At, Dotted, Sparql, Start, Over, WantPrefix, WantPrefixIri, WantBaseIri, WantDot, AfterLabel, GraphWord, GraphBracket, WantBrace, Inside, Want, After, AfterText, WantType, PropertyListStart, CollectionStart, WantVerb, AfterSemicolon, AfterPropertyList, Go, goes, cell, quad_at, nil, after_subject, node_closed, property_list_closed, collection_closed, directive_end, waiting, fronted, put, go_on, run}
 use Rattle.rdf_terms.specs.Classes.{has}
-use Rattle.rdf_iri.specs.Resolve.{resolved}
-use Rattle.rdf_tokens.specs.Good.{first_place}
-use Rattle.rdf_terms.specs.declared.kind.Kind.{Kind}
-use Rattle.rdf_terms.specs.declared.kind.Kind.TheVariants.{IriRef, Dot, PnameNs, CloseBracket, CloseParen, OpenBrace, CloseBrace, End}
-use Rattle.rdf_terms.specs.Terms.{Anon, Cell, Quad}
 use Rattle.rdf_terms.specs.Terms as term
-use Rattle.rdf_tokens.specs.Tokens.{Token}
-use Rattle.rdf_iri.specs.Scope.{InForce}
-use Rattle.rdf_tokens.specs.Leaves.{Leaf, token}
-use Rattle.rdf_trig.specs.declared.form.DocForm.{DocForm}
-use Rattle.rdf_trig.specs.declared.form.DocForm.TheVariants.{Turtle, TriG}
-use Rattle.rdf_trig.specs.Names.{prefix_of, reference_in, with_base, with_binding, is_full}
-use Rattle.rdf_trig.specs.Quads.{Setting, in_default, named, node, resource, plain_literal, typed_literal, rest_quad}
-use Rattle.rdf_trig.specs.Events.{Use, itself, stands, binds, Event, Took, Gave, give}
-use Rattle.rdf_trig.specs.Machine.{Topic, Spelt, sized, unsized, spelt, Level, Top, InBlock, Place, Listed, InCollection, Around, Statement, InPropertyList, Up, Subject, At, Spelling, Dotted, Sparql, Mode, Start, Over, WantPrefix, WantPrefixIri, WantBaseIri, WantDot, AfterLabel, GraphWord, GraphBracket, WantBrace, Inside, Want, After, AfterText, WantType, PropertyListStart, CollectionStart, WantVerb, AfterSemicolon, AfterPropertyList, Go, goes, cell, quad_at, nil, after_subject, node_closed, property_list_closed, collection_closed, directive_end, step, waiting, fronted, put, go_on, run}
+use Rattle.rdf_trig.specs.declared.form.DocForm.TheVariants.{Turtle}
+use Rattle.rdf_trig.specs.Machine.{Level, Place, Subject, Spelling, Mode, step}
 use Rattle.rdf_trig.proofs.machine.Completeness.{text_run}
 
 -- whether a token that stands for this is taken: with a name that stands for something, or with any

@@ -1,19 +1,11 @@
 -- A tree's tokens are read, with its events.
-use Rattle.std.proofs.Common.{◌≡◌, ℕ, List, [], ◌∷◌, Option, Some, None, refl, sym, ap, ◌∙◌}
-use Rattle.rdf_terms.specs.declared.kind.Kind.{Kind}
-use Rattle.rdf_terms.specs.declared.kind.Kind.TheVariants.{IriRef, LabelNode, ShortString, LongString, LangTag, Carets, Dot, Integer, Decimal, Double, True, False, A, AtPrefix, AtBase, Prefix, Base, Graph, PnameNs, PnameLn, Semicolon, Comma, OpenBracket, CloseBracket, OpenParen, CloseParen, OpenBrace, CloseBrace, End}
-use Rattle.rdf_terms.specs.Terms.{Anon, Cell, Blank, Quad}
-use Rattle.rdf_tokens.specs.Tokens.{Token}
-use Rattle.rdf_iri.specs.Scope.{InForce}
-use Rattle.rdf_tokens.specs.Leaves.{Leaf, leaf_of, token}
-use Rattle.rdf_trig.specs.declared.form.DocForm.{DocForm}
-use Rattle.rdf_trig.specs.declared.form.DocForm.TheVariants.{Turtle, TriG}
-use Rattle.rdf_trig.specs.Trees.{pname_ln, pname_ns, Iri, iri_ref, prefixed, BlankNode, label, anon, Verb, predicate, type_word, String, short, long, Tag, lang_tag, base_tag, prefix_tag, plain, tagged, typed, integer, decimal, double, true_word, false_word, Literal, rdf, numeric, boolean, Object, iri_object, blank_object, collection_object, list_object, literal_object, Collection, collection, Items, no_items, item, BlankNodePropertyList, property_list, PredicateObjectList, predicate_objects, More, no_more, semicolon, semicolon_objects, ObjectList, objects, Commas, no_commas, comma, iri_subject, blank_subject, collection_subject, Triples, subject_triples, list_triples, prefix_id, base, sparql_prefix, sparql_base, LabelOrSubject, iri_label, blank_label, TriplesBlock, last, last_dot, dot, WrappedGraph, wrapped, named_graph, label_triples, list_triples2, collection_triples2, triples_or_graph, default_graph, triples2, Body, Document, end, with_directive, with_body}
+use Rattle.rdf_trig.proofs.Prelude.{◌≡◌, ℕ, List, [], ◌∷◌, Option, Some, None, refl, sym, ap, ◌∙◌, Kind, IriRef, LabelNode, ShortString, LongString, LangTag, Carets, Dot, Integer, Decimal, Double, True, False, A, AtPrefix, AtBase, Prefix, Base, Graph, PnameNs, PnameLn, Semicolon, Comma, OpenBracket, CloseBracket, OpenParen, CloseParen, OpenBrace, CloseBrace, End, Anon, Cell, Blank, Quad, Token, InForce, Leaf, leaf_of, token, DocForm, TriG, pname_ln, pname_ns, Iri, iri_ref, prefixed, BlankNode, label, anon, Verb, predicate, type_word, short, long, Tag, lang_tag, base_tag, prefix_tag, plain, tagged, typed, integer, decimal, double, true_word, false_word, Literal, rdf, numeric, boolean, Object, iri_object, blank_object, collection_object, list_object, literal_object, Collection, collection, Items, no_items, item, BlankNodePropertyList, property_list, PredicateObjectList, predicate_objects, More, no_more, semicolon, semicolon_objects, ObjectList, objects, Commas, no_commas, comma, iri_subject, blank_subject, collection_subject, Triples, subject_triples, list_triples, prefix_id, base, sparql_prefix, sparql_base, LabelOrSubject, iri_label, blank_label, TriplesBlock, last, last_dot, dot, WrappedGraph, wrapped, named_graph, label_triples, list_triples2, collection_triples2, triples_or_graph, default_graph, triples2, Body, Document, end, with_directive, with_body, reference_in, name_in, iri_in, scope_after, Setting, in_default, in_graph, named, node, resource, anon_at, blank_of, lexical, plain_literal, tagged_literal, typed_literal, literal_of, iri_leaf, string_leaf, literal_leaf, object_leaf, cell_at, items_of, collection_of, list_of, label_of, rest_quad, Use, itself, stands, Event, Took, give, iri_events, verb_events, string_events, tag_events, blank_object_events, literal_events, object_events, collection_events, items_events, rest_events, list_events, predicates_events, more_events, objects_events, commas_events, maybe_events, triples_events, label_events, block_events, maybe_block_events, wrapped_events, body_events, document_events, Topic, Spelt, sized, unsized, spelt, verb_in, Top, InBlock, Listed, InCollection, Around, Statement, InPropertyList, Up, At, Start, AfterLabel, GraphWord, WantBrace, Inside, Want, After, AfterText, WantType, PropertyListStart, CollectionStart, WantVerb, AfterSemicolon, AfterPropertyList, Reply, No, Go, goes, cell, subject_at, verb_at, quad_at, quad_up, nil, object_start, verb_start, after_subject, collection_closed, subject_start, waiting, fronted, put, go_on, run}
+use Rattle.rdf_trig.specs.declared.form.DocForm.TheVariants.{Turtle}
+use Rattle.rdf_trig.specs.Trees.{String}
 use Rattle.rdf_trig.specs.Trees as tree
-use Rattle.rdf_trig.specs.Names.{reference_in, name_in, iri_in, scope_after}
-use Rattle.rdf_trig.specs.Quads.{Setting, in_default, in_graph, named, node, resource, anon_at, blank_of, lexical, language, plain_literal, tagged_literal, typed_literal, literal_of, iri_leaf, string_leaf, literal_leaf, object_leaf, cell_at, items_of, collection_of, list_of, label_of, rest_quad}
-use Rattle.rdf_trig.specs.Events.{Use, itself, stands, Event, Took, take, give, iri_events, verb_events, string_events, tag_events, blank_object_events, literal_events, object_quad, object_events, collection_events, items_events, rest_events, list_events, predicates_events, more_events, objects_events, commas_events, maybe_events, triples_events, label_events, block_events, maybe_block_events, wrapped_events, body_events, document_events, tokens}
-use Rattle.rdf_trig.specs.Machine.{Topic, Spelt, sized, unsized, spelt, verb_in, Level, Top, InBlock, Place, Listed, InCollection, Around, Statement, InPropertyList, Up, Subject, At, Mode, Start, AfterLabel, GraphWord, WantBrace, Inside, Want, After, AfterText, WantType, PropertyListStart, CollectionStart, WantVerb, AfterSemicolon, AfterPropertyList, Reply, No, Go, goes, cell, subject_at, verb_at, quad_at, quad_up, nil, object_start, verb_start, after_subject, collection_closed, after, subject_start, step, waiting, fronted, put, go_on, run}
+use Rattle.rdf_trig.specs.Quads.{language}
+use Rattle.rdf_trig.specs.Events.{take, object_quad, tokens}
+use Rattle.rdf_trig.specs.Machine.{Level, Place, Subject, Mode, after, step}
 use Rattle.rdf_trig.proofs.trees.TokensOfEvents.{tokens_give}
 
 module _ (form : DocForm) where

@@ -1,19 +1,8 @@
 -- What is given out for some tokens is due: in each document that begins with them, the quads whose mark is below their number. Marks never fall.
-use Rattle.std.proofs.Common.{◌≡◌, ℕ, zero, suc, ◌+◌, ◌≤◌, true, List, [], ◌∷◌, ◌++◌, length, Option, Some, None, refl, sym, ap, ◌∙◌, arith}
-use Rattle.std.specs.Prelude.{nat_lt}
-use Rattle.std.proofs.lemmas.Bool.{cond-true, cond-false, lt-ltb, le-ltb}
-use Rattle.rdf_tokens.specs.Grammars.{items_below, Rises}
+use Rattle.rdf_trig.proofs.Prelude.{◌≡◌, ℕ, zero, suc, ◌+◌, ◌≤◌, true, List, [], ◌∷◌, ◌++◌, length, Option, Some, None, refl, sym, ap, ◌∙◌, arith, nat_lt, cond-true, cond-false, lt-ltb, le-ltb, items_below, Rises, Quad, Token, InForce, leaf_of, DocForm, Document, Setting, in_default, Event, Took, Gave, give, document_events, event_quads, Start, Reply, No, Go, start, waiting, fronted, go_on, run, kept}
 use Rattle.rdf_tokens.proofs.GrammarsLemmas.{rises_from}
-use Rattle.rdf_terms.specs.Terms.{Quad}
-use Rattle.rdf_tokens.specs.Tokens.{Token}
-use Rattle.rdf_iri.specs.Scope.{InForce}
-use Rattle.rdf_tokens.specs.Leaves.{leaf_of}
-use Rattle.rdf_trig.specs.declared.form.DocForm.{DocForm}
-use Rattle.rdf_trig.specs.Trees.{Document}
-use Rattle.rdf_trig.specs.Quads.{Setting, in_default}
-use Rattle.rdf_trig.specs.Events.{Event, Took, Gave, give, document_events, tokens, event_quads}
-use Rattle.rdf_trig.specs.Machine.{Mode, Start, Reply, No, Go, start, step, waiting, fronted, go_on, run}
-use Rattle.rdf_trig.specs.Machine.{kept}
+use Rattle.rdf_trig.specs.Events.{tokens}
+use Rattle.rdf_trig.specs.Machine.{Mode, step}
 use Rattle.rdf_trig.proofs.machine.Soundness.{unput}
 use Rattle.rdf_trig.proofs.machine.ViableTokens.{run_tree}
 

@@ -1,22 +1,9 @@
 -- After the end a document is over, and each document has one.
-use Rattle.std.proofs.Common.{◌≡◌, ℕ, Bool, List, [], ◌∷◌, ◌++◌, refl, sym, ap, ◌∙◌, subst, append_assoc}
+use Rattle.rdf_trig.proofs.Prelude.{◌≡◌, ℕ, Bool, List, [], ◌∷◌, ◌++◌, refl, sym, ap, ◌∙◌, subst, append_assoc, End, Quad, Token, complete, tokens_of, Marked, InForce, Leaf, leaf_of, token, DocForm, Document, end, with_directive, with_body, directive_tokens, body_tokens, document_tokens, documents, Setting, Topic, Top, InBlock, Listed, InCollection, Around, Statement, InPropertyList, Start, Over, AfterText, After, AfterSemicolon, AfterPropertyList, Reply, No, Go, predicate_list_end, waiting, Answer, refuses, accepts, accept, ran, refused, accept_all}
 use Rattle.rdf_terms.specs.declared.kind.Dialect.TheVariants.{Turtle as turtle}
-use Rattle.rdf_terms.specs.declared.kind.Kind.TheVariants.{End}
-use Rattle.rdf_terms.specs.Terms.{Quad}
-use Rattle.rdf_tokens.specs.Tokens.{Token}
-use Rattle.rdf_tokens.specs.Tokens.Outcome.{complete}
-use Rattle.rdf_tokens.specs.Good.{tokens_of}
-use Rattle.rdf_tokens.specs.Grammars.{Marked}
 use Rattle.rdf_tokens.proofs.GrammarsLemmas.{end_complete}
-use Rattle.rdf_iri.specs.Scope.{InForce}
-use Rattle.rdf_tokens.specs.Leaves.{Leaf, leaf_of, token}
-use Rattle.rdf_trig.specs.declared.form.DocForm.{DocForm}
-use Rattle.rdf_trig.specs.Trees.{Document, end, with_directive, with_body}
-use Rattle.rdf_trig.specs.TreeTokens.{directive_tokens, body_tokens, document_tokens}
-use Rattle.rdf_trig.specs.Documents.{documents}
-use Rattle.rdf_trig.specs.Quads.{Setting}
-use Rattle.rdf_trig.specs.Machine.{Topic, Top, InBlock, Place as P, Listed, InCollection, Around, Statement, InPropertyList, Mode, Start, Over, AfterText, After, AfterSemicolon, AfterPropertyList, Reply, No, Go, predicate_list_end, after, step, waiting}
-use Rattle.rdf_trig.specs.Machine.{State, Answer, refuses, accepts, accept, ran, refused, go, accept_all}
+use Rattle.rdf_trig.specs.Machine.{Place as P, Mode, after, step}
+use Rattle.rdf_trig.specs.Machine.{State, go}
 use Rattle.rdf_trig.proofs.trees.TokensOfEvents.{document_told}
 use Rattle.rdf_trig.proofs.machine.AcceptedTokens.{accepted, first_ran}
 

@@ -1,22 +1,8 @@
 -- The machine accepts exactly the documents within the limits, and what it gives out is due, and at the end all of a document's quads.
-use Rattle.std.proofs.Common.{◌≡◌, ℕ, zero, suc, ◌+◌, ◌≤◌, ◌⊎◌, inl, inr, Bool, true, false, List, [], ◌∷◌, ◌++◌, length, Option, Some, None, refl, sym, ap, ◌∙◌, subst, ⊎_elim, append_assoc, length-append, arith}
-use Rattle.std.proofs.lemmas.List.{append-nil}
-use Rattle.rdf_tokens.specs.Grammars.{Viable, Due, PassesNone, IsFront, items_below, unmarked}
-use Rattle.rdf_terms.specs.Terms.{Quad}
-use Rattle.rdf_terms.specs.declared.reason.Reason.{Reason}
-use Rattle.rdf_terms.specs.declared.reason.Reason.TheVariants.{Unexpected, TooDeep, Unbound, NoBase, IriTooLong, TooManyBindings}
-use Rattle.rdf_tokens.specs.Tokens.{Token}
-use Rattle.rdf_tokens.specs.Grammars.{Marked}
-use Rattle.rdf_iri.specs.Scope.{InForce}
-use Rattle.rdf_tokens.specs.Leaves.{leaf_of}
-use Rattle.rdf_trig.specs.declared.form.DocForm.{DocForm}
-use Rattle.rdf_trig.specs.Trees.{Document}
-use Rattle.rdf_trig.specs.Quads.{Setting, in_default}
-use Rattle.rdf_trig.specs.Events.{Event, Took, Gave, give, document_events, tokens, event_quads}
-use Rattle.rdf_trig.specs.Machine.{Mode, Start, Over, Reply, No, Go, start, step, waiting, fronted, stop, go_on, run}
-use Rattle.rdf_trig.specs.Machine.{State, Answer, refuses, accepts, accept, at_start, ran, with_quads, go, accept_all, depth}
-use Rattle.rdf_trig.specs.Refusals.{Excluded, Blamed}
-use Rattle.rdf_trig.specs.Documents.{documents, trees, Passes}
+use Rattle.rdf_trig.proofs.Prelude.{◌≡◌, ℕ, zero, suc, ◌+◌, ◌≤◌, ◌⊎◌, inl, inr, Bool, true, false, List, [], ◌∷◌, ◌++◌, length, Option, Some, None, refl, sym, ap, ◌∙◌, subst, ⊎_elim, append_assoc, length-append, arith, append-nil, Viable, Due, PassesNone, IsFront, items_below, unmarked, Quad, Reason, Unexpected, TooDeep, Unbound, NoBase, IriTooLong, TooManyBindings, Token, Marked, InForce, leaf_of, DocForm, Document, Setting, in_default, Event, Took, Gave, give, document_events, event_quads, Start, Over, Reply, No, Go, start, waiting, fronted, stop, go_on, run, Answer, refuses, accepts, accept, at_start, ran, with_quads, accept_all, depth, Excluded, Blamed, documents, trees, Passes}
+use Rattle.rdf_trig.specs.Events.{tokens}
+use Rattle.rdf_trig.specs.Machine.{Mode, step}
+use Rattle.rdf_trig.specs.Machine.{State, go}
 use Rattle.rdf_trig.proofs.machine.Soundness.{read_found, unput}
 use Rattle.rdf_trig.proofs.machine.ClosingTokens.{Accepts, admits}
 use Rattle.rdf_trig.proofs.machine.ViableTokens.{Stand, stand, reach, on_reply, if_true, front, run_tree, passing_bound, reached_viable}

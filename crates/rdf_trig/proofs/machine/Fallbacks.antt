@@ -1,14 +1,7 @@
 -- What is left of a production for the kinds that it does not name itself.
-use Rattle.std.proofs.Common.{◌≡◌, ℕ, List, None, refl}
-use Rattle.rdf_terms.specs.declared.kind.Kind.{Kind}
-use Rattle.rdf_terms.specs.declared.kind.Kind.TheVariants.{IriRef, PnameNs, PnameLn, A, CloseBracket, CloseParen, CloseBrace, OpenBrace, Semicolon, Comma, LangTag, AtBase, AtPrefix, Carets}
+use Rattle.rdf_trig.proofs.Prelude.{◌≡◌, ℕ, List, None, refl, Kind, IriRef, PnameNs, PnameLn, A, CloseBracket, CloseParen, CloseBrace, OpenBrace, Semicolon, Comma, LangTag, AtBase, AtPrefix, Carets, Leaf, DocForm, Use, Setting, node, cell_at, rest_quad, Go}
 use Rattle.rdf_terms.specs.Terms as term
-use Rattle.rdf_tokens.specs.Leaves.{Leaf}
-use Rattle.rdf_trig.specs.declared.form.DocForm.{DocForm}
-use Rattle.rdf_trig.specs.Events.{Use}
-use Rattle.rdf_trig.specs.Quads.{Setting, node, cell_at, rest_quad}
 use Rattle.rdf_trig.specs.Machine as M
-use Rattle.rdf_trig.specs.Machine.{Go}
 
 -- after '[' what does not close it is a verb
 pub property_list_start-else : (form : DocForm) (c : Setting) (n : ℕ) (u : M.Up) (k : Kind) (l : Leaf) → (k ≡ CloseBracket → ⊥) →

@@ -1,15 +1,6 @@
 -- A run over one token more.
-use Rattle.std.proofs.Common.{◌≡◌, ◌≤◌, ◌*◌, List, [], ◌∷◌, ◌++◌, length, sym, ap, ◌∙◌, subst, append_assoc}
-use Rattle.std.proofs.lemmas.List.{append-nil}
-use Rattle.rdf_terms.specs.Terms.{Quad}
-use Rattle.rdf_terms.specs.declared.reason.Reason.{Reason}
-use Rattle.rdf_tokens.specs.Tokens.{Token}
-use Rattle.rdf_tokens.specs.Grammars.{counted}
-use Rattle.rdf_iri.specs.Scope.{InForce}
-use Rattle.rdf_tokens.specs.Leaves.{leaf_of}
-use Rattle.rdf_trig.specs.declared.form.DocForm.{DocForm}
-use Rattle.rdf_trig.specs.Machine.{State, Answer, refuses, accepts, accept, at_start, ran, refused, with_quads, go, accept_all}
-use Rattle.rdf_trig.specs.Alike.{SameState, RunsTo}
+use Rattle.rdf_trig.proofs.Prelude.{◌≡◌, ◌≤◌, ◌*◌, List, [], ◌∷◌, ◌++◌, length, sym, ap, ◌∙◌, subst, append_assoc, append-nil, Quad, Reason, Token, counted, InForce, leaf_of, DocForm, Answer, refuses, accepts, accept, at_start, ran, refused, with_quads, accept_all, SameState, RunsTo}
+use Rattle.rdf_trig.specs.Machine.{State, go}
 use Rattle.rdf_trig.proofs.machine.AcceptedTokens.{first_ran}
 use Rattle.rdf_trig.proofs.machine.AlikeLemmas.{state_trans, accept_same, SameAnswer, accepts_same, refuses_same}
 use Rattle.rdf_trig.proofs.machine.TwoQuadsAToken.{ran_few}

@@ -1,26 +1,7 @@
 -- Tokens that are accepted pass no limit, and each token that is refused is so for its reason.
-use Rattle.std.proofs.Common.{◌≡◌, ◌≢◌, ℕ, ◌+◌, ◌≤◌, ◌⊎◌, inl, inr, Bool, true, false, cond, List, [], ◌∷◌, ◌++◌, ◌&&◌, Option, Some, None, refl, sym, ap, ◌∙◌, subst, ⊎_elim, arith}
-use Rattle.std.specs.Prelude.{nat_le}
-use Rattle.std.proofs.lemmas.Bool.{ltb-true, leb-true, and_parts, lt-ltb, le-leb}
-use Rattle.rdf_tokens.specs.Grammars.{PassesNone}
-use Rattle.rdf_iri.specs.Limits.{Sizes}
-use Rattle.rdf_iri.specs.Texts.{byte_len}
-use Rattle.rdf_terms.specs.declared.kind.Kind.{Kind}
-use Rattle.rdf_terms.specs.declared.kind.Kind.TheVariants.{IriRef, PnameNs, PnameLn, OpenBracket, OpenParen}
-use Rattle.rdf_terms.specs.Terms.{Quad}
-use Rattle.rdf_terms.specs.declared.reason.Reason.{Reason}
-use Rattle.rdf_terms.specs.declared.reason.Reason.TheVariants.{Unexpected, TooDeep, Unbound, NoBase, IriTooLong, TooManyBindings}
-use Rattle.rdf_tokens.specs.Tokens.{Token}
-use Rattle.rdf_iri.specs.Scope.{InForce}
-use Rattle.rdf_tokens.specs.Leaves.{Leaf, leaf_of}
-use Rattle.rdf_trig.specs.declared.form.DocForm.{DocForm}
-use Rattle.rdf_trig.specs.Names.{name_in}
-use Rattle.rdf_trig.specs.Quads.{Setting, in_default}
-use Rattle.rdf_trig.specs.Events.{Use, itself, stands, binds}
-use Rattle.rdf_trig.specs.Machine.{Mode, Start, Reply, No, Go, start, step, waiting}
-use Rattle.rdf_trig.specs.Machine.{kept, State, Answer, refuses, accepts, unnamed, too_long, by_use, deepens, answer, accept, at_start, ran, refused, with_quads, go, accept_all, depth}
-use Rattle.rdf_trig.specs.Refusals.{Excluded, Blamed}
-use Rattle.rdf_trig.specs.Documents.{InTree, StandsFor, opens, closes, opened, closed, open_in, IsDeep, IsLong, IsOneMore, Passes}
+use Rattle.rdf_trig.proofs.Prelude.{◌≡◌, ◌≢◌, ℕ, ◌+◌, ◌≤◌, ◌⊎◌, inl, inr, Bool, true, false, cond, List, [], ◌∷◌, ◌++◌, ◌&&◌, Option, Some, None, refl, sym, ap, ◌∙◌, subst, ⊎_elim, arith, nat_le, ltb-true, leb-true, and_parts, lt-ltb, le-leb, PassesNone, Sizes, byte_len, Kind, IriRef, PnameNs, PnameLn, OpenBracket, OpenParen, Quad, Reason, Unexpected, TooDeep, Unbound, NoBase, IriTooLong, TooManyBindings, Token, InForce, Leaf, leaf_of, DocForm, name_in, Setting, in_default, Use, itself, stands, binds, Start, Reply, No, Go, start, waiting, kept, Answer, refuses, accepts, unnamed, too_long, by_use, deepens, answer, accept, at_start, ran, refused, with_quads, accept_all, depth, Excluded, Blamed, InTree, StandsFor, opens, closes, opened, closed, open_in, IsDeep, IsLong, IsOneMore, Passes}
+use Rattle.rdf_trig.specs.Machine.{Mode, step}
+use Rattle.rdf_trig.specs.Machine.{State, go}
 use Rattle.rdf_trig.proofs.machine.ClosingTokens.{has_iri}
 use Rattle.rdf_trig.proofs.machine.ViableTokens.{Stand, stand, reach, nameless}
 use Rattle.rdf_trig.proofs.machine.ViableTokens as reached

@@ -1,22 +1,12 @@
 -- What is read is a tree's tokens, with its events.
-use Rattle.std.proofs.Common.{◌≡◌, ℕ, List, [], ◌∷◌, Option, Some, None, refl, sym, ap, ◌∙◌, ◌⊎◌, inl, inr}
-use Rattle.rdf_terms.specs.declared.kind.Kind.{Kind}
-use Rattle.rdf_terms.specs.declared.kind.Kind.TheVariants.{IriRef, LabelNode, ShortString, LongString, LangTag, Carets, Dot, Integer, Decimal, Double, True, False, A, AtPrefix, AtBase, Prefix, Base, Graph, PnameNs, PnameLn, Semicolon, Comma, OpenBracket, CloseBracket, OpenParen, CloseParen, OpenBrace, CloseBrace, End}
-use Rattle.rdf_terms.specs.Terms.{Anon, Cell, Blank, Quad}
+use Rattle.rdf_trig.proofs.Prelude.{◌≡◌, ℕ, List, [], ◌∷◌, Option, Some, None, refl, sym, ap, ◌∙◌, ◌⊎◌, inl, inr, Kind, IriRef, LabelNode, ShortString, LongString, LangTag, Carets, Dot, Integer, Decimal, Double, True, False, A, AtPrefix, AtBase, Prefix, Base, Graph, PnameNs, PnameLn, Semicolon, Comma, OpenBracket, CloseBracket, OpenParen, CloseParen, OpenBrace, CloseBrace, End, Anon, Cell, Blank, Quad, known_chars, RdfFirst, Token, InForce, Leaf, leaf_of, token, DocForm, TriG, pname_ln, pname_ns, Iri, iri_ref, prefixed, BlankNode, label, anon, predicate, type_word, short, long, Tag, lang_tag, base_tag, prefix_tag, plain, tagged, typed, integer, decimal, double, true_word, false_word, Literal, rdf, numeric, boolean, Object, iri_object, blank_object, collection_object, list_object, literal_object, Collection, collection, Items, no_items, item, BlankNodePropertyList, property_list, PredicateObjectList, predicate_objects, More, no_more, semicolon, semicolon_objects, objects, Commas, no_commas, comma, iri_subject, blank_subject, collection_subject, Triples, subject_triples, list_triples, prefix_id, base, sparql_prefix, sparql_base, LabelOrSubject, iri_label, blank_label, TriplesBlock, last, last_dot, dot, WrappedGraph, wrapped, named_graph, label_triples, list_triples2, collection_triples2, triples_or_graph, default_graph, triples2, Document, end, with_directive, with_body, prefix_of, reference_in, name_in, iri_in, with_base, with_binding, is_full, Setting, in_default, in_graph, named, node, resource, anon_at, labelled, blank_of, short_value, long_value, lexical, plain_literal, tagged_literal, typed_literal, literal_of, iri_leaf, string_leaf, literal_leaf, object_leaf, cell_at, items_of, collection_of, list_of, label_of, rest_quad, Use, itself, binds, Event, Took, name, give, iri_events, string_events, tag_events, blank_object_events, literal_events, object_events, collection_events, items_events, rest_events, list_events, predicates_events, more_events, commas_events, maybe_events, triples_events, label_events, maybe_block_events, wrapped_events, document_events, Topic, sized, unsized, spelt, type_verb, Top, InBlock, Listed, InCollection, Around, Statement, InPropertyList, Up, At, Dotted, Sparql, Start, Over, WantPrefix, WantPrefixIri, WantBaseIri, WantDot, AfterLabel, GraphWord, GraphBracket, WantBrace, Inside, Want, After, AfterText, WantType, PropertyListStart, CollectionStart, WantVerb, AfterSemicolon, AfterPropertyList, Reply, No, Go, cell, subject_at, verb_at, quad_at, quad_up, nil, object_start, want_type, verb_start, after_subject, node_closed, property_list_closed, collection_closed, predicate_list_end, after_semicolon, after_text, property_list_start, collection_start, after_property_list, subject_start, start, want_brace, after_label, graph_bracket, want_prefix, want_prefix_iri, want_base_iri, want_dot, waiting, fronted, put, stop, go_on, run}
 use Rattle.rdf_terms.specs.Terms as term
-use Rattle.rdf_terms.specs.Known.{known_chars}
-use Rattle.rdf_terms.specs.declared.constants.Known.TheVariants.{RdfFirst}
-use Rattle.rdf_tokens.specs.Tokens.{Token}
-use Rattle.rdf_iri.specs.Scope.{InForce}
-use Rattle.rdf_tokens.specs.Leaves.{Leaf, leaf_of, token}
-use Rattle.rdf_trig.specs.declared.form.DocForm.{DocForm}
-use Rattle.rdf_trig.specs.declared.form.DocForm.TheVariants.{Turtle, TriG}
-use Rattle.rdf_trig.specs.Trees.{pname_ln, pname_ns, Iri, iri_ref, prefixed, BlankNode, label, anon, predicate, type_word, String, short, long, Tag, lang_tag, base_tag, prefix_tag, plain, tagged, typed, integer, decimal, double, true_word, false_word, Literal, rdf, numeric, boolean, Object, iri_object, blank_object, collection_object, list_object, literal_object, Collection, collection, Items, no_items, item, BlankNodePropertyList, property_list, PredicateObjectList, predicate_objects, More, no_more, semicolon, semicolon_objects, objects, Commas, no_commas, comma, iri_subject, blank_subject, collection_subject, Triples, subject_triples, list_triples, prefix_id, base, sparql_prefix, sparql_base, LabelOrSubject, iri_label, blank_label, TriplesBlock, last, last_dot, dot, WrappedGraph, wrapped, named_graph, label_triples, list_triples2, collection_triples2, triples_or_graph, default_graph, triples2, Document, end, with_directive, with_body}
+use Rattle.rdf_trig.specs.declared.form.DocForm.TheVariants.{Turtle}
+use Rattle.rdf_trig.specs.Trees.{String}
 use Rattle.rdf_trig.specs.Trees as tree
-use Rattle.rdf_trig.specs.Names.{prefix_of, reference_in, name_in, iri_in, with_base, with_binding, is_full}
-use Rattle.rdf_trig.specs.Quads.{Setting, in_default, in_graph, named, node, resource, anon_at, labelled, blank_of, short_value, long_value, lexical, language, plain_literal, tagged_literal, typed_literal, literal_of, iri_leaf, string_leaf, literal_leaf, object_leaf, cell_at, items_of, collection_of, list_of, label_of, rest_quad}
-use Rattle.rdf_trig.specs.Events.{Use, itself, binds, Event, Took, take, name, give, iri_events, string_events, tag_events, blank_object_events, literal_events, object_events, collection_events, items_events, rest_events, list_events, predicates_events, more_events, commas_events, maybe_events, triples_events, label_events, maybe_block_events, wrapped_events, document_events, tokens}
-use Rattle.rdf_trig.specs.Machine.{Topic, sized, unsized, spelt, type_verb, Level, Top, InBlock, Place, Listed, InCollection, Around, Statement, InPropertyList, Up, Subject, At, Spelling, Dotted, Sparql, Mode, Start, Over, WantPrefix, WantPrefixIri, WantBaseIri, WantDot, AfterLabel, GraphWord, GraphBracket, WantBrace, Inside, Want, After, AfterText, WantType, PropertyListStart, CollectionStart, WantVerb, AfterSemicolon, AfterPropertyList, Reply, No, Go, cell, subject_at, verb_at, quad_at, quad_up, nil, object_start, want_type, verb_start, after_subject, node_closed, property_list_closed, collection_closed, predicate_list_end, after_semicolon, after, after_text, property_list_start, collection_start, after_property_list, subject_start, start, inside, want_brace, after_label, graph_word, graph_bracket, want_prefix, want_prefix_iri, want_base_iri, want_dot, step, waiting, fronted, put, stop, go_on, run}
+use Rattle.rdf_trig.specs.Quads.{language}
+use Rattle.rdf_trig.specs.Events.{take, tokens}
+use Rattle.rdf_trig.specs.Machine.{Level, Place, Subject, Spelling, Mode, after, inside, graph_word, step}
 use Rattle.rdf_trig.proofs.trees.TokensOfEvents.{tokens_give}
 
 -- what a bracket was

@@ -1,16 +1,7 @@
 -- The machine takes some tokens one by one exactly if some document begins with them; names aside, exactly if some tree does.
-use Rattle.std.proofs.Common.{◌≡◌, Bool, true, false, List, [], ◌∷◌, ◌++◌, Option, Some, None, refl, sym, ap, ◌∙◌}
-use Rattle.rdf_tokens.specs.Grammars.{Viable, Shaped}
-use Rattle.rdf_terms.specs.Terms.{Quad}
-use Rattle.rdf_tokens.specs.Tokens.{Token}
-use Rattle.rdf_iri.specs.Scope.{InForce}
-use Rattle.rdf_tokens.specs.Leaves.{leaf_of}
-use Rattle.rdf_trig.specs.declared.form.DocForm.{DocForm}
-use Rattle.rdf_trig.specs.Trees.{Document}
-use Rattle.rdf_trig.specs.Quads.{Setting, in_default}
-use Rattle.rdf_trig.specs.Events.{Use, itself, stands, binds, Event, Took, Gave, give, document_events, tokens, event_quads, HasIri, Bound}
-use Rattle.rdf_trig.specs.Machine.{Mode, Start, Reply, No, Go, start, step, waiting, fronted, put, go_on, run}
-use Rattle.rdf_trig.specs.Documents.{documents, trees}
+use Rattle.rdf_trig.proofs.Prelude.{◌≡◌, Bool, true, false, List, [], ◌∷◌, ◌++◌, Option, Some, None, refl, sym, ap, ◌∙◌, Viable, Shaped, Quad, Token, InForce, leaf_of, DocForm, Document, Setting, in_default, Use, itself, stands, binds, Event, Took, Gave, give, document_events, event_quads, HasIri, Bound, Start, Reply, No, Go, start, waiting, fronted, put, go_on, run, documents, trees}
+use Rattle.rdf_trig.specs.Events.{tokens}
+use Rattle.rdf_trig.specs.Machine.{Mode, step}
 use Rattle.rdf_trig.proofs.machine.Completeness.{document_good}
 use Rattle.rdf_trig.proofs.machine.Soundness.{read_found, unput}
 use Rattle.rdf_trig.proofs.machine.ClosingTokens.{has_iri, admits, AllAdmitted, Accepts, passing_give, passing_back, close, closes}

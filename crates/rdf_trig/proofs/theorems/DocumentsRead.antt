@@ -1,7 +1,6 @@
 -- What a reader has read is due, a document within the limits is read to its end, and what is refused is none.
 use Rattle.rdf_trig.specs.Language.{language}
-use Rattle.rdf_trig.specs.Accepting.{tree_words}
-use Rattle.rdf_trig.specs.Laws.{ReadQuadsAreDue, DocumentsAreRead, RefusedIsNoDocument}
+use Rattle.rdf_trig.proofs.Prelude.{tree_words, ReadQuadsAreDue, DocumentsAreRead, RefusedIsNoDocument}
 use Rattle.rdf_tokens.proofs.LanguageLemmas as L
 use Rattle.rdf_driver.proofs.PromiseLemmas.{read_goes_on}
 use Rattle.rdf_trig.proofs.code.LawfulGrammar.{lawful}

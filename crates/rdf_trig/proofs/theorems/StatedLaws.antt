@@ -1,21 +1,7 @@
 -- The laws as they are stated.
-use Rattle.std.specs.Prelude.{nat_lt}
-use Rattle.std.proofs.lemmas.Bool.{cond-true, cond-false, cases_lt, lt-ltb, le-ltb}
-use Rattle.rdf_tokens.specs.Grammars.{Marked, unmarked, items_below, Due, Rises}
-use Rattle.rdf_trig.specs.Documents.{documents}
-use Rattle.std.proofs.Common.{sym, ℕ, ◌∷◌, ◌++◌, ◌<◌, ◌≤◌, [], ap, refl, ◌∙◌, ⊎_elim, arith, length, ◌≡◌, List, subst}
-use Rattle.rdf_terms.specs.Terms.{Quad}
-use Rattle.rdf_terms.specs.declared.reason.Reason.{Reason}
-use Rattle.rdf_tokens.specs.Tokens.{Token}
-use Rattle.rdf_iri.specs.Scope.{InForce}
-use Rattle.rdf_tokens.specs.Leaves.{leaf_of}
-use Rattle.rdf_trig.specs.declared.form.DocForm.{DocForm}
-use Rattle.rdf_trig.specs.Trees.{Document}
-use Rattle.rdf_trig.specs.TreeTokens.{document_tokens}
-use Rattle.rdf_trig.specs.TreeQuads.{document_quads}
-use Rattle.rdf_trig.specs.Events.{tokens, event_quads, document_events}
-use Rattle.rdf_trig.specs.Machine.{State, refuses, accept, at_start, ran, accept_all}
-use Rattle.rdf_trig.specs.Laws.{Reads, IsRefusedAfter}
+use Rattle.rdf_trig.proofs.Prelude.{nat_lt, cond-true, cond-false, cases_lt, lt-ltb, le-ltb, Marked, unmarked, items_below, Due, Rises, documents, sym, ℕ, ◌∷◌, ◌++◌, ◌<◌, ◌≤◌, [], ap, refl, ◌∙◌, ⊎_elim, arith, length, ◌≡◌, List, subst, Quad, Reason, Token, InForce, leaf_of, DocForm, Document, document_tokens, document_quads, event_quads, document_events, refuses, accept, at_start, ran, accept_all, Reads, IsRefusedAfter}
+use Rattle.rdf_trig.specs.Events.{tokens}
+use Rattle.rdf_trig.specs.Machine.{State}
 use Rattle.rdf_trig.proofs.trees.TokensOfEvents.{document_told}
 use Rattle.rdf_trig.proofs.trees.MarksOfEvents.{document_marks}
 use Rattle.rdf_trig.proofs.machine.DueQuads.{marked_rises}

@@ -1,17 +1,8 @@
 -- What begins a document is completed to one by a few fixed tokens.
-use Rattle.std.proofs.Common.{◌≡◌, Bool, true, false, List, [], ◌∷◌, ◌++◌, Some, refl, sym}
-use Rattle.std.specs.List.{All}
+use Rattle.rdf_trig.proofs.Prelude.{◌≡◌, Bool, true, false, List, [], ◌∷◌, ◌++◌, Some, refl, sym, All, Viable, Shaped, Token, InForce, DocForm, Document, in_default, document_events, event_quads, Top, InBlock, Listed, InCollection, Around, Statement, InPropertyList, Up, At, Dotted, Sparql, Start, Over, WantPrefix, WantPrefixIri, WantBaseIri, WantDot, AfterLabel, GraphWord, GraphBracket, WantBrace, Inside, Want, After, AfterText, WantType, PropertyListStart, CollectionStart, WantVerb, AfterSemicolon, AfterPropertyList, start, documents, trees, IsClosing, CompletedBy}
 use Rattle.std.proofs.lemmas.List.Elements.{All-nil, All-cons}
-use Rattle.rdf_tokens.specs.Grammars.{Viable, Shaped}
-use Rattle.rdf_tokens.specs.Tokens.{Token}
-use Rattle.rdf_iri.specs.Scope.{InForce}
-use Rattle.rdf_trig.specs.declared.form.DocForm.{DocForm}
-use Rattle.rdf_trig.specs.Trees.{Document}
-use Rattle.rdf_trig.specs.Quads.{in_default}
-use Rattle.rdf_trig.specs.Events.{document_events, tokens, event_quads}
-use Rattle.rdf_trig.specs.Machine.{Level, Top, InBlock, Place, Listed, InCollection, Around, Statement, InPropertyList, Up, Subject, At, Spelling, Dotted, Sparql, Mode, Start, Over, WantPrefix, WantPrefixIri, WantBaseIri, WantDot, AfterLabel, GraphWord, GraphBracket, WantBrace, Inside, Want, After, AfterText, WantType, PropertyListStart, CollectionStart, WantVerb, AfterSemicolon, AfterPropertyList, start}
-use Rattle.rdf_trig.specs.Documents.{documents, trees}
-use Rattle.rdf_trig.specs.Laws.{IsClosing, CompletedBy}
+use Rattle.rdf_trig.specs.Events.{tokens}
+use Rattle.rdf_trig.specs.Machine.{Level, Place, Subject, Spelling, Mode}
 use Rattle.rdf_trig.proofs.machine.Soundness.{read_found}
 use Rattle.rdf_trig.proofs.machine.ClosingTokens.{AllAdmitted, the_end, close_level, close_verb, close_place, close_list, close_brackets, close_around, close_directive, close_block, close, closes}
 use Rattle.rdf_trig.proofs.machine.ViableTokens.{Stand, reach, front, passing_bound, viable_reached, shaped_reached}

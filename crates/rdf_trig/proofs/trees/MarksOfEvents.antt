@@ -1,22 +1,10 @@
 -- The quads of a tree's events, each with the number of the token that it stands after, are the tree's quads with their marks.
-use Rattle.std.proofs.Common.{◌≡◌, ℕ, ◌+◌, List, [], ◌∷◌, ◌++◌, Option, Some, None, refl, sym, ap, ◌∙◌, append_assoc, length, length-append, arith}
-use Rattle.rdf_terms.specs.declared.kind.Kind.{Kind}
-use Rattle.rdf_terms.specs.declared.kind.Kind.TheVariants.{Carets, Dot, CloseBracket, CloseParen, CloseBrace}
-use Rattle.rdf_terms.specs.Terms.{Node, Quad}
+use Rattle.rdf_trig.proofs.Prelude.{◌≡◌, ℕ, ◌+◌, List, [], ◌∷◌, ◌++◌, Option, Some, None, refl, sym, ap, ◌∙◌, append_assoc, length, length-append, arith, Kind, Carets, Dot, CloseBracket, CloseParen, CloseBrace, Node, Quad, known_chars, RdfFirst, Marked, InForce, Leaf, token, DocForm, TriG, pname_ln, pname_ns, Iri, iri_ref, prefixed, BlankNode, label, anon, Verb, predicate, type_word, short, long, Tag, lang_tag, base_tag, prefix_tag, plain, tagged, typed, integer, decimal, double, true_word, false_word, Literal, rdf, numeric, boolean, Object, iri_object, blank_object, collection_object, list_object, literal_object, Collection, collection, Items, no_items, item, BlankNodePropertyList, property_list, PredicateObjectList, predicate_objects, More, no_more, semicolon, semicolon_objects, ObjectList, objects, Commas, no_commas, comma, iri_subject, blank_subject, collection_subject, Triples, subject_triples, list_triples, Directive, prefix_id, base, sparql_prefix, sparql_base, LabelOrSubject, iri_label, blank_label, TriplesBlock, last, last_dot, dot, WrappedGraph, wrapped, named_graph, label_triples, list_triples2, collection_triples2, triples_or_graph, default_graph, triples2, Body, Document, end, with_directive, with_body, iri_tokens, verb_tokens, string_tokens, tag_tokens, literal_tokens, blank_tokens, object_tokens, collection_tokens, items_tokens, list_tokens, predicates_tokens, more_tokens, objects_tokens, commas_tokens, subject_tokens, maybe_tokens, triples_tokens, directive_tokens, label_tokens, block_tokens, wrapped_tokens, body_tokens, scope_after, Setting, in_default, in_graph, node, anon_at, items_of, collection_of, list_of, subject_of, label_of, rest_quad, marked_at, own_quad, first_quad, inner_quads, collection_quads, items_quads, list_quads, predicates_quads, more_quads, objects_quads, commas_quads, subject_quads, maybe_quads, triples_quads, block_quads, maybe_block, wrapped_quads, body_quads, document_quads, Event, give, iri_events, verb_events, string_events, tag_events, blank_object_events, literal_events, object_events, collection_events, items_events, rest_events, list_events, predicates_events, more_events, objects_events, commas_events, subject_events, maybe_events, triples_events, directive_events, label_events, block_events, maybe_block_events, wrapped_events, body_events, document_events, event_quads}
 use Rattle.rdf_terms.specs.Terms as term
-use Rattle.rdf_terms.specs.Known.{known_chars}
-use Rattle.rdf_terms.specs.declared.constants.Known.TheVariants.{RdfFirst}
-use Rattle.rdf_tokens.specs.Grammars.{Marked}
-use Rattle.rdf_iri.specs.Scope.{InForce}
-use Rattle.rdf_tokens.specs.Leaves.{Leaf, token}
-use Rattle.rdf_trig.specs.declared.form.DocForm.{DocForm}
-use Rattle.rdf_trig.specs.declared.form.DocForm.TheVariants.{Turtle, TriG}
-use Rattle.rdf_trig.specs.Trees.{pname_ln, pname_ns, Iri, iri_ref, prefixed, BlankNode, label, anon, Verb, predicate, type_word, String, short, long, Tag, lang_tag, base_tag, prefix_tag, plain, tagged, typed, integer, decimal, double, true_word, false_word, Literal, rdf, numeric, boolean, Object, iri_object, blank_object, collection_object, list_object, literal_object, Collection, collection, Items, no_items, item, BlankNodePropertyList, property_list, PredicateObjectList, predicate_objects, More, no_more, semicolon, semicolon_objects, ObjectList, objects, Commas, no_commas, comma, Subject, iri_subject, blank_subject, collection_subject, Triples, subject_triples, list_triples, Directive, prefix_id, base, sparql_prefix, sparql_base, LabelOrSubject, iri_label, blank_label, TriplesBlock, last, last_dot, dot, WrappedGraph, wrapped, named_graph, label_triples, list_triples2, collection_triples2, triples_or_graph, default_graph, triples2, graph_word, Body, Document, end, with_directive, with_body}
-use Rattle.rdf_trig.specs.TreeTokens.{iri_tokens, verb_tokens, string_tokens, tag_tokens, literal_tokens, blank_tokens, object_tokens, collection_tokens, items_tokens, list_tokens, predicates_tokens, more_tokens, objects_tokens, commas_tokens, subject_tokens, maybe_tokens, triples_tokens, directive_tokens, label_tokens, block_tokens, wrapped_tokens, body_tokens}
-use Rattle.rdf_trig.specs.Names.{scope_after}
-use Rattle.rdf_trig.specs.Quads.{Setting, in_default, in_graph, node, anon_at, verb_of, cell_of, items_of, collection_of, list_of, subject_of, label_of, rest_quad}
-use Rattle.rdf_trig.specs.TreeQuads.{marked_at, own_quad, first_quad, inner_quads, collection_quads, items_quads, list_quads, predicates_quads, more_quads, objects_quads, commas_quads, subject_quads, maybe_quads, triples_quads, block_quads, maybe_block, wrapped_quads, body_quads, document_quads}
-use Rattle.rdf_trig.specs.Events.{Event, take, give, iri_events, verb_events, string_events, tag_events, blank_object_events, literal_events, object_quad, object_events, collection_events, items_events, rest_events, list_events, predicates_events, more_events, objects_events, commas_events, subject_events, maybe_events, triples_events, directive_events, label_events, block_events, maybe_block_events, wrapped_events, body_events, document_events, event_quads}
+use Rattle.rdf_trig.specs.declared.form.DocForm.TheVariants.{Turtle}
+use Rattle.rdf_trig.specs.Trees.{String, Subject, graph_word}
+use Rattle.rdf_trig.specs.Quads.{verb_of, cell_of}
+use Rattle.rdf_trig.specs.Events.{take, object_quad}
 
 -- a quad among the events has the number of the tokens before it
 marked_give : (q : Option Quad) (n : ℕ) (es : List Event) → event_quads n (give q es) ≡ marked_at n q ++ event_quads n es

@@ -1,15 +1,5 @@
 -- Names and references that stand for nothing, and what a directive binds.
-use Rattle.std.proofs.Common.{◌≡◌, ℕ, ◌+◌, Bool, true, false, cond, List, [], ◌∷◌, ◌++◌, length, Option, Some, None, is_some, refl, sym, ap, ◌∙◌, ⊎_elim, arith}
-use Rattle.std.specs.Prelude.{option_map}
-use Rattle.std.proofs.lemmas.Bool.{cases_Bool, cond-false}
-use Rattle.rdf_terms.specs.Terms.{has_scheme}
-use Rattle.rdf_iri.specs.Texts.{equal}
-use Rattle.rdf_iri.specs.Resolve.{resolved, based}
-use Rattle.rdf_iri.specs.Scope.{InForce, bound_to, Binds}
-use Rattle.rdf_tokens.specs.Leaves.{Leaf, iri_of}
-use Rattle.rdf_trig.specs.Names.{reference_in, name_in, prefix_of, local_of, bind, with_binding}
-use Rattle.rdf_trig.specs.Laws.{NamelessWhere}
-use Rattle.rdf_iri.proofs.TextsLemmas.{equal-true, equal-from}
+use Rattle.rdf_trig.proofs.Prelude.{◌≡◌, ℕ, ◌+◌, Bool, true, false, cond, List, [], ◌∷◌, ◌++◌, length, Option, Some, None, is_some, refl, sym, ap, ◌∙◌, ⊎_elim, arith, option_map, cases_Bool, cond-false, has_scheme, equal, resolved, based, InForce, bound_to, Binds, Leaf, iri_of, reference_in, name_in, prefix_of, local_of, bind, with_binding, NamelessWhere, equal-true, equal-from}
 
 -- nothing comes of nothing alone
 map_none : {T U : Type 0} (f : T → U) (o : Option T) → option_map f o ≡ None → o ≡ None

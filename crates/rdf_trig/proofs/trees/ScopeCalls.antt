@@ -1,11 +1,5 @@
 -- What the calls of a scope give is what references and names stand for.
-use Rattle.std.proofs.Common.{◌≡◌, ℕ, ◌+◌, cond, List, ◌++◌, ◌&&◌, length, Some, is_some, refl, sym, ap, ◌∙◌}
-use Rattle.std.specs.Prelude.{option_map, nat_le, not}
-use Rattle.rdf_iri.specs.Texts.{equal}
-use Rattle.rdf_iri.specs.Resolve.{resolved}
-use Rattle.rdf_iri.specs.Scope.{InForce, bound_to, Binds}
-use Rattle.rdf_tokens.specs.Leaves.{Leaf, iri_of}
-use Rattle.rdf_trig.specs.Names.{reference_in, name_in, prefix_of, local_of, with_base, with_binding, is_full, SameNames}
+use Rattle.rdf_trig.proofs.Prelude.{◌≡◌, ℕ, ◌+◌, cond, List, ◌++◌, ◌&&◌, length, Some, is_some, refl, sym, ap, ◌∙◌, option_map, nat_le, not, equal, resolved, InForce, bound_to, Binds, Leaf, iri_of, reference_in, name_in, prefix_of, local_of, with_base, with_binding, is_full, SameNames}
 use Rattle.rdf_trig.proofs.trees.NamesLemmas.{binds_prefix}
 
 -- a reference stands for the same in scopes that agree

@@ -1,14 +1,7 @@
 -- What a token stands for is the same in every tree that begins with the tokens before it and with it.
-use Rattle.std.proofs.Common.{◌≡◌, ℕ, zero, suc, Bool, true, false, List, [], ◌∷◌, ◌++◌, length, Option, Some, None, refl, sym, ap, ◌∙◌, subst, append_assoc}
-use Rattle.rdf_terms.specs.Terms.{Quad}
-use Rattle.rdf_tokens.specs.Tokens.{Token}
-use Rattle.rdf_iri.specs.Scope.{InForce}
-use Rattle.rdf_tokens.specs.Leaves.{leaf_of}
-use Rattle.rdf_trig.specs.declared.form.DocForm.{DocForm}
-use Rattle.rdf_trig.specs.Quads.{Setting, in_default}
-use Rattle.rdf_trig.specs.Events.{Use, Event, Took, Gave, give, document_events, tokens, Bound}
-use Rattle.rdf_trig.specs.Machine.{Mode, Start, Reply, No, Go, start, step, waiting, fronted, go_on, run}
-use Rattle.rdf_trig.specs.Documents.{InTree, StandsFor}
+use Rattle.rdf_trig.proofs.Prelude.{◌≡◌, ℕ, zero, suc, Bool, true, false, List, [], ◌∷◌, ◌++◌, length, Option, Some, None, refl, sym, ap, ◌∙◌, subst, append_assoc, Quad, Token, InForce, leaf_of, DocForm, Setting, in_default, Use, Event, Took, Gave, give, document_events, Bound, Start, Reply, No, Go, start, waiting, fronted, go_on, run, InTree, StandsFor}
+use Rattle.rdf_trig.specs.Events.{tokens}
+use Rattle.rdf_trig.specs.Machine.{Mode, step}
 use Rattle.rdf_trig.proofs.machine.Soundness.{unput}
 use Rattle.rdf_trig.proofs.machine.ClosingTokens.{has_iri, admits}
 use Rattle.rdf_trig.proofs.machine.ViableTokens.{Stand, stand, reach, on_reply, if_true, run_tree, Begins, reached_begins, reach-snoc, and_on, passing_bound, goes_on, lax}

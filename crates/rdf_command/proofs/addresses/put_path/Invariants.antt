@@ -1,5 +1,5 @@
 -- The bytes so far stand behind the text.
-use Rattle.std.proofs.Common.{◌≡◌, ◌++◌, string_bytes, take}
+use Rattle.rdf_command.proofs.Prelude.{◌≡◌, ◌++◌, string_bytes, take}
 use Rattle.std.specs.Prelude.{flat_map}
 use Rattle.rdf_command.specs.Addresses.{in_address}
 use Rattle.rdf_command.proofs.addresses.put_path.Given as goal

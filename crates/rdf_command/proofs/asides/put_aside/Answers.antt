@@ -1,5 +1,4 @@
-use Rattle.std.proofs.Common.{inl, refl}
-use Rattle.rdf_stream.specs.Told.{written}
+use Rattle.rdf_command.proofs.Prelude.{inl, refl, written}
 use Rattle.rdf_command.proofs.ReasonLemmas.{broken_among}
 use Rattle.rdf_command.proofs.asides.put_aside.Goals as goal
 

@@ -1,10 +1,4 @@
-use Rattle.std.proofs.Common.{option_map, subst, sym}
-use Rattle.rdf_stream.specs.Told.{told, written}
-use Rattle.rdf_command.specs.Asides.{AsideOut}
-use Rattle.rdf_command.specs.RunSteps.{told_by}
-use Rattle.rdf_command.specs.Programs.{outputs_of}
-use Rattle.rdf_command.specs.Reasons.{devices_of, drain_tells}
-use Rattle.rdf_command.specs.Runs.{ending}
+use Rattle.rdf_command.proofs.Prelude.{option_map, subst, sym, told, written, AsideOut, told_by, outputs_of, devices_of, drain_tells, ending}
 use Rattle.rdf_command.proofs.asides.skip_and_write.Goals as goal
 
 pub returns-in-None : goal.returns-in-None

@@ -1,4 +1,4 @@
-use Rattle.std.proofs.Common.{refl}
+use Rattle.rdf_command.proofs.Prelude.{refl}
 use Rattle.rdf_command.proofs.AsideLemmas.{aside_live}
 use Rattle.rdf_command.proofs.asides.skip_in_check.Goals as goal
 

@@ -1,9 +1,4 @@
-use Rattle.std.proofs.Common.{inl, inr, subst}
-use Rattle.rdf_stream.specs.Messages.{report_text}
-use Rattle.rdf_stream.specs.Told.{written}
-use Rattle.rdf_stream.specs.declared.fault.StreamFault.TheVariants.{Write}
-use Rattle.rdf_command.specs.Reasons.{ReportsFailed, device}
-use Rattle.rdf_command.specs.Statuses.{ReportsCounts}
+use Rattle.rdf_command.proofs.Prelude.{inl, inr, subst, report_text, written, Write, ReportsFailed, device, ReportsCounts}
 use Rattle.rdf_command.proofs.asides.skip_into.Goals as goal
 
 pub returns-in-Ok-keep : goal.returns-in-Ok-keep

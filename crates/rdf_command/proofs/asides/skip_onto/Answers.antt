@@ -1,4 +1,4 @@
-use Rattle.std.proofs.Common.{inr}
+use Rattle.rdf_command.proofs.Prelude.{inr}
 use Rattle.rdf_command.proofs.asides.skip_onto.Goals as goal
 
 pub returns-in-Err : goal.returns-in-Err

@@ -1,12 +1,5 @@
-use Rattle.std.proofs.Common.{◌≡◌, ◌∙◌, ap, inr, option_map, refl, string_bytes, subst, sym}
+use Rattle.rdf_command.proofs.Prelude.{◌≡◌, ◌∙◌, ap, inr, option_map, refl, string_bytes, subst, sym, told, written, output_called, output_of, outputs_of, OneTells, ReportsBindings, device, devices_of, drain_tells, source_tells, ending, name_by, name_of}
 use Rattle.rdf_stream.specs.Skips.{HasLines}
-use Rattle.rdf_stream.specs.Told.{told, written}
-use Rattle.rdf_command.specs.Asides.{output_called}
-use Rattle.rdf_command.specs.Outputs.{output_of}
-use Rattle.rdf_command.specs.Programs.{outputs_of}
-use Rattle.rdf_command.specs.Reasons.{OneTells, ReportsBindings, device, devices_of, drain_tells, source_tells}
-use Rattle.rdf_command.specs.Runs.{ending}
-use Rattle.rdf_command.specs.Words.{name_by, name_of}
 use Rattle.rdf_command.proofs.AsideLemmas.{aside_ends}
 use Rattle.rdf_command.proofs.ReasonLemmas.{bindings_among, one_among}
 use Rattle.rdf_command.proofs.asides.skip_over.Goals as goal

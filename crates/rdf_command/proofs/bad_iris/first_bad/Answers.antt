@@ -1,9 +1,5 @@
-use Rattle.std.proofs.Common.{◌∙◌, ap, arith, encode_utf8, length, length-append, sym}
-use Rattle.std.specs.Str.{chars}
-use Rattle.std.specs.Str.Iter.{chars_rest}
+use Rattle.rdf_command.proofs.Prelude.{◌∙◌, ap, arith, encode_utf8, length, length-append, sym, chars, chars_rest, byte_len, bad_char, iri_front}
 use Rattle.rdf_terms.proofs.CharsLemmas.{next_char, no_chars}
-use Rattle.rdf_iri.specs.Texts.{byte_len}
-use Rattle.rdf_command.specs.BadIris.{bad_char, iri_front}
 use Rattle.rdf_command.proofs.BadIriLemmas.{bad_step, good_step}
 use Rattle.rdf_command.proofs.bad_iris.first_bad.Goals as goal
 

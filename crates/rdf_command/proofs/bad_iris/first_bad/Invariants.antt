@@ -1,9 +1,5 @@
 -- The characters so far may all stand in an IRI.
-use Rattle.std.proofs.Common.{◌≡◌, ◌+◌, length}
-use Rattle.std.specs.Str.{chars, IsUtf8}
-use Rattle.std.specs.Str.Iter.{chars_rest}
-use Rattle.rdf_iri.specs.Texts.{byte_len}
-use Rattle.rdf_command.specs.BadIris.{bad_char, iri_front}
+use Rattle.rdf_command.proofs.Prelude.{◌≡◌, ◌+◌, length, chars, IsUtf8, chars_rest, byte_len, bad_char, iri_front}
 use Rattle.rdf_command.proofs.bad_iris.first_bad.Given as goal
 
 abbrev pub invariant-loop-c : goal.invariant-loop-c

@@ -1,4 +1,4 @@
-use Rattle.std.proofs.lemmas.Result.{on_ok_weaker}
+use Rattle.rdf_command.proofs.Prelude.{on_ok_weaker}
 use Rattle.rdf_stream.proofs.PutLemmas.{then_put}
 use Rattle.rdf_command.proofs.bad_iris.put_limit.Goals as goal
 

@@ -1,9 +1,5 @@
-use Rattle.std.proofs.Common.{◌∙◌, ◌++◌, ap, append_assoc, encode_utf8, encode_utf8_all, map, sym}
-use Rattle.std.proofs.lemmas.List.{append-nil}
-use Rattle.std.specs.Str.{chars}
-use Rattle.std.specs.Str.Iter.{chars_rest}
+use Rattle.rdf_command.proofs.Prelude.{◌∙◌, ◌++◌, ap, append_assoc, encode_utf8, encode_utf8_all, map, sym, append-nil, chars, chars_rest, shown}
 use Rattle.rdf_terms.proofs.CharsLemmas.{next_char, no_chars}
-use Rattle.rdf_command.specs.BadIris.{shown}
 use Rattle.rdf_command.proofs.bad_iris.put_shown.Goals as goal
 
 pub loop-c-preserved : goal.loop-c-preserved

@@ -1,8 +1,5 @@
 -- What is shown of the characters so far stands behind the line.
-use Rattle.std.proofs.Common.{◌≡◌, ◌++◌, encode_utf8_all, map}
-use Rattle.std.specs.Str.{chars, IsUtf8}
-use Rattle.std.specs.Str.Iter.{chars_rest}
-use Rattle.rdf_command.specs.BadIris.{shown}
+use Rattle.rdf_command.proofs.Prelude.{◌≡◌, ◌++◌, encode_utf8_all, map, chars, IsUtf8, chars_rest, shown}
 use Rattle.rdf_command.proofs.bad_iris.put_shown.Given as goal
 
 abbrev pub invariant-loop-c : goal.invariant-loop-c

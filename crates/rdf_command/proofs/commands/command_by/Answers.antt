@@ -1,11 +1,7 @@
 -- The words give the task, or are refused, as clap's definition of this command line says.
-use Rattle.std.proofs.Common.{◌∙◌, ap, subst, map, List}
-use Rattle.std.proofs.lemmas.Result.{IfErr-weaker, IfOk-weaker}
-use Rattle.clap.specs.Words.{App, Text, fault_of, found_of, is_simple_and_free, rows_of}
+use Rattle.rdf_command.proofs.Prelude.{◌∙◌, ap, subst, map, List, IfErr-weaker, IfOk-weaker, fault_of, found_of, is_simple_and_free, rows_of, HasKind, passed_up, rdfconv}
+use Rattle.clap.specs.Words.{App, Text}
 use Rattle.clap.specs.declared.builder.value_parser.ValueParser.TheVariants.{Names}
-use Rattle.clap.specs.Kinds.{HasKind}
-use Rattle.clap.proofs.TakesLemmas.{passed_up}
-use Rattle.rdf_options.specs.Options.{rdfconv}
 use Rattle.rdf_command.proofs.EnterLemmas.{entered-at, enters-at, is_free}
 use Rattle.rdf_command.proofs.GivenLemmas.{refused_by, refuses}
 use Rattle.rdf_command.proofs.commands.command_by.Goals as goal

@@ -1,10 +1,6 @@
 -- Documents of the names so far, and those of the names that are left.
-use Rattle.std.proofs.Common.{[], ◌+◌, ◌++◌, List, arith, drop, map, subst, sym}
-use Rattle.std.proofs.lemmas.List.{append-nil, drop_all, drop_more}
-use Rattle.clap.proofs.TakesLemmas.{passed_up}
+use Rattle.rdf_command.proofs.Prelude.{[], ◌+◌, ◌++◌, List, arith, drop, map, subst, sym, append-nil, drop_all, drop_more, passed_up, Form, AreDocuments, further_of}
 use Rattle.clap.specs.Words.{Text}
-use Rattle.rdf_stream.specs.declared.form.Form.{Form}
-use Rattle.rdf_command.specs.Words.{AreDocuments, further_of}
 use Rattle.rdf_command.proofs.GivenLemmas.{formless_among, name_among, next_document}
 use Rattle.rdf_command.proofs.commands.documents_of.Goals as goal
 

@@ -1,8 +1,6 @@
 -- With the documents of the names that are left, the documents are those of all names.
-use Rattle.std.proofs.Common.{◌++◌, drop, map, List}
+use Rattle.rdf_command.proofs.Prelude.{◌++◌, drop, map, List, Form, AreDocuments, further_of}
 use Rattle.clap.specs.Words.{Text}
-use Rattle.rdf_stream.specs.declared.form.Form.{Form}
-use Rattle.rdf_command.specs.Words.{AreDocuments, further_of}
 use Rattle.rdf_command.proofs.commands.documents_of.Given as goal
 
 abbrev pub invariant-loop-name : goal.invariant-loop-name

@@ -1,6 +1,4 @@
-use Rattle.std.proofs.Common.{◌∙◌, ◌≡◌, length, ap, arith}
-use Rattle.std.proofs.lemmas.Result.{IfOk-weaker}
-use Rattle.rdf_iri.specs.Texts.{byte_len}
+use Rattle.rdf_command.proofs.Prelude.{◌∙◌, ◌≡◌, length, ap, arith, IfOk-weaker, byte_len}
 use Rattle.rdf_iri.proofs.ResolvedText.{byte_len-chars}
 use Rattle.rdf_command.proofs.commands.iri_within.Goals as goal
 

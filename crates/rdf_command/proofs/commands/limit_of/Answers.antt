@@ -1,8 +1,5 @@
 -- A limit is there and in its range, since the parse found no fault.
-use Rattle.std.proofs.Common.{◌∙◌, ap, sym, subst, Some, option_map}
-use Rattle.std.proofs.lemmas.Result.{OkIff-at_ok, OkIff-decides}
-use Rattle.clap.specs.Words.{IsUnsignedIn, found_of}
-use Rattle.rdf_command.specs.Words.{number_in}
+use Rattle.rdf_command.proofs.Prelude.{◌∙◌, ap, sym, subst, Some, option_map, OkIff-at_ok, OkIff-decides, IsUnsignedIn, found_of, number_in}
 use Rattle.rdf_command.proofs.GivenLemmas.{text_given, text_is}
 use Rattle.rdf_command.proofs.commands.limit_of.Goals as goal
 

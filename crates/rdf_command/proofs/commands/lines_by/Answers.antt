@@ -1,6 +1,5 @@
 -- The lines are those of the matches that clap's definition of this command line gives.
-use Rattle.std.proofs.Common.{◌∙◌, ap, map, sym}
-use Rattle.rdf_command.specs.BadIris.{lines_in}
+use Rattle.rdf_command.proofs.Prelude.{◌∙◌, ap, map, sym, lines_in}
 use Rattle.rdf_command.proofs.EnterLemmas.{entered-at, enters-at}
 use Rattle.rdf_command.proofs.commands.lines_by.Goals as goal
 

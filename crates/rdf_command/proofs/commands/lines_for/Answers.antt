@@ -1,4 +1,4 @@
-use Rattle.std.proofs.Common.{map, refl, rules}
+use Rattle.rdf_command.proofs.Prelude.{map, refl, rules}
 use Rattle.clap.specs.declared.builder.value_parser.ValueParser.TheVariants.{Names}
 use Rattle.rdf_command.proofs.BadIriLemmas.{told_by}
 use Rattle.rdf_command.proofs.commands.lines_for.Goals as goal

@@ -1,9 +1,5 @@
-use Rattle.std.proofs.Common.{◌∙◌, None, ap, codes, cond, sym}
-use Rattle.std.proofs.lemmas.Result.{IfOk-weaker}
-use Rattle.clap.proofs.WalkLemmas.{first_value-rows}
-use Rattle.clap.specs.Words.{found_of, rows_of}
-use Rattle.rdf_command.specs.BadIris.{lines_about}
-use Rattle.rdf_command.specs.Words.{base_by, is_given}
+use Rattle.rdf_command.proofs.Prelude.{◌∙◌, None, ap, codes, cond, sym, IfOk-weaker, first_value-rows, found_of, rows_of, lines_about, base_by}
+use Rattle.rdf_command.specs.Words.{is_given}
 use Rattle.rdf_command.proofs.BadIriLemmas.{lines_of_base, lines_of_graph}
 use Rattle.rdf_command.proofs.commands.lines_in.Goals as goal
 

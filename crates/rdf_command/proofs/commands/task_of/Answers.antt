@@ -1,10 +1,6 @@
 -- The matches of a parse without a fault have all that a task needs, but a base or a word may be bad.
-use Rattle.std.proofs.Common.{◌∙◌, ap, sym, subst, codes, chars, map, option_map, IfSome, Some}
-use Rattle.clap.proofs.WalkLemmas.{first_value-rows, raw_values-rows}
-use Rattle.clap.proofs.TakesLemmas.{passed_up}
-use Rattle.clap.specs.Words.{all_of, found_of, rows_of}
-use Rattle.rdf_command.specs.Words.{AreDocuments, CanSkip, IsBase, IsFormBy, IsWord, base_by, escapes_by, file_by, further_by, further_of, is_addressed, is_given, name_by}
-use Rattle.rdf_command.specs.WordSteps.{IsFormatWord, NoFormOf, NoFormsOf}
+use Rattle.rdf_command.proofs.Prelude.{◌∙◌, ap, sym, subst, codes, chars, map, option_map, IfSome, Some, first_value-rows, raw_values-rows, passed_up, all_of, found_of, rows_of, AreDocuments, CanSkip, IsBase, IsFormBy, IsWord, base_by, escapes_by, file_by, further_by, further_of, is_addressed, name_by, IsFormatWord, NoFormOf, NoFormsOf}
+use Rattle.rdf_command.specs.Words.{is_given}
 use Rattle.rdf_command.proofs.GivenLemmas.{no_form, no_forms, no_graph, no_skip, no_task, now_of, no_word, text_given, text_is}
 use Rattle.rdf_command.proofs.commands.task_of.Goals as goal
 

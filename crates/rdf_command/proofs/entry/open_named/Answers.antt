@@ -1,6 +1,5 @@
 -- The name that is given back is the word for the file.
-use Rattle.std.proofs.Common.{◌≡◌, ◌∙◌, Some, ap, subst, sym}
-use Rattle.rdf_command.specs.Words.{name_by}
+use Rattle.rdf_command.proofs.Prelude.{◌≡◌, ◌∙◌, Some, ap, subst, sym, name_by}
 use Rattle.rdf_command.proofs.entry.open_named.Goals as goal
 
 pub returns-in-Err-clause-shut : goal.returns-in-Err-clause-shut

@@ -1,4 +1,4 @@
-use Rattle.std.proofs.Common.{◌∙◌, ◌==◌, ap, length, sym}
+use Rattle.rdf_command.proofs.Prelude.{◌∙◌, ◌==◌, ap, length, sym}
 use Rattle.rdf_command.proofs.SeveralLemmas.{one_ends, several_end}
 use Rattle.rdf_command.proofs.entry.run_task.Goals as goal
 

@@ -1,4 +1,4 @@
-use Rattle.std.proofs.Common.{inl, inr}
+use Rattle.rdf_command.proofs.Prelude.{inl, inr}
 use Rattle.rdf_command.proofs.BadIriLemmas.{refuses_with}
 use Rattle.rdf_command.proofs.entry.start.Goals as goal
 

@@ -1,4 +1,4 @@
-use Rattle.std.proofs.Common.{map}
+use Rattle.rdf_command.proofs.Prelude.{map}
 use Rattle.rdf_command.proofs.BadIriLemmas.{told_of}
 use Rattle.rdf_command.proofs.entry.task_in.Goals as goal
 

@@ -1,5 +1,4 @@
-use Rattle.std.proofs.Common.{◌≡◌, inl, map, rules, string_bytes, subst, sym}
-use Rattle.std.proofs.lemmas.Result.{IfErr-weaker, IfOk-weaker}
+use Rattle.rdf_command.proofs.Prelude.{◌≡◌, inl, map, rules, string_bytes, subst, sym, IfErr-weaker, IfOk-weaker}
 use Rattle.rdf_command.proofs.entry.task_of.Goals as goal
 
 pub returns-in-Ok-texts_of-clause-task : goal.returns-in-Ok-texts_of-clause-task

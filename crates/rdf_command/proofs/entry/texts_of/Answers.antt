@@ -1,4 +1,4 @@
-use Rattle.std.proofs.Common.{string_bytes, rules, tests}
+use Rattle.rdf_command.proofs.Prelude.{string_bytes, rules, tests}
 use Rattle.std.proofs.lemmas.Iterator.{YieldsList-from_slice, YieldsList-from_map_by}
 use Rattle.std.proofs.lemmas.Iterator.Consumers.{map_from_collect}
 use Rattle.rdf_command.proofs.entry.texts_of.Goals as goal

@@ -1,8 +1,6 @@
 -- The name ends as it was tested to end.
-use Rattle.std.proofs.Common.{◌∙◌, ◌∷◌, [], codes, sym}
+use Rattle.rdf_command.proofs.Prelude.{◌∙◌, ◌∷◌, [], codes, sym, append_assoc, ends_is}
 use Rattle.std.proofs.lemmas.Bool.Decides.{Decides-eqb}
-use Rattle.std.proofs.lemmas.List.{append_assoc}
-use Rattle.std.proofs.lemmas.Slice.Eq.{ends_is}
 use Rattle.rdf_command.proofs.names.form_at_end.Goals as goal
 
 pub returns-then-ends_with-clause-form : goal.returns-then-ends_with-clause-form

@@ -1,6 +1,4 @@
-use Rattle.std.proofs.Common.{◌∙◌, sym, subst}
-use Rattle.rdf_stream.specs.declared.form.Form.{Form}
-use Rattle.rdf_command.specs.Words.{EndsIn, by_name}
+use Rattle.rdf_command.proofs.Prelude.{◌∙◌, sym, subst, Form, EndsIn, by_name}
 use Rattle.rdf_command.proofs.RowLemmas.{same_text}
 use Rattle.rdf_command.proofs.names.form_by.Goals as goal
 

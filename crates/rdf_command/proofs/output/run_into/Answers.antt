@@ -1,7 +1,4 @@
-use Rattle.std.proofs.Common.{ap, inl, refl}
-use Rattle.rdf_stream.specs.Told.{written}
-use Rattle.rdf_command.specs.Programs.{outputs_of}
-use Rattle.rdf_command.specs.Reasons.{drain_tells, source_tells}
+use Rattle.rdf_command.proofs.Prelude.{ap, inl, refl, written, outputs_of, drain_tells, source_tells}
 use Rattle.rdf_command.proofs.OutputLemmas.{fate, flushed_then}
 use Rattle.rdf_command.proofs.output.run_into.Goals as goal
 

@@ -1,11 +1,4 @@
-use Rattle.std.proofs.Common.{◌≡◌, ◌∙◌, ap, sym, subst, None, Some, option_map}
-use Rattle.std.specs.String.{string_bytes}
-use Rattle.rdf_stream.specs.Told.{written}
-use Rattle.rdf_command.specs.Asides.{EndsBySkip, skip_of}
-use Rattle.rdf_command.specs.Outputs.{output_of}
-use Rattle.rdf_command.specs.Programs.{outputs_of}
-use Rattle.rdf_command.specs.Reasons.{devices_of, drain_tells}
-use Rattle.rdf_command.specs.Runs.{ending, files_told}
+use Rattle.rdf_command.proofs.Prelude.{◌≡◌, ◌∙◌, ap, sym, subst, None, Some, option_map, string_bytes, written, EndsBySkip, skip_of, output_of, outputs_of, devices_of, drain_tells, ending, files_told}
 use Rattle.rdf_command.proofs.AsideLemmas.{aside_of}
 use Rattle.rdf_command.proofs.OutputLemmas.{ends_to}
 use Rattle.rdf_command.proofs.output.run_over.Goals as goal

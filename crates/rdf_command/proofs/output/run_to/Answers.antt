@@ -1,10 +1,4 @@
-use Rattle.std.proofs.Common.{◌≡◌, ◌∙◌, ap, sym, subst, refl, None, Some, option_map}
-use Rattle.std.specs.String.{string_bytes}
-use Rattle.rdf_stream.specs.Told.{written}
-use Rattle.rdf_command.specs.Outputs.{EndsTo, output_of}
-use Rattle.rdf_command.specs.Programs.{outputs_of}
-use Rattle.rdf_command.specs.Reasons.{devices_of, drain_tells}
-use Rattle.rdf_command.specs.Runs.{ending, files_told}
+use Rattle.rdf_command.proofs.Prelude.{◌≡◌, ◌∙◌, ap, sym, subst, refl, None, Some, option_map, string_bytes, written, EndsTo, output_of, outputs_of, devices_of, drain_tells, ending, files_told}
 use Rattle.rdf_command.proofs.OutputLemmas.{ends_into, ends_to}
 use Rattle.rdf_command.proofs.output.run_to.Goals as goal
 

@@ -1,5 +1,4 @@
-use Rattle.std.proofs.Common.{◌∙◌}
-use Rattle.rdf_command.specs.Reasons.{device}
+use Rattle.rdf_command.proofs.Prelude.{◌∙◌, device}
 use Rattle.rdf_command.proofs.ReasonLemmas.{bindings_read}
 use Rattle.rdf_command.proofs.reasons.explain_bindings.Goals as goal
 

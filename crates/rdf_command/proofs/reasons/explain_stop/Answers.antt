@@ -1,5 +1,4 @@
-use Rattle.std.proofs.Common.{◌∙◌}
-use Rattle.rdf_command.specs.Reasons.{device}
+use Rattle.rdf_command.proofs.Prelude.{◌∙◌, device}
 use Rattle.rdf_command.proofs.ReasonLemmas.{stop_as, stop_read, stop_write}
 use Rattle.rdf_command.proofs.reasons.explain_stop.Goals as goal
 

@@ -1,4 +1,4 @@
-use Rattle.rdf_command.specs.Reasons.{device}
+use Rattle.rdf_command.proofs.Prelude.{device}
 use Rattle.rdf_command.proofs.ReasonLemmas.{stop_as_of}
 use Rattle.rdf_command.proofs.reasons.explain_stop_of.Goals as goal
 

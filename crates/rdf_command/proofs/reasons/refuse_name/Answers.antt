@@ -1,7 +1,4 @@
-use Rattle.std.proofs.Common.{◌∙◌, subst, sym, true}
-use Rattle.rdf_stream.specs.Messages.{report_text}
-use Rattle.rdf_stream.specs.declared.fault.StreamFault.TheVariants.{Write}
-use Rattle.rdf_command.specs.Reasons.{Device, ReportsFailed, device}
+use Rattle.rdf_command.proofs.Prelude.{◌∙◌, subst, sym, true, report_text, Write, Device, ReportsFailed, device}
 use Rattle.rdf_command.proofs.reasons.refuse_name.Goals as goal
 
 pub returns-then-explain-clause-reported : goal.returns-then-explain-clause-reported

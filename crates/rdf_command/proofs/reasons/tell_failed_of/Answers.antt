@@ -1,7 +1,5 @@
 -- The reason is the one that the device tells.
-use Rattle.std.proofs.Common.{◌++◌, option_map, string_bytes, subst}
-use Rattle.rdf_command.specs.Reasons.{reason_line}
-use Rattle.rdf_command.specs.Statuses.{ReportsOf}
+use Rattle.rdf_command.proofs.Prelude.{◌++◌, option_map, string_bytes, subst, reason_line, ReportsOf}
 use Rattle.rdf_command.proofs.reasons.tell_failed_of.Goals as goal
 
 pub returns : goal.returns

@@ -1,5 +1,4 @@
-use Rattle.std.proofs.Common.{◌∙◌, subst}
-use Rattle.rdf_command.specs.Statuses.{ReportsOf}
+use Rattle.rdf_command.proofs.Prelude.{◌∙◌, subst, ReportsOf}
 use Rattle.rdf_command.proofs.reasons.tell_reason_of.Goals as goal
 
 pub returns-in-Ok : goal.returns-in-Ok

@@ -1,7 +1,5 @@
 -- The reason is the one that the host tells.
-use Rattle.std.proofs.Common.{◌++◌, codes, option_map, string_bytes, subst}
-use Rattle.rdf_command.specs.Reasons.{reason_line}
-use Rattle.rdf_command.specs.Statuses.{ReportsOf}
+use Rattle.rdf_command.proofs.Prelude.{◌++◌, codes, option_map, string_bytes, subst, reason_line, ReportsOf}
 use Rattle.rdf_command.proofs.reasons.tell_why_of.Goals as goal
 
 pub returns : goal.returns

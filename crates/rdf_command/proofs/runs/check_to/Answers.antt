@@ -1,8 +1,5 @@
-use Rattle.std.proofs.Common.{◌∙◌, subst, sym}
-use Rattle.std.specs.Option.{option_map}
-use Rattle.rdf_stream.specs.Told.{AsTold}
+use Rattle.rdf_command.proofs.Prelude.{◌∙◌, subst, sym, option_map, AsTold, StopsCheckAs}
 use Rattle.rdf_command.proofs.RunLemmas.{front_told}
-use Rattle.rdf_command.specs.Runs.{StopsCheckAs}
 use Rattle.rdf_command.proofs.runs.check_to.Goals as goal
 
 pub returns-in-Err-write_out-clause-stops : goal.returns-in-Err-write_out-clause-stops

@@ -1,7 +1,4 @@
-use Rattle.std.proofs.Common.{◌≡◌, ◌∙◌, ap, inr, option_map, refl, string_bytes, subst, sym}
-use Rattle.rdf_stream.specs.Told.{told, written}
-use Rattle.rdf_command.specs.Reasons.{ReportsBindings, ReportsStop, OneTells, device, devices_of, drain_tells, source_tells}
-use Rattle.rdf_command.specs.Words.{name_by, name_of}
+use Rattle.rdf_command.proofs.Prelude.{◌≡◌, ◌∙◌, ap, inr, option_map, refl, string_bytes, subst, sym, told, written, ReportsBindings, ReportsStop, OneTells, device, devices_of, drain_tells, source_tells, name_by, name_of}
 use Rattle.rdf_command.proofs.OutputLemmas.{some_load_status}
 use Rattle.rdf_command.proofs.ReasonLemmas.{bindings_among, one_among, stop_among}
 use Rattle.rdf_command.proofs.RunLemmas.{run_done, run_stopped, some_status}

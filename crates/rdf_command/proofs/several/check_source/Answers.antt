@@ -1,7 +1,5 @@
 -- What the source tells when it is dropped.
-use Rattle.std.proofs.Common.{inl, inr, refl}
-use Rattle.rdf_stream.specs.Told.{told}
-use Rattle.rdf_command.specs.Reasons.{standard_output}
+use Rattle.rdf_command.proofs.Prelude.{inl, inr, refl, told, standard_output}
 use Rattle.rdf_command.proofs.ReasonLemmas.{stop_among_of}
 use Rattle.rdf_command.proofs.several.check_source.Goals as goal
 

@@ -1,13 +1,5 @@
 -- The first document, each further one, and the end.
-use Rattle.std.proofs.Common.{◌∙◌, ◌∷◌, ◌+◌, ap, drop, false, subst, sym, string_bytes, arith}
-use Rattle.std.proofs.lemmas.List.{drop_all, drop_more}
-use Rattle.rdf_stream.specs.Told.{written}
-use Rattle.rdf_command.specs.Programs.{documents_of, shut_of}
-use Rattle.rdf_command.specs.Reasons.{devices_of}
-use Rattle.rdf_command.specs.Runs.{ending}
-use Rattle.rdf_command.specs.Several.{EndsAt}
-use Rattle.rdf_command.specs.RunSteps.{shared_of}
-use Rattle.rdf_command.specs.Words.{further_of, name_by}
+use Rattle.rdf_command.proofs.Prelude.{◌∙◌, ◌∷◌, ◌+◌, ap, drop, false, subst, sym, string_bytes, arith, drop_all, drop_more, written, documents_of, shut_of, devices_of, ending, EndsAt, shared_of, further_of, name_by}
 use Rattle.rdf_command.proofs.SeveralLemmas.{Completes, both_live, completed, first_completes, next_completes, stopped}
 use Rattle.rdf_command.proofs.several.check_with.Goals as goal
 

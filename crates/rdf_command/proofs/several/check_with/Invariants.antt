@@ -1,11 +1,5 @@
 -- What is left to do completes the check of all documents.
-use Rattle.std.proofs.Common.{◌≡◌, drop}
-use Rattle.rdf_stream.specs.Told.{written}
-use Rattle.rdf_command.specs.Programs.{documents_of, shut_of}
-use Rattle.rdf_command.specs.Reasons.{devices_of}
-use Rattle.rdf_command.specs.Several.{has_failed_output}
-use Rattle.rdf_command.specs.RunSteps.{shared_of}
-use Rattle.rdf_command.specs.Words.{further_of}
+use Rattle.rdf_command.proofs.Prelude.{◌≡◌, drop, written, documents_of, shut_of, devices_of, has_failed_output, shared_of, further_of}
 use Rattle.rdf_command.proofs.SeveralLemmas.{Completes}
 use Rattle.rdf_command.proofs.several.check_with.Given as goal
 

@@ -1,7 +1,5 @@
-use Rattle.std.proofs.Common.{subst}
-use Rattle.clap.proofs.TakesLemmas.{passed_up}
+use Rattle.rdf_command.proofs.Prelude.{subst, passed_up, told}
 use Rattle.rdf_stream.specs.Loads.{BindsNot}
-use Rattle.rdf_stream.specs.Told.{told}
 use Rattle.rdf_command.proofs.SeveralLemmas.{none_by_bytes, none_by_source}
 use Rattle.rdf_command.proofs.several.given_by.Goals as goal
 

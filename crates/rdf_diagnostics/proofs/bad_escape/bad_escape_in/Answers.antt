@@ -1,10 +1,5 @@
-use Rattle.std.proofs.Common.{◌∙◌, ap, drop, get_or, subst, sym}
-use Rattle.std.specs.Option.{unwrap_or}
-use Rattle.std.specs.Str.{IsUtf8, chars}
-use Rattle.std.specs.Str.Iter.{chars_rest}
+use Rattle.rdf_diagnostics.proofs.Prelude.{◌∙◌, ap, drop, get_or, subst, sym, unwrap_or, IsUtf8, chars, chars_rest, outside, inside_of, stop_from}
 use Rattle.rdf_terms.proofs.InsideLemmas.{front_off}
-use Rattle.rdf_terms.specs.Values.{outside}
-use Rattle.rdf_diagnostics.specs.EscapeWalks.{inside_of, stop_from}
 use Rattle.rdf_diagnostics.proofs.BadEscapesLemmas.{first_of, walk_found}
 use Rattle.rdf_diagnostics.proofs.bad_escape.bad_escape_in.Goals as goal
 

@@ -1,11 +1,6 @@
-use Rattle.std.proofs.Common.{Some, encode_utf8, ◌≡◌, ◌∙◌, ◌+◌, ap, arith, length, length-append, subst, sym}
-use Rattle.std.specs.Char.{len_utf8}
-use Rattle.std.specs.Str.{chars}
-use Rattle.std.specs.Str.Iter.{chars_rest}
-use Rattle.std.proofs.lemmas.Str.{length-encode}
+use Rattle.rdf_diagnostics.proofs.Prelude.{Some, encode_utf8, ◌≡◌, ◌∙◌, ◌+◌, ap, arith, length, length-append, subst, sym, len_utf8, chars, chars_rest, length-encode, IsInRoom, IsStepInRoom, begun_at, inside_of, stand_of, stop_from}
 use Rattle.rdf_terms.proofs.CharsLemmas.{next_char, no_chars}
 use Rattle.rdf_diagnostics.specs.declared.bad_escape.Step.TheVariants.{Leads}
-use Rattle.rdf_diagnostics.specs.EscapeWalks.{IsInRoom, IsStepInRoom, begun_at, inside_of, stand_of, stop_from}
 use Rattle.rdf_diagnostics.proofs.EscapeWalksLemmas.{by_fails, by_leads, by_means}
 use Rattle.rdf_diagnostics.proofs.bad_escape.bytes_before.Goals.{in-Leads, in-Means}
 use Rattle.rdf_diagnostics.proofs.bad_escape.bytes_before.Goals as goal

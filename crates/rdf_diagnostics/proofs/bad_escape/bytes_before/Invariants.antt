@@ -1,8 +1,4 @@
-use Rattle.std.proofs.Common.{◌≡◌, ◌+◌, length}
-use Rattle.std.specs.Str.{chars, IsUtf8}
-use Rattle.std.specs.Str.Iter.{chars_rest}
-use Rattle.rdf_terms.specs.Values.{outside}
-use Rattle.rdf_diagnostics.specs.EscapeWalks.{IsInRoom, inside_of, stand_of, stop_from}
+use Rattle.rdf_diagnostics.proofs.Prelude.{◌≡◌, ◌+◌, length, chars, IsUtf8, chars_rest, outside, IsInRoom, inside_of, stand_of, stop_from}
 use Rattle.rdf_diagnostics.proofs.bad_escape.bytes_before.Given as goal
 
 abbrev pub invariant-loop-c : goal.invariant-loop-c

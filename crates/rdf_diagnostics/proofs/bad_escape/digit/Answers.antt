@@ -1,5 +1,4 @@
-use Rattle.std.proofs.Common.{◌∙◌, ap, arith, sym}
-use Rattle.rdf_diagnostics.specs.EscapeWalks.{inside_of, step_for}
+use Rattle.rdf_diagnostics.proofs.Prelude.{◌∙◌, ap, arith, sym, inside_of, step_for}
 use Rattle.rdf_diagnostics.proofs.EscapeWalksLemmas.{move_digit, room_fits, some_digit}
 use Rattle.rdf_diagnostics.proofs.bad_escape.digit.Goals as goal
 

@@ -1,5 +1,4 @@
-use Rattle.std.proofs.Common.{◌∙◌, ap, sym}
-use Rattle.rdf_diagnostics.specs.Causes.{cause_of, first}
+use Rattle.rdf_diagnostics.proofs.Prelude.{◌∙◌, ap, sym, cause_of, first}
 use Rattle.rdf_diagnostics.proofs.causes.cause_of.Goals as goal
 
 pub returns-in-NoToken : goal.returns-in-NoToken

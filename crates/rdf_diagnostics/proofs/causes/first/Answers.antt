@@ -1,4 +1,4 @@
-use Rattle.std.proofs.Common.{◌∙◌}
+use Rattle.rdf_diagnostics.proofs.Prelude.{◌∙◌}
 use Rattle.rdf_diagnostics.proofs.CausesLemmas.{pass_row}
 use Rattle.rdf_diagnostics.proofs.causes.first.Goals as goal
 

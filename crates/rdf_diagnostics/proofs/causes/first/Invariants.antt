@@ -1,6 +1,5 @@
 -- The rows that were passed have no cause.
-use Rattle.std.proofs.Common.{◌≡◌, drop}
-use Rattle.rdf_diagnostics.specs.Causes.{first}
+use Rattle.rdf_diagnostics.proofs.Prelude.{◌≡◌, drop, first}
 use Rattle.rdf_diagnostics.proofs.causes.first.Given as goal
 
 abbrev pub invariant-loop-row : goal.invariant-loop-row

@@ -1,7 +1,6 @@
 -- Each row is the one of its sign.
-use Rattle.std.proofs.Common.{◌∙◌, ◌∷◌, ap, ap₂, refl}
+use Rattle.rdf_diagnostics.proofs.Prelude.{◌∙◌, ◌∷◌, ap, ap₂, refl, row}
 use Rattle.rdf_diagnostics.specs.declared.causes.Cause.TheVariants as cause
-use Rattle.rdf_diagnostics.specs.Causes.{row}
 use Rattle.rdf_diagnostics.proofs.causes.no_token_rows.Goals as goal
 
 pub returns : goal.returns

@@ -1,4 +1,4 @@
-use Rattle.std.proofs.Common.{◌∙◌, ◌++◌, ap}
+use Rattle.rdf_diagnostics.proofs.Prelude.{◌∙◌, ◌++◌, ap}
 use Rattle.rdf_diagnostics.proofs.ExcerptsLemmas.{put_one}
 use Rattle.rdf_diagnostics.proofs.excerpt.put_chars.Goals as goal
 

@@ -1,5 +1,5 @@
 -- The characters that were passed are in the text.
-use Rattle.std.proofs.Common.{◌≡◌, ◌++◌, take, encode_utf8_all}
+use Rattle.rdf_diagnostics.proofs.Prelude.{◌≡◌, ◌++◌, take, encode_utf8_all}
 use Rattle.rdf_diagnostics.proofs.excerpt.put_chars.Given as goal
 
 abbrev pub invariant-loop-c : goal.invariant-loop-c

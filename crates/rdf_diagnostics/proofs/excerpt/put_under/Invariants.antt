@@ -1,5 +1,5 @@
 -- The characters that were passed have what stands under them.
-use Rattle.std.proofs.Common.{◌≡◌, ◌++◌, map, take}
+use Rattle.rdf_diagnostics.proofs.Prelude.{◌≡◌, ◌++◌, map, take}
 use Rattle.rdf_diagnostics.specs.Excerpts.{under}
 use Rattle.rdf_diagnostics.proofs.excerpt.put_under.Given as goal
 

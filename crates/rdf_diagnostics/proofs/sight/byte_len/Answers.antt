@@ -1,6 +1,4 @@
-use Rattle.std.proofs.Common.{ap, sym}
-use Rattle.std.proofs.lemmas.Str.{encodes-chars}
-use Rattle.std.proofs.Common.{length}
+use Rattle.rdf_diagnostics.proofs.Prelude.{ap, sym, encodes-chars, length}
 use Rattle.rdf_diagnostics.proofs.sight.byte_len.Goals as goal
 
 pub returns : goal.returns

@@ -1,7 +1,4 @@
-use Rattle.std.proofs.Common.{◌≡◌, ◌∙◌, ◌+◌, arith, length, subst, take, false}
-use Rattle.std.specs.Str.{IsCharBoundary}
-use Rattle.rdf_diagnostics.specs.Sights.{reading_from}
-use Rattle.rdf_diagnostics.specs.SightRuns.{IsSeen}
+use Rattle.rdf_diagnostics.proofs.Prelude.{◌≡◌, ◌∙◌, ◌+◌, arith, length, subst, take, false, IsCharBoundary, reading_from, IsSeen}
 use Rattle.rdf_diagnostics.proofs.SightLemmas.{by_equal, IsLongestTo, longest_all, longest_next, longest_none, longest_settled, longest_within, only_open}
 use Rattle.rdf_diagnostics.proofs.sight.longest_open.Goals.{then-is_char_boundary+in_ok-see_to-2+in-Open, else-is_char_boundary}
 use Rattle.rdf_diagnostics.proofs.sight.longest_open.Goals as goal

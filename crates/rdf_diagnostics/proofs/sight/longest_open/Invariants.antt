@@ -1,5 +1,4 @@
-use Rattle.std.proofs.Common.{◌≡◌}
-use Rattle.rdf_diagnostics.specs.SightRuns.{HasTaken}
+use Rattle.rdf_diagnostics.proofs.Prelude.{◌≡◌, HasTaken}
 use Rattle.rdf_diagnostics.proofs.SightLemmas.{IsLongestTo}
 use Rattle.rdf_diagnostics.proofs.sight.longest_open.Given as goal
 

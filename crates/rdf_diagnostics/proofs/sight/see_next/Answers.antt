@@ -1,6 +1,4 @@
-use Rattle.std.proofs.Common.{Ok, ◌∙◌, ap, sym, subst}
-use Rattle.rdf_tokens.specs.Scans.{Gives}
-use Rattle.rdf_diagnostics.specs.SightRuns.{Sees}
+use Rattle.rdf_diagnostics.proofs.Prelude.{Ok, ◌∙◌, ap, sym, subst, Gives, Sees}
 use Rattle.rdf_diagnostics.proofs.SightLemmas.{sees_stop, sees_none, sees_token}
 use Rattle.rdf_diagnostics.proofs.sight.see_next.Goals as goal
 

@@ -1,11 +1,4 @@
-use Rattle.std.proofs.Common.{false, subst}
-use Rattle.std.specs.Option.{MatchOption}
-use Rattle.rdf_tokens.specs.Good.{good}
-use Rattle.rdf_tokens.specs.Tokens.{rest_of}
-use Rattle.rdf_diagnostics.specs.declared.sight.Seen.TheVariants.{Unfit}
-use Rattle.rdf_diagnostics.specs.BadEscapes.{HasBadEscape}
-use Rattle.rdf_diagnostics.specs.Sights.{reading_from}
-use Rattle.rdf_diagnostics.specs.SightRuns.{IsSeen}
+use Rattle.rdf_diagnostics.proofs.Prelude.{false, subst, MatchOption, good, rest_of, Unfit, HasBadEscape, reading_from, IsSeen}
 use Rattle.rdf_diagnostics.proofs.SightLemmas.{by_equal}
 use Rattle.rdf_diagnostics.proofs.SightPlaces.{found_there, stands}
 use Rattle.rdf_diagnostics.proofs.sight.sight_of.Goals as goal

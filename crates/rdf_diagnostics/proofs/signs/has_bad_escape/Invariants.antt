@@ -1,6 +1,5 @@
 -- What was passed has no such backslash, but for one right in front.
-use Rattle.std.proofs.Common.{◌≡◌, drop, false}
-use Rattle.rdf_diagnostics.specs.Signs.{has_bad_escape}
+use Rattle.rdf_diagnostics.proofs.Prelude.{◌≡◌, drop, false, has_bad_escape}
 use Rattle.rdf_diagnostics.proofs.signs.has_bad_escape.Given as goal
 
 abbrev pub invariant-loop-i : goal.invariant-loop-i

@@ -1,4 +1,4 @@
-use Rattle.std.proofs.Common.{◌∙◌, sym}
+use Rattle.rdf_diagnostics.proofs.Prelude.{◌∙◌, sym}
 use Rattle.rdf_diagnostics.proofs.SignsLemmas.{pass_surrogate}
 use Rattle.rdf_diagnostics.proofs.signs.has_surrogate.Goals as goal
 

@@ -1,6 +1,5 @@
 -- At no place that was passed one begins.
-use Rattle.std.proofs.Common.{◌≡◌, drop}
-use Rattle.rdf_diagnostics.specs.Signs.{has_surrogate}
+use Rattle.rdf_diagnostics.proofs.Prelude.{◌≡◌, drop, has_surrogate}
 use Rattle.rdf_diagnostics.proofs.signs.has_surrogate.Given as goal
 
 abbrev pub invariant-loop-i : goal.invariant-loop-i

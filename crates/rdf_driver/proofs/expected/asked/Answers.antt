@@ -1,5 +1,4 @@
-use Rattle.std.proofs.Common.{◌∙◌, sym, subst}
-use Rattle.rdf_driver.specs.Words.{KnowsNext}
+use Rattle.rdf_driver.proofs.Prelude.{◌∙◌, sym, subst, KnowsNext}
 use Rattle.rdf_driver.proofs.expected.asked.Goals as goal
 
 pub returns-then-may_come-clause-exact : goal.returns-then-may_come-clause-exact

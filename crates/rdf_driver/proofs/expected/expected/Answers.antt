@@ -1,7 +1,5 @@
 -- The loop over the kinds: those before the one in hand were asked, and after the last one all were.
-use Rattle.std.proofs.Common.{refl, subst, sym}
-use Rattle.rdf_driver.specs.Kinds.{number}
-use Rattle.rdf_driver.specs.Words.{KnowsNext}
+use Rattle.rdf_driver.proofs.Prelude.{refl, subst, sym, number, KnowsNext}
 use Rattle.rdf_driver.proofs.KindsLemmas.{AskedTo, asked_one, asked_all}
 use Rattle.rdf_driver.proofs.expected.expected.Goals as goal
 

@@ -1,6 +1,5 @@
 use Rattle.std.specs.Prelude.{◌-◌}
-use Rattle.rdf_driver.specs.Kinds.{number}
-use Rattle.rdf_driver.specs.Words.{KnowsNext}
+use Rattle.rdf_driver.proofs.Prelude.{number, KnowsNext}
 use Rattle.rdf_driver.proofs.KindsLemmas.{AskedTo}
 use Rattle.rdf_driver.proofs.expected.expected.Given as goal
 

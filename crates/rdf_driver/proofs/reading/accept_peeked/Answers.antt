@@ -1,7 +1,5 @@
 -- A token that was seen is given, accepted and counted.
-use Rattle.std.proofs.Common.{◌∙◌, rules, sym, subst}
-use Rattle.rdf_tokens.specs.Scans.{GivesToken, token_of}
-use Rattle.rdf_driver.specs.Reading.{moment_of}
+use Rattle.rdf_driver.proofs.Prelude.{◌∙◌, rules, sym, subst, GivesToken, token_of, moment_of}
 use Rattle.rdf_driver.proofs.ReadingLemmas.{has_room, is_short, quads_room}
 use Rattle.rdf_driver.proofs.reading.accept_peeked.Goals as goal
 

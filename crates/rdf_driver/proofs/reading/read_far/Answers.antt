@@ -1,5 +1,5 @@
 -- One token was accepted, or none is seen.
-use Rattle.rdf_driver.specs.Reading.{moment_of}
+use Rattle.rdf_driver.proofs.Prelude.{moment_of}
 use Rattle.rdf_driver.proofs.ReadingLemmas.{fails_next, runs_none, runs_token}
 use Rattle.rdf_driver.proofs.reading.read_far.Goals as goal
 

@@ -1,6 +1,5 @@
 -- The loop over the frequent tokens: each was accepted.
-use Rattle.std.proofs.Common.{rules}
-use Rattle.rdf_driver.specs.Reading.{moment_of}
+use Rattle.rdf_driver.proofs.Prelude.{rules, moment_of}
 use Rattle.rdf_driver.proofs.ReadingLemmas.{runs_both, runs_none, runs_past, runs_token}
 use Rattle.rdf_driver.proofs.reading.read_near.Goals as goal
 

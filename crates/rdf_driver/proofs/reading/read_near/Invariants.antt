@@ -1,6 +1,5 @@
 use Rattle.rdf_tokens.specs.Peek.{MayPeek}
-use Rattle.rdf_tokens.specs.Scans.{left}
-use Rattle.rdf_driver.specs.Reading.{moment_of}
+use Rattle.rdf_driver.proofs.Prelude.{left, moment_of}
 use Rattle.rdf_driver.proofs.ReadingLemmas.{Runs}
 use Rattle.rdf_driver.proofs.reading.read_near.Given as goal
 

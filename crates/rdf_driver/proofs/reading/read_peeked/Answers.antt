@@ -1,5 +1,5 @@
 -- The kind is the one that the arm names.
-use Rattle.std.proofs.Common.{rules}
+use Rattle.rdf_driver.proofs.Prelude.{rules}
 use Rattle.rdf_driver.proofs.reading.read_peeked.Goals as goal
 
 pub accept_peeked-requires-in-Comma-clause-hinted : goal.accept_peeked-requires-in-Comma-clause-hinted

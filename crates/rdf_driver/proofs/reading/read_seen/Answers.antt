@@ -1,5 +1,5 @@
 -- The loop over the tokens that can be seen: each was accepted.
-use Rattle.rdf_driver.specs.Reading.{moment_of}
+use Rattle.rdf_driver.proofs.Prelude.{moment_of}
 use Rattle.rdf_driver.proofs.ReadingLemmas.{fails_both, runs_after, runs_none}
 use Rattle.rdf_driver.proofs.reading.read_seen.Goals as goal
 

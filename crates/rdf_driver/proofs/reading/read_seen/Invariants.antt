@@ -1,5 +1,4 @@
-use Rattle.rdf_tokens.specs.Scans.{left}
-use Rattle.rdf_driver.specs.Reading.{moment_of}
+use Rattle.rdf_driver.proofs.Prelude.{left, moment_of}
 use Rattle.rdf_driver.proofs.ReadingLemmas.{Runs}
 use Rattle.rdf_driver.proofs.reading.read_seen.Given as goal
 

@@ -1,5 +1,4 @@
-use Rattle.std.proofs.Common.{[], ◌∷◌, ◌++◌, ap, ◌∙◌}
-use Rattle.std.proofs.lemmas.Bool.{eqb-true}
+use Rattle.rdf_iri.proofs.Prelude.{[], ◌∷◌, ◌++◌, ap, ◌∙◌, eqb-true}
 use Rattle.rdf_iri.proofs.base.ends_in_slash.Goals as goal
 
 pub returns-in-Some : goal.returns-in-Some

@@ -1,7 +1,4 @@
-use Rattle.std.proofs.Common.{◌≡◌, ap, rules, subst, sym, ◌∙◌}
-use Rattle.std.proofs.lemmas.Bool.{not-true}
-use Rattle.rdf_iri.specs.Directory.{BeginsSegment, has_dots}
-use Rattle.rdf_iri.specs.Parts.{parts_of}
+use Rattle.rdf_iri.proofs.Prelude.{◌≡◌, ap, rules, subst, sym, ◌∙◌, not-true, BeginsSegment, has_dots, parts_of}
 use Rattle.rdf_iri.proofs.base.has_path.Goals as goal
 
 pub returns-then-begins_segment : goal.returns-then-begins_segment

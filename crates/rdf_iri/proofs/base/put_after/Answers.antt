@@ -1,7 +1,5 @@
 -- What is written after the root, or after the last directory, is the target.
-use Rattle.std.proofs.Common.{◌∙◌, ap, sym, get_or, arith}
-use Rattle.std.proofs.lemmas.Str.{IsCharBoundary-from_drop}
-use Rattle.std.proofs.lemmas.Result.{on_ok_weaker}
+use Rattle.rdf_iri.proofs.Prelude.{◌∙◌, ap, sym, get_or, arith, IsCharBoundary-from_drop, on_ok_weaker}
 use Rattle.rdf_iri.proofs.RootLemmas.{after-first, after-last, first-boundary, last-boundary, slash-boundary, front-slice}
 use Rattle.rdf_iri.proofs.base.put_after.Goals as goal
 

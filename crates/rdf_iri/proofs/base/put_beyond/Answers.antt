@@ -1,7 +1,5 @@
 -- What is written after the path, or after the query, is the target.
-use Rattle.std.proofs.Common.{◌∷◌, [], ◌++◌, ◌∙◌, ap, sym}
-use Rattle.std.proofs.lemmas.Result.{on_ok_weaker}
-use Rattle.rdf_iri.specs.Texts.{begins}
+use Rattle.rdf_iri.proofs.Prelude.{◌∷◌, [], ◌++◌, ◌∙◌, ap, sym, on_ok_weaker, begins}
 use Rattle.rdf_iri.proofs.RootLemmas.{beyond-path, beyond-query}
 use Rattle.rdf_iri.proofs.base.put_beyond.Goals as goal
 

@@ -1,7 +1,5 @@
 -- What stands in front of the path, and the path's directory, are counted.
-use Rattle.std.proofs.Common.{◌≡◌, ◌∙◌, ap, sym, length, arith}
-use Rattle.rdf_iri.specs.Parts.{parts_of, suffix}
-use Rattle.rdf_iri.specs.Roots.{front_text}
+use Rattle.rdf_iri.proofs.Prelude.{◌≡◌, ◌∙◌, ap, sym, length, arith, parts_of, suffix, front_text}
 use Rattle.rdf_iri.proofs.RootLemmas.{front-within, query-within, root-found}
 use Rattle.rdf_iri.proofs.base.root_of.Goals as goal
 

@@ -1,6 +1,5 @@
 -- The blanks are ASCII, so the text may be cut behind them.
-use Rattle.std.proofs.Common.{◌∙◌, ap, subst, List, ℕ}
-use Rattle.std.specs.Str.{chars}
+use Rattle.rdf_iri.proofs.Prelude.{◌∙◌, ap, subst, List, ℕ, chars}
 use Rattle.rdf_iri.proofs.BindingLemmas.{Blanks, behind_blanks}
 use Rattle.rdf_iri.proofs.binding_lines.after_blanks.Goals as goal
 

@@ -1,9 +1,5 @@
 -- A keyword is six letters, which are told in small.
-use Rattle.std.proofs.Common.{◌∙◌, ap, sym, ◌++◌, drop}
-use Rattle.std.specs.Prelude.{map}
-use Rattle.std.specs.Char.{to_ascii_lowercase}
-use Rattle.std.proofs.lemmas.Bool.{false≢true}
-use Rattle.std.proofs.lemmas.List.{take-append-drop}
+use Rattle.rdf_iri.proofs.Prelude.{◌∙◌, ap, sym, ◌++◌, drop, map, to_ascii_lowercase, false≢true, take-append-drop}
 use Rattle.rdf_iri.proofs.BindingLineLemmas.{keyword_from, keyword_lower, keyword_ascii}
 use Rattle.rdf_iri.proofs.BindingLemmas.{after_ascii, keyword_cut, passed_none}
 use Rattle.rdf_iri.proofs.binding_lines.after_keyword.Goals as goal

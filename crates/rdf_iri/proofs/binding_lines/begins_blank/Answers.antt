@@ -1,4 +1,4 @@
-use Rattle.std.proofs.Common.{subst, List, ℕ}
+use Rattle.rdf_iri.proofs.Prelude.{subst, List, ℕ}
 use Rattle.rdf_iri.proofs.BindingLemmas.{Blanks, begins_by_number}
 use Rattle.rdf_iri.proofs.binding_lines.begins_blank.Goals as goal
 

@@ -1,4 +1,4 @@
-use Rattle.std.specs.Str.{chars}
+use Rattle.rdf_iri.proofs.Prelude.{chars}
 use Rattle.rdf_iri.proofs.BindingLineLemmas.{declared_binding, no_binding}
 use Rattle.rdf_iri.proofs.BindingLemmas.{in_other_words}
 use Rattle.rdf_iri.proofs.binding_lines.binding_in.Goals as goal

@@ -1,7 +1,5 @@
 -- A declaration is told by its word.
-use Rattle.std.proofs.Common.{◌∙◌, ◌++◌, ap, sym, refl}
-use Rattle.std.specs.Prelude.{codes}
-use Rattle.std.specs.Str.{chars, encode_utf8_all}
+use Rattle.rdf_iri.proofs.Prelude.{◌∙◌, ◌++◌, ap, sym, refl, codes, chars, encode_utf8_all}
 use Rattle.rdf_iri.proofs.BindingLineLemmas.{prefix_id_from, sparql_from, no_prefix_id, no_sparql, no_word}
 use Rattle.rdf_iri.proofs.BindingLemmas.{after_ascii, bytes_ascii, passed_none, in_other_words}
 use Rattle.rdf_iri.proofs.binding_lines.declaration.Goals as goal

@@ -1,8 +1,4 @@
-use Rattle.std.proofs.Common.{◌∙◌, [], ◌∷◌, ap, sym, refl, subst, drop, arith}
-use Rattle.std.specs.Str.{chars, encode_utf8_all}
-use Rattle.std.proofs.lemmas.Bool.{false≢true}
-use Rattle.std.proofs.lemmas.Str.Pattern.{strip_prefix_char}
-use Rattle.rdf_iri.specs.BindingLines.{SaysNothing}
+use Rattle.rdf_iri.proofs.Prelude.{◌∙◌, [], ◌∷◌, ap, sym, refl, subst, drop, arith, chars, encode_utf8_all, false≢true, strip_prefix_char, SaysNothing}
 use Rattle.rdf_iri.proofs.BindingLineLemmas.{begins_there, token_there}
 use Rattle.rdf_iri.proofs.BindingLemmas.{after_ascii, bytes_ascii}
 use Rattle.rdf_iri.proofs.binding_lines.ends_at_dot.Goals as goal

@@ -1,10 +1,5 @@
 -- An IRI is cut off behind its blanks, at its brackets.
-use Rattle.std.proofs.Common.{◌∙◌, [], ◌∷◌, ◌++◌, ap, sym, refl, subst, arith}
-use Rattle.std.specs.Str.{chars, encode_utf8_all}
-use Rattle.std.proofs.lemmas.Bool.{false≢true}
-use Rattle.std.proofs.lemmas.Str.Pattern.{strip_prefix_char}
-use Rattle.rdf_terms.specs.Terms.{IsIri}
-use Rattle.rdf_iri.specs.Seen.{text_of}
+use Rattle.rdf_iri.proofs.Prelude.{◌∙◌, [], ◌∷◌, ◌++◌, ap, sym, refl, subst, arith, chars, encode_utf8_all, false≢true, strip_prefix_char, IsIri, text_of}
 use Rattle.rdf_iri.proofs.BindingLineLemmas.{iri_there}
 use Rattle.rdf_iri.proofs.BindingLemmas.{after_ascii, bytes_ascii, at_mark, is_iri, iri_cut, no_mark, passed_none}
 use Rattle.rdf_iri.proofs.binding_lines.iri_in.Goals as goal

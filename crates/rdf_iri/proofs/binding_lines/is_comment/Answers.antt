@@ -1,6 +1,4 @@
-use Rattle.std.proofs.Common.{arith}
-use Rattle.std.proofs.lemmas.Bool.{false≢true}
-use Rattle.std.proofs.lemmas.Str.Pattern.{strip_prefix_char, contains_char}
+use Rattle.rdf_iri.proofs.Prelude.{arith, false≢true, strip_prefix_char, contains_char}
 use Rattle.rdf_iri.proofs.BindingLemmas.{comment_by_search, no_comment}
 use Rattle.rdf_iri.proofs.binding_lines.is_comment.Goals as goal
 

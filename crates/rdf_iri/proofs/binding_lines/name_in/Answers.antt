@@ -1,11 +1,6 @@
 -- A name is cut off behind its blanks and its colon.
-use Rattle.std.proofs.Common.{◌∙◌, [], ◌∷◌, ◌++◌, ap, sym, subst, arith}
-use Rattle.std.specs.Str.{chars}
-use Rattle.std.proofs.lemmas.Bool.{false≢true}
-use Rattle.rdf_terms.specs.declared.kind.Dialect.TheVariants.{Turtle}
-use Rattle.rdf_terms.specs.declared.kind.Kind.TheVariants.{PnameNs}
+use Rattle.rdf_iri.proofs.Prelude.{◌∙◌, [], ◌∷◌, ◌++◌, ap, sym, subst, arith, chars, false≢true, Turtle, PnameNs, text_of}
 use Rattle.rdf_terms.specs.Terminals.{Shape}
-use Rattle.rdf_iri.specs.Seen.{text_of}
 use Rattle.rdf_iri.proofs.BindingLemmas.{at_mark, at_colon, is_name, name_cut, no_mark}
 use Rattle.rdf_iri.proofs.binding_lines.name_in.Goals as goal
 

@@ -1,6 +1,4 @@
-use Rattle.std.proofs.Common.{subst}
-use Rattle.std.specs.Str.{chars}
-use Rattle.rdf_iri.specs.BindingSteps.{IriThen}
+use Rattle.rdf_iri.proofs.Prelude.{subst, chars, IriThen}
 use Rattle.rdf_iri.proofs.BindingLineLemmas.{one_name}
 use Rattle.rdf_iri.proofs.BindingLemmas.{passed_none}
 use Rattle.rdf_iri.proofs.binding_lines.pair.Goals as goal

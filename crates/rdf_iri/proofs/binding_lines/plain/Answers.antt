@@ -1,7 +1,5 @@
 -- A line is in the form of these files exactly where it has a prefix with its colon, a space and an absolute IRI.
-use Rattle.std.proofs.Common.{◌∙◌, ap, sym}
-use Rattle.std.proofs.lemmas.Bool.{false≢true}
-use Rattle.rdf_iri.specs.Seen.{text_of}
+use Rattle.rdf_iri.proofs.Prelude.{◌∙◌, ap, sym, false≢true, text_of}
 use Rattle.rdf_iri.proofs.BindingLemmas.{is_plain, no_plain_without_space, plain_name, plain_iri}
 use Rattle.rdf_iri.proofs.binding_lines.plain.Goals as goal
 use Rattle.rdf_iri.proofs.binding_lines.plain.Goals.{else-is_pname_ns-via-then-is_pname_ns+then-iri_text+else-has_scheme, else-is_pname_ns-via-then-is_pname_ns+else-iri_text, else-is_pname_ns-via-else-is_pname_ns}

@@ -1,8 +1,5 @@
 -- Behind its blanks such a line ends or has a comment.
-use Rattle.std.proofs.Common.{◌∙◌, [], ◌∷◌, sym, inl, inr, ⊎_elim, length}
-use Rattle.std.specs.Str.{chars}
-use Rattle.std.proofs.lemmas.Bool.{eqb-true, eqb-false}
-use Rattle.rdf_terms.proofs.CharsLemmas.{no_chars}
+use Rattle.rdf_iri.proofs.Prelude.{◌∙◌, [], ◌∷◌, sym, inl, inr, ⊎_elim, length, chars, eqb-true, eqb-false, no_chars}
 use Rattle.rdf_iri.proofs.BindingLineLemmas.{blanks_alone, begins_there, nothing_there}
 use Rattle.rdf_iri.proofs.BindingLemmas.{some_chars}
 use Rattle.rdf_iri.proofs.binding_lines.says_nothing.Goals as goal

@@ -1,7 +1,4 @@
-use Rattle.std.proofs.Common.{◌∙◌, sym, subst}
-use Rattle.std.specs.Str.{chars}
-use Rattle.std.proofs.lemmas.Bool.{false≢true}
-use Rattle.rdf_iri.specs.BindingLines.{SaysNothing}
+use Rattle.rdf_iri.proofs.Prelude.{◌∙◌, sym, subst, chars, false≢true, SaysNothing}
 use Rattle.rdf_iri.proofs.BindingLineLemmas.{one_pair}
 use Rattle.rdf_iri.proofs.BindingLemmas.{passed_none}
 use Rattle.rdf_iri.proofs.binding_lines.sparql_prefix.Goals as goal

@@ -1,5 +1,4 @@
-use Rattle.std.proofs.Common.{arith}
-use Rattle.std.proofs.lemmas.Str.Pattern.{strip_suffix_char}
+use Rattle.rdf_iri.proofs.Prelude.{arith, strip_suffix_char}
 use Rattle.rdf_terms.proofs.NamesLemmas.{ns_without_colon}
 use Rattle.rdf_iri.proofs.binding_lines.without_colon.Goals as goal
 

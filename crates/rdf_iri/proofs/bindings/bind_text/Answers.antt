@@ -1,9 +1,5 @@
 -- A line within the limits is bound, and each error of the scope is one of the line.
-use Rattle.std.proofs.Common.{Some, None, ap, sym, refl, subst, ◌∙◌, arith}
-use Rattle.std.proofs.lemmas.Bool.{false≢true}
-use Rattle.std.specs.Str.{chars}
-use Rattle.rdf_iri.specs.Limits.{Sizes}
-use Rattle.rdf_iri.specs.Scope.{NotBound}
+use Rattle.rdf_iri.proofs.Prelude.{Some, None, ap, sym, refl, subst, ◌∙◌, arith, false≢true, chars, Sizes, NotBound}
 use Rattle.rdf_iri.proofs.BindingSteps.{bound_line, long_line, full_line, long_name, short_name, none_said}
 use Rattle.rdf_iri.proofs.bindings.bind_text.Goals as goal
 

@@ -1,7 +1,4 @@
-use Rattle.std.proofs.Common.{ap, arith, length, rules}
-use Rattle.std.specs.Str.{chars}
-use Rattle.std.proofs.lemmas.Str.{encodes-chars, chars_from_encodes}
-use Rattle.rdf_terms.proofs.CharsLemmas.{few_bytes}
+use Rattle.rdf_iri.proofs.Prelude.{ap, arith, length, rules, chars, encodes-chars, chars_from_encodes, few_bytes}
 use Rattle.rdf_iri.proofs.bindings.char_count.Goals as goal
 
 pub returns-clause-count : goal.returns-clause-count

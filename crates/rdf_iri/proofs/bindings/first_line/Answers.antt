@@ -1,4 +1,4 @@
-use Rattle.std.proofs.Common.{◌∙◌, sym}
+use Rattle.rdf_iri.proofs.Prelude.{◌∙◌, sym}
 use Rattle.rdf_iri.proofs.BindingLemmas.{after-from, after-end}
 use Rattle.rdf_iri.proofs.bindings.first_line.Goals as goal
 

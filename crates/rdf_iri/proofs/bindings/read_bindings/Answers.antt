@@ -1,7 +1,5 @@
 -- The loop over the lines of a file: those read say what the scope binds, and the first that fails is reported with its number.
-use Rattle.std.proofs.Common.{ap, refl, subst, arith}
-use Rattle.rdf_iri.specs.Seen.{text_of}
-use Rattle.rdf_iri.specs.Bindings.{CrDropped}
+use Rattle.rdf_iri.proofs.Prelude.{ap, refl, subst, arith, text_of, CrDropped}
 use Rattle.rdf_iri.proofs.BindingFiles.{nothing_read, one_line_more, whole_read, read_iris, line_fails, mark_shortens, left_more, left}
 use Rattle.rdf_iri.proofs.bindings.read_bindings.Goals as goal
 

@@ -1,5 +1,4 @@
-use Rattle.std.proofs.Common.{◌+◌, ◌≤◌, length}
-use Rattle.rdf_iri.specs.Seen.{text_of}
+use Rattle.rdf_iri.proofs.Prelude.{◌+◌, ◌≤◌, length, text_of}
 use Rattle.rdf_iri.proofs.BindingFiles.{ReadSoFar, left}
 use Rattle.rdf_iri.proofs.bindings.read_bindings.Given as goal
 

@@ -1,7 +1,5 @@
 -- A byte order mark is dropped, and a file without one is read from its first byte.
-use Rattle.std.proofs.Common.{◌≡◌, suc, ◌++◌, ◌∙◌, inl, inr, sym, refl, ap, length, drop, arith}
-use Rattle.std.proofs.lemmas.Bool.{false≢true}
-use Rattle.rdf_iri.specs.Bindings.{byte_order_mark}
+use Rattle.rdf_iri.proofs.Prelude.{◌≡◌, suc, ◌++◌, ◌∙◌, inl, inr, sym, refl, ap, length, drop, arith, false≢true, byte_order_mark}
 use Rattle.rdf_iri.proofs.TextsLemmas.{begins-true, begins-from}
 use Rattle.rdf_iri.proofs.bindings.without_mark.Goals as goal
 

@@ -1,7 +1,5 @@
 -- The segment in hand has no dots, and those after it decide.
-use Rattle.std.proofs.Common.{◌≡◌, ◌∙◌, ap, sym, false}
-use Rattle.rdf_iri.specs.Texts.{before}
-use Rattle.rdf_iri.specs.Dots.{fits_D}
+use Rattle.rdf_iri.proofs.Prelude.{◌≡◌, ◌∙◌, ap, sym, false, before, fits_D}
 use Rattle.rdf_iri.proofs.Written.{no_items}
 use Rattle.rdf_iri.proofs.DirectoryLemmas.{dots-next, dots-last}
 use Rattle.rdf_iri.proofs.dots.has_dots.Goals as goal

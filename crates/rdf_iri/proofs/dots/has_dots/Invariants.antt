@@ -1,5 +1,4 @@
-use Rattle.std.proofs.Common.{◌≡◌, length}
-use Rattle.rdf_iri.specs.Directory.{has_dots}
+use Rattle.rdf_iri.proofs.Prelude.{◌≡◌, length, has_dots}
 use Rattle.rdf_iri.proofs.dots.has_dots.Given as goal
 
 -- the segments that are left decide

@@ -1,6 +1,5 @@
 -- The loop over a path in its own bytes: what is read and what is written lead to the path without dots.
-use Rattle.std.proofs.Common.{◌-◌, ◌≤◌, ◌+◌, ◌∙◌, arith, length, drop, take, set, refl}
-use Rattle.std.proofs.lemmas.List.{length-set, length-take}
+use Rattle.rdf_iri.proofs.Prelude.{◌-◌, ◌≤◌, ◌+◌, ◌∙◌, arith, length, drop, take, set, refl, length-set, length-take}
 use Rattle.rdf_iri.proofs.InPlace.{skip_kept, slash_kept, up_kept, keep_kept, at_start, at_end}
 use Rattle.rdf_iri.proofs.dots.remove_dots.Goals as goal
 

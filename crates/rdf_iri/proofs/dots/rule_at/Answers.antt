@@ -1,9 +1,5 @@
 -- Each branch is the first rule that fits, by the bytes that it takes.
-use Rattle.std.proofs.Common.{◌≡◌, ◌∙◌, sym, ap, suc, ◌+◌, arith, length, drop, take}
-use Rattle.std.proofs.lemmas.Bool.{or_from}
-use Rattle.std.proofs.lemmas.Slice.{between_to_end}
-use Rattle.rdf_iri.specs.Texts.{before, from}
-use Rattle.rdf_iri.specs.Dots.{walk, keep}
+use Rattle.rdf_iri.proofs.Prelude.{◌≡◌, ◌∙◌, sym, ap, suc, ◌+◌, arith, length, drop, take, or_from, between_to_end, before, from, walk, keep}
 use Rattle.rdf_iri.proofs.RulesLemmas.{skip_three, skip_two, slash_two, slash_one, up_three, up_two, skip_all, keep_some}
 use Rattle.rdf_iri.proofs.dots.rule_at.Goals as goal
 

@@ -1,7 +1,5 @@
 -- Where the byte is found the text is cut there, and otherwise all of it stands before the cut.
-use Rattle.std.proofs.Common.{◌∙◌, ap, sym, Some}
-use Rattle.std.proofs.lemmas.Str.Pattern.{split_parts}
-use Rattle.rdf_iri.specs.Texts.{before, after}
+use Rattle.rdf_iri.proofs.Prelude.{◌∙◌, ap, sym, Some, split_parts, before, after}
 use Rattle.rdf_iri.proofs.TextsLemmas.{cut_suffix}
 use Rattle.rdf_iri.proofs.CutPlaces.{Lacks-from_places, cut_none}
 use Rattle.rdf_iri.proofs.parts.cut.Goals as goal

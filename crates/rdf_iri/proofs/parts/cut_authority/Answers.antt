@@ -1,5 +1,4 @@
-use Rattle.std.proofs.Common.{◌≡◌, ◌∙◌, ap, sym, subst, List, ℕ, [], ◌∷◌, ◌≤◌, length, drop}
-use Rattle.rdf_iri.specs.Texts.{begins, from}
+use Rattle.rdf_iri.proofs.Prelude.{◌≡◌, ◌∙◌, ap, sym, subst, List, ℕ, [], ◌∷◌, ◌≤◌, length, drop, begins, from}
 use Rattle.rdf_iri.proofs.CutPlaces.{boundary_there, boundary_after_slashes}
 use Rattle.rdf_iri.proofs.parts.cut_authority.Goals as goal
 

@@ -1,7 +1,4 @@
-use Rattle.std.proofs.Common.{◌≡◌, ◌∙◌, ap, cond, List, ℕ, [], ◌∷◌, drop, Option, Some, None}
-use Rattle.rdf_iri.specs.Parts.{parts_of, fragment_parts, query_parts, hierarchy_parts}
-use Rattle.rdf_iri.specs.Seen.{text_of}
-use Rattle.rdf_iri.specs.Texts.{before, after, from, begins}
+use Rattle.rdf_iri.proofs.Prelude.{◌≡◌, ◌∙◌, ap, cond, List, ℕ, [], ◌∷◌, drop, Option, Some, None, parts_of, fragment_parts, query_parts, hierarchy_parts, text_of, before, after, from, begins}
 use Rattle.rdf_iri.proofs.parts.cut_parts.Goals as goal
 
 -- the steps of the code, one after another

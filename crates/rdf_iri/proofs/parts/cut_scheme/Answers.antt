@@ -1,6 +1,5 @@
 -- A reference with a scheme is cut at its first ':', and one without is left as it is.
-use Rattle.std.proofs.Common.{◌∙◌, ap, sym}
-use Rattle.rdf_iri.specs.Seen.{text_of}
+use Rattle.rdf_iri.proofs.Prelude.{◌∙◌, ap, sym, text_of}
 use Rattle.rdf_iri.proofs.Slices.{has_scheme-chars, no_rest}
 use Rattle.rdf_iri.proofs.CutPlaces.{scheme_there, no_scheme_there}
 use Rattle.rdf_iri.proofs.parts.cut_scheme.Goals as goal

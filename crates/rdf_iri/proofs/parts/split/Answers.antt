@@ -1,6 +1,4 @@
-use Rattle.std.proofs.Common.{◌∙◌, ap, sym, subst}
-use Rattle.rdf_iri.specs.Parts.{Splits}
-use Rattle.rdf_iri.specs.Seen.{parts_chars}
+use Rattle.rdf_iri.proofs.Prelude.{◌∙◌, ap, sym, subst, Splits, parts_chars}
 use Rattle.rdf_iri.proofs.PartsLemmas.{only_parts, parts_split}
 use Rattle.rdf_iri.proofs.Slices.{parts-chars}
 use Rattle.rdf_iri.proofs.parts.split.Goals as goal

@@ -1,4 +1,4 @@
-use Rattle.std.proofs.Common.{◌∙◌}
+use Rattle.rdf_iri.proofs.Prelude.{◌∙◌}
 use Rattle.rdf_iri.proofs.CutPlaces.{begins-starts}
 use Rattle.rdf_iri.proofs.places.begins_with.Goals as goal
 

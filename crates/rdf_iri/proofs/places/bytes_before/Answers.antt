@@ -1,5 +1,5 @@
 -- The loop that looks for a byte: none stands before its place.
-use Rattle.std.proofs.Common.{◌≡◌, ◌∙◌, ap, sym, length, take, drop, arith}
+use Rattle.rdf_iri.proofs.Prelude.{◌≡◌, ◌∙◌, ap, sym, length, take, drop, arith}
 use Rattle.rdf_iri.proofs.CutPlaces.{cut_there, starts_there, ends_there, Lacks-more}
 use Rattle.rdf_iri.proofs.places.bytes_before.Goals as goal
 

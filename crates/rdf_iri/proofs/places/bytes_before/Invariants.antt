@@ -1,5 +1,4 @@
-use Rattle.std.proofs.Common.{take}
-use Rattle.rdf_iri.specs.Texts.{Lacks}
+use Rattle.rdf_iri.proofs.Prelude.{take, Lacks}
 use Rattle.rdf_iri.proofs.places.bytes_before.Given as goal
 
 abbrev pub invariant-loop-i : goal.invariant-loop-i

@@ -1,6 +1,5 @@
 -- The loop that looks for the last '/', which belongs to the directory: none stands after its place.
-use Rattle.std.proofs.Common.{◌≡◌, ◌∙◌, ℕ, ◌+◌, ◌-◌, ap, sym, take, drop, subst, arith}
-use Rattle.rdf_iri.specs.Texts.{Lacks}
+use Rattle.rdf_iri.proofs.Prelude.{◌≡◌, ◌∙◌, ℕ, ◌+◌, ◌-◌, ap, sym, take, drop, subst, arith, Lacks}
 use Rattle.rdf_iri.proofs.CutPlaces.{directory_there, directory_none, Lacks-less}
 use Rattle.rdf_iri.proofs.places.directory_len.Goals as goal
 

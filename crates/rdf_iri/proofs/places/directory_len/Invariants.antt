@@ -1,5 +1,4 @@
-use Rattle.std.proofs.Common.{◌≤◌, length, drop}
-use Rattle.rdf_iri.specs.Texts.{Lacks}
+use Rattle.rdf_iri.proofs.Prelude.{◌≤◌, length, drop, Lacks}
 use Rattle.rdf_iri.proofs.places.directory_len.Given as goal
 
 abbrev pub invariant-loop-len : goal.invariant-loop-len

@@ -1,6 +1,5 @@
 -- The loop that looks for the last '/': none stands after its place.
-use Rattle.std.proofs.Common.{◌≡◌, ℕ, ◌+◌, ◌-◌, sym, drop, subst, arith}
-use Rattle.rdf_iri.specs.Texts.{Lacks}
+use Rattle.rdf_iri.proofs.Prelude.{◌≡◌, ℕ, ◌+◌, ◌-◌, sym, drop, subst, arith, Lacks}
 use Rattle.rdf_iri.proofs.DotsLemmas.{parent-none}
 use Rattle.rdf_iri.proofs.CutPlaces.{parent_there, Lacks-less}
 use Rattle.rdf_iri.proofs.places.parent_len.Goals as goal

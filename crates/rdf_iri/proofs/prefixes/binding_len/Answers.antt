@@ -1,4 +1,4 @@
-use Rattle.std.proofs.Common.{rules}
+use Rattle.rdf_iri.proofs.Prelude.{rules}
 use Rattle.rdf_iri.proofs.prefixes.binding_len.Goals as goal
 
 pub returns : goal.returns

@@ -1,6 +1,4 @@
-use Rattle.std.proofs.Common.{◌≡◌, ◌∙◌, sym, length, arith}
-use Rattle.std.proofs.lemmas.List.{take_all}
-use Rattle.std.proofs.lemmas.Slice.Eq.{bytes_eq-Decides}
+use Rattle.rdf_iri.proofs.Prelude.{◌≡◌, ◌∙◌, sym, length, arith, take_all, bytes_eq-Decides}
 use Rattle.rdf_iri.proofs.prefixes.has_same_bytes.Goals as goal
 
 -- at the end of the loop all bytes were compared

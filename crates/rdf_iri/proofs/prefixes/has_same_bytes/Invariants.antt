@@ -1,4 +1,4 @@
-use Rattle.std.proofs.Common.{◌≡◌, take}
+use Rattle.rdf_iri.proofs.Prelude.{◌≡◌, take}
 use Rattle.rdf_iri.proofs.prefixes.has_same_bytes.Given as goal
 
 -- the bytes before the place are the same

@@ -1,6 +1,4 @@
-use Rattle.std.proofs.Common.{◌∙◌, ap, sym}
-use Rattle.std.specs.Str.{bytes_eq}
-use Rattle.std.specs.String.{string_bytes}
+use Rattle.rdf_iri.proofs.Prelude.{◌∙◌, ap, sym, bytes_eq, string_bytes}
 use Rattle.rdf_iri.proofs.PrefixLemmas.{stands_at, goes_on}
 use Rattle.rdf_iri.proofs.prefixes.place_in.Goals as goal
 

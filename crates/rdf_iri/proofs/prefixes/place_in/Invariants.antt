@@ -1,7 +1,4 @@
-use Rattle.std.proofs.Common.{◌≡◌, None, take}
-use Rattle.std.specs.Str.{chars}
-use Rattle.rdf_iri.specs.Scope.{bound_to}
-use Rattle.rdf_iri.specs.Prefixes.{entries_of}
+use Rattle.rdf_iri.proofs.Prelude.{◌≡◌, None, take, chars, bound_to, entries_of}
 use Rattle.rdf_iri.proofs.prefixes.place_in.Given as goal
 
 -- no prefix before the place is the one that is looked for

@@ -1,9 +1,5 @@
 -- A prefix stands where its slot says, or among the first, or nowhere in the row.
-use Rattle.std.proofs.Common.{◌≡◌, None, subst}
-use Rattle.std.specs.Prelude.{MatchOption}
-use Rattle.std.specs.Str.{chars}
-use Rattle.rdf_iri.specs.Scope.{bound_to}
-use Rattle.rdf_iri.specs.Prefixes.{entries_of, StandsAt}
+use Rattle.rdf_iri.proofs.Prelude.{◌≡◌, None, subst, MatchOption, chars, bound_to, entries_of, StandsAt}
 use Rattle.rdf_iri.proofs.TableLemmas.{stands_where, first_or_none}
 use Rattle.rdf_iri.proofs.prefixes.place_of_many.Goals as goal
 

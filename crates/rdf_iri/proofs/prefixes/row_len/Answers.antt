@@ -1,7 +1,5 @@
 -- The next entry is counted, and the others are left.
-use Rattle.std.proofs.Common.{ap, arith}
-use Rattle.std.proofs.lemmas.List.Sums.{sum_by-drop_more}
-use Rattle.rdf_iri.specs.Prefixes.{entry_bytes}
+use Rattle.rdf_iri.proofs.Prelude.{ap, arith, sum_by-drop_more, entry_bytes}
 use Rattle.rdf_iri.proofs.prefixes.row_len.Goals as goal
 
 pub binding_len-held-requires : goal.binding_len-held-requires

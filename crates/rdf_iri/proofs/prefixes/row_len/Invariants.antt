@@ -1,6 +1,4 @@
-use Rattle.std.proofs.Common.{◌≡◌, ◌+◌, drop}
-use Rattle.std.specs.List.{sum_by}
-use Rattle.rdf_iri.specs.Prefixes.{entry_bytes}
+use Rattle.rdf_iri.proofs.Prelude.{◌≡◌, ◌+◌, drop, sum_by, entry_bytes}
 use Rattle.rdf_iri.proofs.prefixes.row_len.Given as goal
 
 -- what is counted, and what the entries that are left have, are all bytes

@@ -1,11 +1,5 @@
 -- A reference with a scheme is absolute; any other is resolved over bytes.
-use Rattle.std.proofs.Common.{◌≡◌, ◌∙◌, ap, sym, subst, Some, false}
-use Rattle.std.specs.Str.{chars}
-use Rattle.std.specs.String.{string_bytes}
-use Rattle.std.proofs.lemmas.Result.{err_from_is_err_and}
-use Rattle.rdf_terms.specs.Terms.{IsIri, has_scheme}
-use Rattle.rdf_iri.specs.Resolve.{Resolves}
-use Rattle.rdf_iri.specs.Seen.{text_of}
+use Rattle.rdf_iri.proofs.Prelude.{◌≡◌, ◌∙◌, ap, sym, subst, Some, false, chars, string_bytes, err_from_is_err_and, IsIri, has_scheme, Resolves, text_of}
 use Rattle.rdf_iri.proofs.ResolvedText.{IsIri-target, Resolves-target, target_text}
 use Rattle.rdf_iri.proofs.resolution.make_absolute.Goals as goal
 use Rattle.rdf_iri.proofs.resolution.make_absolute.Goals.{After-drop-text}

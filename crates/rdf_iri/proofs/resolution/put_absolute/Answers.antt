@@ -1,10 +1,5 @@
 -- A reference with a scheme is absolute; any other is resolved.
-use Rattle.std.proofs.Common.{◌≡◌, ◌∙◌, ap, sym, subst, Some, false, inl, refl}
-use Rattle.std.specs.Str.{chars}
-use Rattle.std.proofs.lemmas.Result.{err_from_is_err_and}
-use Rattle.rdf_terms.specs.Terms.{IsIri, has_scheme}
-use Rattle.rdf_iri.specs.Resolve.{Resolves}
-use Rattle.rdf_iri.specs.Seen.{text_of}
+use Rattle.rdf_iri.proofs.Prelude.{◌≡◌, ◌∙◌, ap, sym, subst, Some, false, inl, refl, chars, err_from_is_err_and, IsIri, has_scheme, Resolves, text_of}
 use Rattle.rdf_iri.proofs.ResolvedText.{IsIri-target, Resolves-target, target_text}
 use Rattle.rdf_iri.proofs.resolution.put_absolute.Goals as goal
 

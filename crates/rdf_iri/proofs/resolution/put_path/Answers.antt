@@ -1,5 +1,4 @@
-use Rattle.std.proofs.Common.{◌∙◌, ◌-◌, ◌++◌, drop, ap, length, arith}
-use Rattle.std.proofs.lemmas.List.{length-take}
+use Rattle.rdf_iri.proofs.Prelude.{◌∙◌, ◌-◌, ◌++◌, drop, ap, length, arith, length-take}
 use Rattle.rdf_iri.proofs.Written.{cleaned}
 use Rattle.rdf_iri.proofs.resolution.put_path.Goals as goal
 

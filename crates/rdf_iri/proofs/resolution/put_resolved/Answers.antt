@@ -1,6 +1,4 @@
-use Rattle.std.proofs.Common.{◌∙◌, ap, List, ℕ, ◌++◌}
-use Rattle.rdf_iri.specs.Parts.{scheme_text}
-use Rattle.rdf_iri.specs.Seen.{slices, text_of}
+use Rattle.rdf_iri.proofs.Prelude.{◌∙◌, ap, List, ℕ, ◌++◌, scheme_text, slices, text_of}
 use Rattle.rdf_iri.proofs.Written.{no_bytes, some_bytes, own_authority, base_path, merged_path}
 use Rattle.rdf_iri.proofs.resolution.put_resolved.Goals as goal
 use Rattle.rdf_iri.proofs.resolution.put_resolved.Goals.{in-Some+in_ok-put_authority-in-Some+in_ok-put_path-in-Some+in_ok-put_suffix-in-Some, in-None+in_ok-put_authority-in-None+then-is_empty+in_ok-extend_from_slice-in-None+in_ok-put_suffix-in-None, in-None+in_ok-put_authority-in-None+else-is_empty+in_ok-put_path-in-None+in_ok-put_suffix-in-None-2}

@@ -1,13 +1,5 @@
 -- A reference with a scheme is copied, any other resolved over bytes; each is refused where it passes the limit.
-use Rattle.std.proofs.Common.{◌≡◌, ◌∙◌, ap, sym, subst, refl, inl, Some, length, arith, false}
-use Rattle.std.specs.Str.{chars}
-use Rattle.std.specs.String.{string_bytes}
-use Rattle.std.proofs.lemmas.Str.{IsUtf8-string_bytes}
-use Rattle.std.proofs.lemmas.Result.{err_from_is_err_and}
-use Rattle.rdf_terms.specs.Terms.{IsIri, has_scheme}
-use Rattle.rdf_iri.specs.Texts.{byte_len}
-use Rattle.rdf_iri.specs.Resolve.{Resolves}
-use Rattle.rdf_iri.specs.Seen.{text_of}
+use Rattle.rdf_iri.proofs.Prelude.{◌≡◌, ◌∙◌, ap, sym, subst, refl, inl, Some, length, arith, false, chars, string_bytes, IsUtf8-string_bytes, err_from_is_err_and, IsIri, has_scheme, byte_len, Resolves, text_of}
 use Rattle.rdf_iri.proofs.ResolvedText.{byte_len-chars, IsIri-target, Resolves-target, target_text}
 use Rattle.rdf_iri.proofs.resolution.resolve.Goals as goal
 use Rattle.rdf_iri.proofs.resolution.resolve.Goals.{After-len}

@@ -1,8 +1,5 @@
 -- The text that was made absolute is within the limit, or too long.
-use Rattle.std.proofs.Common.{arith}
-use Rattle.std.specs.Str.{chars}
-use Rattle.std.specs.String.{string_bytes}
-use Rattle.std.proofs.lemmas.Str.{IsUtf8-string_bytes}
+use Rattle.rdf_iri.proofs.Prelude.{arith, chars, string_bytes, IsUtf8-string_bytes}
 use Rattle.rdf_iri.proofs.ResolvedText.{byte_len-chars}
 use Rattle.rdf_iri.proofs.resolution.resolve_in_place.Goals as goal
 

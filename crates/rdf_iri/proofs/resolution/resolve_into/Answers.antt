@@ -1,6 +1,5 @@
 -- The text that was made absolute is within the limit, or too long.
-use Rattle.std.proofs.Common.{arith}
-use Rattle.std.specs.Str.{chars}
+use Rattle.rdf_iri.proofs.Prelude.{arith, chars}
 use Rattle.rdf_iri.proofs.resolution.resolve_into.Goals as goal
 
 pub returns-then-byte_len-limit-clause-refused : goal.returns-then-byte_len-limit-clause-refused

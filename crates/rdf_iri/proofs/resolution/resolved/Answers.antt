@@ -1,5 +1,4 @@
-use Rattle.std.proofs.Common.{◌∙◌, ap, sym, subst}
-use Rattle.std.specs.Str.{IsUtf8, chars}
+use Rattle.rdf_iri.proofs.Prelude.{◌∙◌, ap, sym, subst, IsUtf8, chars}
 use Rattle.rdf_iri.proofs.ResolvedText.{IsUtf8-target, chars-target}
 use Rattle.rdf_iri.proofs.resolution.resolved.Goals as goal
 

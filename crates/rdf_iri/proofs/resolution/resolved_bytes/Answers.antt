@@ -1,4 +1,4 @@
-use Rattle.std.proofs.Common.{arith}
+use Rattle.rdf_iri.proofs.Prelude.{arith}
 use Rattle.rdf_iri.proofs.resolution.resolved_bytes.Goals as goal
 
 pub overflow_add-base : goal.overflow_add-base

@@ -1,8 +1,5 @@
 -- Two texts that were put one after the other are the joined one, and its size was tested before.
-use Rattle.std.proofs.Common.{ap, sym, subst, arith}
-use Rattle.std.proofs.lemmas.Result.{err_from_is_err_and}
-use Rattle.rdf_terms.specs.Terms.{IsIri}
-use Rattle.rdf_iri.specs.Texts.{byte_len}
+use Rattle.rdf_iri.proofs.Prelude.{ap, sym, subst, arith, err_from_is_err_and, IsIri, byte_len}
 use Rattle.rdf_iri.proofs.ScopeLemmas.{IsIri-append, byte_len-joined, chars-joined}
 use Rattle.rdf_iri.proofs.scope.put_joined.Goals as goal
 

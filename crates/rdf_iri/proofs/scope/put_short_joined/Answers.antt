@@ -1,7 +1,5 @@
 -- As of texts of any length.
-use Rattle.std.proofs.Common.{ap, sym, subst, arith}
-use Rattle.rdf_terms.specs.Terms.{IsIri}
-use Rattle.rdf_iri.specs.Texts.{byte_len}
+use Rattle.rdf_iri.proofs.Prelude.{ap, sym, subst, arith, IsIri, byte_len}
 use Rattle.rdf_iri.proofs.ScopeLemmas.{IsIri-append, byte_len-joined, chars-joined}
 use Rattle.rdf_iri.proofs.scope.put_short_joined.Goals as goal
 

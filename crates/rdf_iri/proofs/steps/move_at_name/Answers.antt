@@ -1,5 +1,5 @@
 -- The bytes of a segment are passed one by one, up to its '/' or the end of the path.
-use Rattle.std.proofs.Common.{arith}
+use Rattle.rdf_iri.proofs.Prelude.{arith}
 use Rattle.rdf_iri.proofs.StepsLemmas.{into-slash, last-segment, lacks-one}
 use Rattle.rdf_iri.proofs.steps.move_at_name.Goals as goal
 

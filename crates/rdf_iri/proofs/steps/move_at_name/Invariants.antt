@@ -1,5 +1,4 @@
-use Rattle.std.proofs.Common.{◌≤◌, ◌-◌, length, slice_range}
-use Rattle.rdf_iri.specs.Texts.{Lacks}
+use Rattle.rdf_iri.proofs.Prelude.{◌≤◌, ◌-◌, length, slice_range, Lacks}
 use Rattle.rdf_iri.proofs.StepsLemmas.{LacksMarks}
 use Rattle.rdf_iri.proofs.steps.move_at_name.Given as goal
 

@@ -1,10 +1,7 @@
 -- Each move keeps what the text with the rest of the reference comes to.
-use Rattle.std.proofs.Common.{IsUtf8, ◌≡◌, ◌≤◌, ◌++◌, ◌∷◌, [], ◌∙◌, ap, sym, subst, append_assoc, length, drop, take, slice_range, arith}
-use Rattle.std.proofs.lemmas.List.{append-nil}
+use Rattle.rdf_iri.proofs.Prelude.{IsUtf8, ◌≡◌, ◌≤◌, ◌++◌, ◌∷◌, [], ◌∙◌, ap, sym, subst, append_assoc, length, drop, take, slice_range, arith, append-nil, IsMove, front_at, path_at, parent}
 use Rattle.std.proofs.lemmas.List.Folds.{drop_split}
 use Rattle.rdf_iri.specs.declared.steps.Move.TheVariants.{Here, Up, Into, Last}
-use Rattle.rdf_iri.specs.Steps.{IsMove, front_at, path_at}
-use Rattle.rdf_iri.specs.Dots.{parent}
 use Rattle.rdf_iri.proofs.StepsLemmas.{between-more}
 use Rattle.rdf_iri.proofs.WrittenOnward.{comes-first, comes-same, comes-here, comes-up, comes-into, comes-last, between-none, passes-boundary, directory-boundary}
 use Rattle.rdf_iri.proofs.steps.put_onward.Goals as goal

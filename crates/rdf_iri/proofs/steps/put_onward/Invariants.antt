@@ -1,5 +1,4 @@
-use Rattle.std.proofs.Common.{◌≤◌, ◌-◌, ◌++◌, length, drop, slice_range}
-use Rattle.std.specs.Str.{IsCharBoundary}
+use Rattle.rdf_iri.proofs.Prelude.{◌≤◌, ◌-◌, ◌++◌, length, drop, slice_range, IsCharBoundary}
 use Rattle.rdf_iri.proofs.WrittenOnward.{Comes}
 use Rattle.rdf_iri.proofs.steps.put_onward.Given as goal
 

@@ -1,5 +1,4 @@
-use Rattle.std.proofs.Common.{◌<◌, ◌+◌, ℕ, slice_index}
-use Rattle.rdf_iri.specs.Table.{Names, IsKeyAt}
+use Rattle.rdf_iri.proofs.Prelude.{◌<◌, ◌+◌, ℕ, slice_index, Names, IsKeyAt}
 use Rattle.rdf_iri.proofs.table.find.Given as goal
 
 -- no slot before this one names a place where the prefix stands

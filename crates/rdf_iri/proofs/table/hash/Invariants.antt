@@ -1,5 +1,4 @@
-use Rattle.std.proofs.Common.{◌≡◌, drop}
-use Rattle.rdf_iri.specs.Table.{hash_of}
+use Rattle.rdf_iri.proofs.Prelude.{◌≡◌, drop, hash_of}
 use Rattle.rdf_iri.proofs.table.hash.Given as goal
 
 -- the bytes that are left lead from this hash to that of all

@@ -1,5 +1,4 @@
-use Rattle.std.proofs.Common.{◌∙◌, ap, sym}
-use Rattle.std.specs.Prelude.{is_some}
+use Rattle.rdf_iri.proofs.Prelude.{◌∙◌, ap, sym, is_some}
 use Rattle.rdf_iri.proofs.ScopeLemmas.{bound_to-text}
 use Rattle.rdf_iri.proofs.table.is_among.Goals as goal
 

@@ -1,12 +1,5 @@
 -- A prefix comes next where few are bound, or where it has a slot and is not in the map.
-use Rattle.std.proofs.Common.{◌≡◌, ◌<◌, ◌∙◌, ◌++◌, ℕ, Bool, true, false, List, [], ◌∷◌, length, take, drop, Option, Some, None, MatchBool, refl, sym, ap, subst, arith}
-use Rattle.std.specs.Prelude.{String, is_some, ⊤}
-use Rattle.std.specs.Str.{chars}
-use Rattle.std.proofs.Math.Seq.{take-append_seam}
-use Rattle.std.proofs.lemmas.Bool.{false≢true}
-use Rattle.rdf_iri.specs.Scope.{bound_to}
-use Rattle.rdf_iri.specs.Prefixes.{entries_of}
-use Rattle.rdf_iri.specs.Table.{HasSlot, IsNext}
+use Rattle.rdf_iri.proofs.Prelude.{◌≡◌, ◌<◌, ◌∙◌, ◌++◌, ℕ, Bool, true, false, List, [], ◌∷◌, length, take, drop, Option, Some, None, MatchBool, refl, sym, ap, subst, arith, String, is_some, ⊤, chars, take-append_seam, false≢true, bound_to, entries_of, HasSlot, IsNext}
 use Rattle.rdf_iri.proofs.table.is_next.Goals as goal
 
 -- where none is in the map, the next is one of the first

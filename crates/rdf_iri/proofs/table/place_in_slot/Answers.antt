@@ -1,8 +1,4 @@
-use Rattle.std.proofs.Common.{◌<◌, ◌∙◌, ◌%◌, ℕ, [], get_or, ap, sym, length, arith}
-use Rattle.std.specs.String.{string_bytes}
-use Rattle.std.proofs.lemmas.Bool.{false≢true}
-use Rattle.std.proofs.lemmas.Slice.Eq.{bytes_eq-Decides}
-use Rattle.rdf_iri.specs.Table.{keys_of}
+use Rattle.rdf_iri.proofs.Prelude.{◌<◌, ◌∙◌, ◌%◌, ℕ, [], get_or, ap, sym, length, arith, string_bytes, false≢true, bytes_eq-Decides, keys_of}
 use Rattle.rdf_iri.proofs.TableLemmas.{key_read, Names-once}
 use Rattle.rdf_iri.proofs.table.place_in_slot.Goals as goal
 

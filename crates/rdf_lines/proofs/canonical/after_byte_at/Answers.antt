@@ -1,5 +1,4 @@
-use Rattle.std.proofs.Common.{◌≡◌, ◌<◌, length, get_or, subst, arith}
-use Rattle.std.proofs.lemmas.Str.{IsCharBoundary-after_ascii}
+use Rattle.rdf_lines.proofs.Prelude.{◌≡◌, ◌<◌, length, get_or, subst, arith, IsCharBoundary-after_ascii}
 use Rattle.rdf_lines.proofs.canonical.after_byte_at.Goals as goal
 
 pub range_from-requires : goal.range_from-requires

@@ -1,6 +1,4 @@
-use Rattle.std.proofs.Common.{◌≡◌, ◌++◌, sym, subst}
-use Rattle.std.specs.Prelude.{IfSome}
-use Rattle.rdf_lines.specs.Canonical.{end_text}
+use Rattle.rdf_lines.proofs.Prelude.{◌≡◌, ◌++◌, sym, subst, IfSome, end_text}
 use Rattle.rdf_lines.proofs.canonical.after_end.Goals as goal
 
 pub returns-in-Lf : goal.returns-in-Lf

@@ -1,6 +1,4 @@
-use Rattle.std.proofs.Common.{◌≡◌, ◌⊎◌, ◌∷◌, sym, ◌∙◌}
-use Rattle.std.proofs.lemmas.Bool.{false≢true}
-use Rattle.rdf_lines.specs.Fronts.{EscapeStands}
+use Rattle.rdf_lines.proofs.Prelude.{◌≡◌, ◌⊎◌, ◌∷◌, sym, ◌∙◌, false≢true, EscapeStands}
 use Rattle.rdf_lines.proofs.FrontsLemmas.{if_some, letter_stands}
 use Rattle.rdf_lines.proofs.canonical.after_letter.Goals.{in-34, in_default}
 use Rattle.rdf_lines.proofs.canonical.after_letter.Goals as goal

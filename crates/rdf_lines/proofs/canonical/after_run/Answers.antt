@@ -1,5 +1,4 @@
-use Rattle.std.proofs.Common.{◌∷◌, refl}
-use Rattle.rdf_lines.specs.Fronts.{CharactersStand, EscapeStands}
+use Rattle.rdf_lines.proofs.Prelude.{◌∷◌, refl, CharactersStand, EscapeStands}
 use Rattle.rdf_lines.proofs.FrontsLemmas.{if_some, run_then, escape_stands}
 use Rattle.rdf_lines.proofs.canonical.after_run.Goals as goal
 

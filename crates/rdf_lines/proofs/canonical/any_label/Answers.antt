@@ -1,5 +1,4 @@
-use Rattle.std.proofs.Common.{◌≡◌, ◌++◌, take, drop, ap, sym, ◌∙◌}
-use Rattle.std.proofs.lemmas.List.{take-append-drop}
+use Rattle.rdf_lines.proofs.Prelude.{◌≡◌, ◌++◌, take, drop, ap, sym, ◌∙◌, take-append-drop}
 use Rattle.rdf_lines.proofs.FrontsLemmas.{front_slice, label_stands}
 use Rattle.rdf_lines.proofs.canonical.any_label.Goals as goal
 

@@ -1,6 +1,4 @@
-use Rattle.std.proofs.Common.{◌≡◌, length, take, ap, ◌∙◌, subst}
-use Rattle.std.proofs.lemmas.List.{take-take}
-use Rattle.rdf_lines.specs.Fronts.{AreLines}
+use Rattle.rdf_lines.proofs.Prelude.{◌≡◌, length, take, ap, ◌∙◌, subst, take-take, AreLines}
 use Rattle.rdf_lines.proofs.canonical.canonical_front.Goals as goal
 
 pub returns-clause-lines : goal.returns-clause-lines

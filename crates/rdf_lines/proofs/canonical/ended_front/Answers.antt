@@ -1,5 +1,4 @@
-use Rattle.std.proofs.Common.{◌<◌, ◌+◌, length, sym, subst, arith}
-use Rattle.rdf_lines.specs.Fronts.{LinesStand}
+use Rattle.rdf_lines.proofs.Prelude.{◌<◌, ◌+◌, length, sym, subst, arith, LinesStand}
 use Rattle.rdf_lines.proofs.FrontsLemmas.{lines_more, lines_few, line_goes_on}
 use Rattle.rdf_lines.proofs.PassedLemmas.{rest_utf8}
 use Rattle.rdf_lines.proofs.canonical.ended_front.Goals as goal

@@ -1,5 +1,4 @@
-use Rattle.std.proofs.Common.{length}
-use Rattle.rdf_lines.specs.Fronts.{LinesStand}
+use Rattle.rdf_lines.proofs.Prelude.{length, LinesStand}
 use Rattle.rdf_lines.proofs.canonical.ended_front.Given as goal
 
 abbrev pub invariant-lines : goal.invariant-lines

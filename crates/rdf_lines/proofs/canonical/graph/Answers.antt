@@ -1,5 +1,4 @@
-use Rattle.std.proofs.Common.{sym, subst}
-use Rattle.rdf_lines.specs.Fronts.{GraphStands}
+use Rattle.rdf_lines.proofs.Prelude.{sym, subst, GraphStands}
 use Rattle.rdf_lines.proofs.FrontsLemmas.{one_graph}
 use Rattle.rdf_lines.proofs.canonical.graph.Goals as goal
 

@@ -1,9 +1,5 @@
-use Rattle.std.proofs.Common.{◌≡◌, ◌++◌, ◌∷◌, true, take, ap, sym, ◌∙◌, subst, arith}
-use Rattle.std.specs.Str.{chars, IsUtf8}
-use Rattle.rdf_terms.specs.Runs.{iri_byte, IsRun}
+use Rattle.rdf_lines.proofs.Prelude.{◌≡◌, ◌++◌, ◌∷◌, true, take, ap, sym, ◌∙◌, subst, arith, chars, IsUtf8, iri_byte, IsRun, iri_char, all_have, has_scheme}
 use Rattle.rdf_terms.specs.Classes.{has}
-use Rattle.rdf_terms.specs.Classes.Class.{iri_char}
-use Rattle.rdf_terms.specs.Terms.{all_have, has_scheme}
 use Rattle.rdf_lines.proofs.FrontsLemmas.{front_slice, iri_stands, iri_taken}
 use Rattle.rdf_lines.proofs.canonical.iri.Goals as goal
 

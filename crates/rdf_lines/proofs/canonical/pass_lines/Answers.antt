@@ -1,8 +1,4 @@
-use Rattle.std.proofs.Common.{◌≡◌, true, length, take, sym, ◌∙◌, subst, arith}
-use Rattle.rdf_driver.specs.Passing.{can_pass}
-use Rattle.rdf_driver.proofs.PassingLemmas.{can_pass-parts}
-use Rattle.rdf_lines.specs.Canonical.{PassesLines}
-use Rattle.rdf_lines.specs.Fronts.{AreLines}
+use Rattle.rdf_lines.proofs.Prelude.{◌≡◌, true, length, take, sym, ◌∙◌, subst, arith, can_pass, can_pass-parts, PassesLines, AreLines}
 use Rattle.rdf_lines.proofs.PassedLemmas.{at_reader, leads, passes, passes_none}
 use Rattle.rdf_lines.proofs.canonical.pass_lines.Goals as goal
 

@@ -1,5 +1,4 @@
-use Rattle.std.proofs.Common.{◌≢◌, get_or, subst, arith}
-use Rattle.rdf_terms.specs.Runs.{IsRun, is_name_byte}
+use Rattle.rdf_lines.proofs.Prelude.{◌≢◌, get_or, subst, arith, IsRun, is_name_byte}
 use Rattle.rdf_lines.proofs.PlainLabels.{plain_stands}
 use Rattle.rdf_lines.proofs.canonical.plain_label.Goals as goal
 

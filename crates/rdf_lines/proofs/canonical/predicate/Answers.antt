@@ -1,6 +1,4 @@
-use Rattle.std.proofs.Common.{◌≡◌, ◌∷◌}
-use Rattle.std.specs.Str.{chars}
-use Rattle.rdf_lines.specs.Fronts.{PredicateStands}
+use Rattle.rdf_lines.proofs.Prelude.{◌≡◌, ◌∷◌, chars, PredicateStands}
 use Rattle.rdf_lines.proofs.FrontsLemmas.{if_some, predicate_stands}
 use Rattle.rdf_lines.proofs.canonical.predicate.Goals as goal
 

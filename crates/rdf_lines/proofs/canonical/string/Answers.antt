@@ -1,8 +1,5 @@
-use Rattle.std.proofs.Common.{◌∷◌, subst}
-use Rattle.std.specs.Prelude.{flat_map}
-use Rattle.rdf_terms.specs.Runs.{is_short_byte, IsRun}
+use Rattle.rdf_lines.proofs.Prelude.{◌∷◌, subst, flat_map, is_short_byte, IsRun, escaped}
 use Rattle.rdf_lines.specs.declared.form.Escapes.TheVariants.{Plain}
-use Rattle.rdf_lines.specs.Writing.{escaped}
 use Rattle.rdf_lines.proofs.FrontsLemmas.{characters_then, no_characters, run_then}
 use Rattle.rdf_lines.proofs.PassedLemmas.{past_text}
 use Rattle.rdf_lines.proofs.canonical.string.Goals as goal

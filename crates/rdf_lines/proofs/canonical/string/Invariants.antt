@@ -1,5 +1,4 @@
-use Rattle.std.proofs.Common.{length}
-use Rattle.rdf_lines.specs.Fronts.{CharactersStand}
+use Rattle.rdf_lines.proofs.Prelude.{length, CharactersStand}
 use Rattle.rdf_lines.proofs.canonical.string.Given as goal
 
 abbrev pub invariant-runs : goal.invariant-runs

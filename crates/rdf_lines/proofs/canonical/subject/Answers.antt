@@ -1,6 +1,4 @@
-use Rattle.std.proofs.Common.{◌≡◌, ◌∷◌}
-use Rattle.std.specs.Str.{chars}
-use Rattle.rdf_lines.specs.Fronts.{SubjectStands}
+use Rattle.rdf_lines.proofs.Prelude.{◌≡◌, ◌∷◌, chars, SubjectStands}
 use Rattle.rdf_lines.proofs.FrontsLemmas.{if_some, iri_subject, label_subject}
 use Rattle.rdf_lines.proofs.canonical.subject.Goals as goal
 

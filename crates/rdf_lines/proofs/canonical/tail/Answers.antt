@@ -1,4 +1,4 @@
-use Rattle.std.proofs.Common.{sym, ◌∙◌, arith}
+use Rattle.rdf_lines.proofs.Prelude.{sym, ◌∙◌, arith}
 use Rattle.rdf_lines.proofs.FrontsLemmas.{plain_tail, tagged_tail, typed_tail}
 use Rattle.rdf_lines.proofs.canonical.tail.Goals as goal
 

@@ -1,4 +1,4 @@
-use Rattle.std.proofs.Common.{arith}
+use Rattle.rdf_lines.proofs.Prelude.{arith}
 use Rattle.rdf_lines.proofs.EscapedParts.{escape_clear}
 use Rattle.rdf_lines.proofs.escaped.clear_front.Goals as goal
 

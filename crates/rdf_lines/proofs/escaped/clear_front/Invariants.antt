@@ -1,5 +1,4 @@
-use Rattle.std.proofs.Common.{◌≡◌, length, take, ◌-◌, ◌≤◌, true, false}
-use Rattle.rdf_lines.specs.Escaped.{is_clear}
+use Rattle.rdf_lines.proofs.Prelude.{◌≡◌, length, take, ◌-◌, ◌≤◌, true, false, is_clear}
 use Rattle.rdf_lines.proofs.escaped.clear_front.Given as goal
 
 abbrev pub invariant-loop-at : goal.invariant-loop-at

@@ -1,4 +1,4 @@
-use Rattle.std.proofs.Common.{◌≡◌, ◌++◌, ◌∷◌, take, ap, sym, ◌∙◌, arith}
+use Rattle.rdf_lines.proofs.Prelude.{◌≡◌, ◌++◌, ◌∷◌, take, ap, sym, ◌∙◌, arith}
 use Rattle.rdf_lines.proofs.EscapedParts.{escaped_spelled}
 use Rattle.rdf_lines.proofs.FrontsLemmas.{front_slice}
 use Rattle.rdf_lines.proofs.escaped.escaped_iri.Goals as goal

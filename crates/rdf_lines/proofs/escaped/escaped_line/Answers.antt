@@ -1,6 +1,4 @@
-use Rattle.std.proofs.Common.{refl, sym, subst}
-use Rattle.std.specs.Str.{chars}
-use Rattle.rdf_lines.specs.Escaped.{IriSpelled}
+use Rattle.rdf_lines.proofs.Prelude.{refl, sym, subst, chars, IriSpelled}
 use Rattle.rdf_lines.proofs.escaped.escaped_line.Goals as goal
 
 pub returns-clause-spelled : goal.returns-clause-spelled

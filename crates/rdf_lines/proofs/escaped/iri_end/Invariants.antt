@@ -1,4 +1,4 @@
-use Rattle.std.proofs.Common.{length, ◌-◌, ◌≤◌}
+use Rattle.rdf_lines.proofs.Prelude.{length, ◌-◌, ◌≤◌}
 use Rattle.rdf_lines.proofs.escaped.iri_end.Given as goal
 
 abbrev pub invariant-loop-at : goal.invariant-loop-at

@@ -1,5 +1,4 @@
-use Rattle.std.proofs.Common.{◌≡◌, ◌+◌, take, refl, subst, arith}
-use Rattle.rdf_lines.specs.Escaped.{PassesInto}
+use Rattle.rdf_lines.proofs.Prelude.{◌≡◌, ◌+◌, take, refl, subst, arith, PassesInto}
 use Rattle.rdf_lines.proofs.EscapedPassing.{passes_nothing, passes_on, rest_within}
 use Rattle.rdf_lines.proofs.escaped.pass_escaped.Goals as goal
 

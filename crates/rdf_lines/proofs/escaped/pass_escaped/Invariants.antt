@@ -1,5 +1,4 @@
-use Rattle.std.proofs.Common.{length, take, ◌-◌, ◌≤◌}
-use Rattle.rdf_lines.specs.Escaped.{PassesInto}
+use Rattle.rdf_lines.proofs.Prelude.{length, take, ◌-◌, ◌≤◌, PassesInto}
 use Rattle.rdf_lines.proofs.escaped.pass_escaped.Given as goal
 
 abbrev pub invariant-lines : goal.invariant-lines

@@ -1,5 +1,4 @@
-use Rattle.std.proofs.Common.{◌≡◌, ◌++◌, ◌∷◌, true, false, take, ap, sym, ◌∙◌, subst}
-use Rattle.rdf_lines.specs.Escaped.{is_clear}
+use Rattle.rdf_lines.proofs.Prelude.{◌≡◌, ◌++◌, ◌∷◌, true, false, take, ap, sym, ◌∙◌, subst, is_clear}
 use Rattle.rdf_lines.proofs.EscapedParts.{string_spelled}
 use Rattle.rdf_lines.proofs.FrontsLemmas.{front_slice}
 use Rattle.rdf_lines.proofs.escaped.string.Goals as goal

@@ -1,8 +1,5 @@
-use Rattle.std.proofs.Common.{◌∷◌, inl, inr, refl, sym, ap, ◌∙◌, subst, arith}
-use Rattle.std.specs.Str.{chars}
+use Rattle.rdf_lines.proofs.Prelude.{◌∷◌, inl, inr, refl, sym, ap, ◌∙◌, subst, arith, chars, Lang, Typed, TailSpelled}
 use Rattle.rdf_terms.specs.Known.{known_chars}
-use Rattle.rdf_terms.specs.Terms.{Lang, Typed}
-use Rattle.rdf_lines.specs.Escaped.{TailSpelled}
 use Rattle.rdf_lines.proofs.EscapedParts.{plain_spelled}
 use Rattle.rdf_lines.proofs.escaped.tail.Goals as goal
 

@@ -1,5 +1,5 @@
 -- The loop over a word: the text is one exactly where what is left is one.
-use Rattle.std.proofs.Common.{refl}
+use Rattle.rdf_lines.proofs.Prelude.{refl}
 use Rattle.rdf_terms.proofs.CharsLemmas.{next_char, no_chars}
 use Rattle.rdf_lines.proofs.prefix.is_word.Goals as goal
 

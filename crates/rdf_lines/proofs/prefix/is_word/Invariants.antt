@@ -1,8 +1,5 @@
-use Rattle.std.proofs.Common.{◌≡◌}
-use Rattle.std.specs.Str.{chars, IsUtf8}
+use Rattle.rdf_lines.proofs.Prelude.{◌≡◌, chars, IsUtf8, all_have, is_word_char}
 use Rattle.std.specs.Str.Iter.{chars_rest}
-use Rattle.rdf_terms.specs.Terms.{all_have}
-use Rattle.rdf_lines.specs.NodePrefixes.{is_word_char}
 use Rattle.rdf_lines.proofs.prefix.is_word.Given as goal
 
 abbrev pub invariant-loop-c : goal.invariant-loop-c

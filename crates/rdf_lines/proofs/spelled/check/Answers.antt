@@ -1,4 +1,4 @@
-use Rattle.std.proofs.Common.{sym, ◌∙◌, arith}
+use Rattle.rdf_lines.proofs.Prelude.{sym, ◌∙◌, arith}
 use Rattle.rdf_iri.proofs.ResolvedText.{byte_len-chars}
 use Rattle.rdf_lines.proofs.SpelledLemmas.{short_taken, long_refused}
 use Rattle.rdf_lines.proofs.spelled.check.Goals as goal

@@ -1,9 +1,5 @@
-use Rattle.std.proofs.Common.{subst, sym}
-use Rattle.std.specs.Str.{chars}
-use Rattle.rdf_terms.specs.Terms.{IsTag}
+use Rattle.rdf_lines.proofs.Prelude.{subst, sym, chars, IsTag, Lines, tag_in}
 use Rattle.rdf_lines.proofs.HeldLemmas.{rest_bytes}
-use Rattle.rdf_terms.specs.declared.kind.Dialect.TheVariants.{Lines}
-use Rattle.rdf_terms.proofs.SpelledLemmas.{tag_in}
 use Rattle.rdf_lines.proofs.spelled.tag_of.Goals as goal
 
 pub returns-clause-is_tag : goal.returns-clause-is_tag

@@ -1,8 +1,4 @@
-use Rattle.std.proofs.Common.{sym, ◌∙◌}
-use Rattle.std.specs.Prelude.{string_bytes}
-use Rattle.std.proofs.lemmas.Str.{chars_from_encodes, IsUtf8-string_bytes}
-use Rattle.rdf_terms.specs.Views.{node_of}
-use Rattle.rdf_lines.specs.Writing.{node_text, rename_node}
+use Rattle.rdf_lines.proofs.Prelude.{sym, ◌∙◌, string_bytes, chars_from_encodes, IsUtf8-string_bytes, node_of, node_text, rename_node}
 use Rattle.rdf_lines.proofs.EncodedLine.{encoded_name}
 use Rattle.rdf_lines.proofs.writer.label_text.Goals as goal
 

@@ -1,7 +1,4 @@
-use Rattle.std.proofs.Common.{subst}
-use Rattle.std.specs.Prelude.{IfSome}
-use Rattle.rdf_lines.specs.Forms.{form_of}
-use Rattle.rdf_lines.specs.Placing.{WrittenAt}
+use Rattle.rdf_lines.proofs.Prelude.{subst, IfSome, form_of, WrittenAt}
 use Rattle.rdf_lines.proofs.PlacedLines.{plain_iris_bytes}
 use Rattle.rdf_lines.proofs.writer.put_short_iris.Goals as goal
 

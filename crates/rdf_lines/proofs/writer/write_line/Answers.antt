@@ -1,10 +1,7 @@
-use Rattle.std.proofs.Common.{◌↔◌, ◌++◌, ap, subst, ◌∙◌}
-use Rattle.std.specs.Prelude.{encode_utf8_all}
+use Rattle.rdf_lines.proofs.Prelude.{◌↔◌, ◌++◌, ap, subst, ◌∙◌, encode_utf8_all, line_in, CanWrite}
 use Rattle.std.specs.Result.{IsErrOf}
 use Rattle.rdf_terms.specs.Views.{quad_of}
 use Rattle.rdf_lines.specs.declared.writer.LabelFault.{LabelFault}
-use Rattle.rdf_lines.specs.NodePrefixes.{line_in}
-use Rattle.rdf_lines.specs.Writing.{CanWrite}
 use Rattle.rdf_lines.proofs.NodePrefixLemmas.{line_unprefixed}
 use Rattle.rdf_lines.proofs.WrittenBytesLemmas.{on_ok}
 use Rattle.rdf_lines.proofs.writer.write_line.Goals as goal

@@ -1,14 +1,7 @@
 -- A check of either kind of format, from what its run has done to what the caller is reported.
-use Rattle.std.proofs.Common.{rules, refl, IfSome}
+use Rattle.rdf_stream.proofs.Prelude.{rules, refl, IfSome, line_words, tree_words, CheckStops, IsAccepted, BeginsToRead, reading, HandsOut, TellsNear, told}
 use Rattle.rdf_lines.proofs.AcceptingLemmas.{lawful as lines_lawful}
 use Rattle.rdf_trig.proofs.code.LawfulGrammar.{lawful as trees_lawful}
-use Rattle.rdf_lines.specs.Accepting.{line_words}
-use Rattle.rdf_trig.specs.Accepting.{tree_words}
-use Rattle.rdf_stream.specs.Checks.{CheckStops, IsAccepted}
-use Rattle.rdf_stream.specs.CheckRuns.{BeginsToRead}
-use Rattle.rdf_stream.specs.Devices.{reading}
-use Rattle.rdf_stream.specs.Places.{HandsOut, TellsNear}
-use Rattle.rdf_stream.specs.Told.{told}
 use Rattle.rdf_stream.proofs.ConvertsLemmas.{lines_job, trees_job}
 use Rattle.rdf_stream.proofs.ExpectedLemmas.{expects_err, expects_none, lines_expect, trees_expect}
 use Rattle.rdf_stream.proofs.PiecesLemmas.{if_err, if_ok}

@@ -1,8 +1,5 @@
 -- A check over the pieces of a source: it begins with nothing read, and each outcome is that of the pieces.
-use Rattle.std.proofs.Common.{◌≡◌, ◌∙◌, true, refl, ap}
-use Rattle.rdf_stream.specs.CheckRuns.{BeginsToRead}
-use Rattle.rdf_stream.specs.Devices.{reading}
-use Rattle.rdf_stream.specs.Faults.{IsRefusal}
+use Rattle.rdf_stream.proofs.Prelude.{◌≡◌, ◌∙◌, true, refl, ap, BeginsToRead, reading, IsRefusal}
 use Rattle.rdf_stream.proofs.ChecksLemmas.{Halted, Taken, begins, checked, refused_document, stopped}
 use Rattle.rdf_stream.proofs.ExpectedLemmas.{none_expected, run_expects}
 use Rattle.rdf_stream.proofs.PiecesLemmas.{if_err, if_ok, none_given, on_ok, reported_stops}

@@ -1,13 +1,5 @@
 -- A conversion of either kind of format, from what its run has done to what the caller is reported.
-use Rattle.std.proofs.Common.{rules, ap, ◌∙◌, IfSome}
-use Rattle.rdf_lines.specs.declared.form.Style.TheVariants.{Tagged}
-use Rattle.rdf_lines.specs.Accepting.{line_words}
-use Rattle.rdf_trig.specs.Accepting.{tree_words}
-use Rattle.rdf_stream.specs.Converting.{Starts}
-use Rattle.rdf_stream.specs.Converts.{Accepts, IsPrompt, StopsFor}
-use Rattle.rdf_stream.specs.Outputs.{of_quads, output}
-use Rattle.rdf_stream.specs.Places.{HandsOut, TellsNear}
-use Rattle.rdf_stream.specs.Told.{told}
+use Rattle.rdf_stream.proofs.Prelude.{rules, ap, ◌∙◌, IfSome, Tagged, line_words, tree_words, Starts, Accepts, IsPrompt, StopsFor, of_quads, output, HandsOut, TellsNear, told}
 use Rattle.rdf_stream.proofs.ConvertsLemmas.{lines_job, trees_job}
 use Rattle.rdf_stream.proofs.DocumentLemmas.{lines_convertible, trees_convertible}
 use Rattle.rdf_stream.proofs.ExpectedLemmas.{expects_err, expects_none, lines_expect, trees_expect}

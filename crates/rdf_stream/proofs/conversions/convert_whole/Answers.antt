@@ -1,5 +1,4 @@
-use Rattle.std.proofs.Common.{rules, ap, ◌∙◌}
-use Rattle.rdf_stream.specs.Outputs.{of_quads, output_of}
+use Rattle.rdf_stream.proofs.Prelude.{rules, ap, ◌∙◌, of_quads, output_of}
 use Rattle.rdf_stream.proofs.ConvertsLemmas.{Stood, begins, begun_fresh, converted, over_empty, stopped}
 use Rattle.rdf_stream.proofs.PiecesLemmas.{if_err, if_ok}
 use Rattle.rdf_stream.proofs.ConvertingLemmas.{quad_lines}

@@ -1,9 +1,5 @@
 -- A run over the pieces of a source: it begins with nothing read, and each outcome is that of the pieces.
-use Rattle.std.proofs.Common.{rules, ◌≡◌, ◌∙◌, [], true, refl, ap}
-use Rattle.rdf_stream.specs.Converting.{Starts}
-use Rattle.rdf_stream.specs.Faults.{IsRefusal}
-use Rattle.rdf_stream.specs.Outputs.{conversion, of_quads, output_of}
-use Rattle.rdf_stream.specs.Told.{told}
+use Rattle.rdf_stream.proofs.Prelude.{rules, ◌≡◌, ◌∙◌, [], true, refl, ap, Starts, IsRefusal, conversion, of_quads, output_of, told}
 use Rattle.rdf_stream.proofs.ConvertsLemmas.{Halted, Stood, Taken, begins, begun_fresh, by_drains, converted, none_due, none_prompt, none_stops, over_empty, prompt, refused_document, sent_on, stopped}
 use Rattle.rdf_stream.proofs.ExpectedLemmas.{none_expected, run_expects}
 use Rattle.rdf_stream.proofs.GrowthLemmas.{grows_none}

@@ -1,7 +1,5 @@
 -- Those that are left pass exactly where all do.
-use Rattle.std.proofs.Common.{◌≡◌, drop}
-use Rattle.std.specs.List.{list_all}
-use Rattle.rdf_stream.specs.Explains.{is_graphic}
+use Rattle.rdf_stream.proofs.Prelude.{◌≡◌, drop, list_all, is_graphic}
 use Rattle.rdf_stream.proofs.explains.are_graphic.Given as goal
 
 abbrev pub invariant-loop-byte : goal.invariant-loop-byte

@@ -1,6 +1,4 @@
-use Rattle.std.proofs.Common.{◌≡◌, ◌≤◌, ◌+◌, drop, length}
-use Rattle.rdf_stream.specs.Explains.{only_said}
-use Rattle.rdf_stream.specs.ExplainTexts.{texts_of}
+use Rattle.rdf_stream.proofs.Prelude.{◌≡◌, ◌≤◌, ◌+◌, drop, length, only_said, texts_of}
 use Rattle.rdf_stream.proofs.explains.count_said.Given as goal
 
 abbrev pub invariant-loop-word : goal.invariant-loop-word

@@ -1,6 +1,4 @@
-use Rattle.std.proofs.Common.{◌≡◌, ◌∙◌, ◌++◌, OnOk, ap, codes, length, subst, sym}
-use Rattle.rdf_stream.specs.Explains.{listed, only_said, words_for}
-use Rattle.rdf_stream.specs.ExplainTexts.{texts_of}
+use Rattle.rdf_stream.proofs.Prelude.{◌≡◌, ◌∙◌, ◌++◌, OnOk, ap, codes, length, subst, sym, listed, only_said, words_for, texts_of}
 use Rattle.rdf_stream.proofs.ExplainsLemmas.{none_told, some_told}
 use Rattle.rdf_stream.proofs.explains.put_expected.Goals as goal
 

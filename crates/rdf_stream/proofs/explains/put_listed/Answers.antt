@@ -1,8 +1,5 @@
 -- A word that is said stands at the end of the line, with what stands after it.
-use Rattle.std.proofs.Common.{◌≡◌, ◌∙◌, ◌++◌, ◌+◌, ◌-◌, ◌∷◌, ap, ap₂, arith, drop, length, sym}
-use Rattle.std.proofs.lemmas.List.{drop_more}
-use Rattle.rdf_stream.specs.Explains.{between, listed, only_said}
-use Rattle.rdf_stream.specs.ExplainTexts.{texts_of}
+use Rattle.rdf_stream.proofs.Prelude.{◌≡◌, ◌∙◌, ◌++◌, ◌+◌, ◌-◌, ◌∷◌, ap, ap₂, arith, drop, length, sym, drop_more, between, listed, only_said, texts_of}
 use Rattle.rdf_stream.proofs.ExplainsLemmas.{put_one}
 use Rattle.rdf_stream.proofs.explains.put_listed.Goals.{in-Some+in_ok-extend_from_slice+in_ok-extend_from_slice-2, in_default}
 use Rattle.rdf_stream.proofs.explains.put_listed.Goals as goal

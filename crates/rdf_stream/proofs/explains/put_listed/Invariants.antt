@@ -1,7 +1,5 @@
 -- With the words that are left the line has all.
-use Rattle.std.proofs.Common.{◌≡◌, ◌++◌, drop, length}
-use Rattle.rdf_stream.specs.Explains.{listed, only_said}
-use Rattle.rdf_stream.specs.ExplainTexts.{texts_of}
+use Rattle.rdf_stream.proofs.Prelude.{◌≡◌, ◌++◌, drop, length, listed, only_said, texts_of}
 use Rattle.rdf_stream.proofs.explains.put_listed.Given as goal
 
 abbrev pub invariant-loop-word : goal.invariant-loop-word

@@ -1,6 +1,5 @@
 -- Each row is the word that was asked for.
-use Rattle.std.proofs.Common.{◌∙◌, ◌∷◌, ap₂, refl}
-use Rattle.rdf_stream.specs.Explains.{said}
+use Rattle.rdf_stream.proofs.Prelude.{◌∙◌, ◌∷◌, ap₂, refl, said}
 use Rattle.rdf_stream.proofs.explains.words_for.Goals as goal
 
 pub returns : goal.returns

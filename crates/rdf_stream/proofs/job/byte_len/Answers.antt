@@ -1,4 +1,4 @@
-use Rattle.std.proofs.Common.{ap, sym, ◌∙◌}
+use Rattle.rdf_stream.proofs.Prelude.{ap, sym, ◌∙◌}
 use Rattle.rdf_iri.specs.Texts.{byte_len}
 use Rattle.rdf_iri.proofs.ResolvedText.{byte_len-chars}
 use Rattle.rdf_stream.proofs.job.byte_len.Goals as goal

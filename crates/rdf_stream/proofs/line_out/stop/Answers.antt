@@ -1,4 +1,4 @@
-use Rattle.std.proofs.Common.{inr, rules, sym, ◌∙◌}
+use Rattle.rdf_stream.proofs.Prelude.{inr, rules, sym, ◌∙◌}
 use Rattle.rdf_stream.proofs.LineOutLemmas.{sent_any}
 use Rattle.rdf_stream.proofs.line_out.stop.Goals as goal
 

@@ -1,6 +1,4 @@
-use Rattle.std.proofs.Common.{rules, arith, length-take, length}
-use Rattle.std.proofs.KnownBytes.{Consumes-nil}
-use Rattle.rdf_stream.specs.Devices.{reading}
+use Rattle.rdf_stream.proofs.Prelude.{rules, arith, length-take, length, Consumes-nil, reading}
 use Rattle.rdf_stream.proofs.PiecesLemmas.{no_more}
 use Rattle.rdf_stream.proofs.LoadsLemmas.{giving_given, gives_all, gives_more, source_failed, reported_fault}
 use Rattle.rdf_stream.proofs.loads.read_all.Goals as goal

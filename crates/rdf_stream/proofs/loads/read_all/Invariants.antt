@@ -1,6 +1,5 @@
 -- What left the source was kept.
-use Rattle.std.proofs.Common.{◌-◌, ◌^◌, length}
-use Rattle.rdf_stream.specs.Devices.{reading}
+use Rattle.rdf_stream.proofs.Prelude.{◌-◌, ◌^◌, length, reading}
 use Rattle.rdf_stream.proofs.LoadsLemmas.{IsGiving}
 use Rattle.rdf_stream.proofs.loads.read_all.Given as goal
 

@@ -1,5 +1,4 @@
-use Rattle.std.proofs.Common.{◌++◌, ◌∙◌, ap}
-use Rattle.std.proofs.lemmas.Result.{on_ok_weaker}
+use Rattle.rdf_stream.proofs.Prelude.{◌++◌, ◌∙◌, ap, on_ok_weaker}
 use Rattle.rdf_stream.proofs.PutLemmas.{then_put}
 use Rattle.rdf_stream.proofs.messages.put_refusal.Goals as goal
 

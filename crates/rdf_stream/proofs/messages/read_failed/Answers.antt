@@ -1,4 +1,4 @@
-use Rattle.std.proofs.Common.{refl}
+use Rattle.rdf_stream.proofs.Prelude.{refl}
 use Rattle.rdf_stream.proofs.messages.read_failed.Goals as goal
 
 pub returns : goal.returns

@@ -1,6 +1,5 @@
-use Rattle.std.proofs.Common.{◌≡◌, ◌-◌, ap, arith, subst, sym, take, ◌∙◌}
+use Rattle.rdf_stream.proofs.Prelude.{◌≡◌, ◌-◌, ap, arith, subst, sym, take, ◌∙◌, IsAsciiText}
 use Rattle.rdf_terms.specs.Runs.{IsRun, is_ascii_byte}
-use Rattle.rdf_stream.specs.Parts.{IsAsciiText}
 use Rattle.rdf_stream.proofs.PartsLemmas.{ascii_cut, low_run}
 use Rattle.rdf_stream.proofs.parts.ascii_front.Goals as goal
 

@@ -1,5 +1,5 @@
 -- In each turn lines that stand as they are written are passed, and then lines with any escapes.
-use Rattle.std.proofs.Common.{◌+◌}
+use Rattle.rdf_stream.proofs.Prelude.{◌+◌}
 use Rattle.rdf_stream.proofs.PartsLemmas.{begun_on, halts_at, passes_on}
 use Rattle.rdf_stream.proofs.parts.pass_some.Goals as goal
 

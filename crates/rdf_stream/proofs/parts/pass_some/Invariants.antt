@@ -1,5 +1,5 @@
 -- The text before the place was passed.
-use Rattle.std.proofs.Common.{length, ◌-◌}
+use Rattle.rdf_stream.proofs.Prelude.{length, ◌-◌}
 use Rattle.rdf_stream.proofs.PartsLemmas.{HasPassed}
 use Rattle.rdf_stream.proofs.parts.pass_some.Given as goal
 

@@ -1,4 +1,4 @@
-use Rattle.std.proofs.Common.{refl}
+use Rattle.rdf_stream.proofs.Prelude.{refl}
 use Rattle.rdf_stream.proofs.PartsLemmas.{begun_on, halts_in}
 use Rattle.rdf_stream.proofs.parts.take_parts.Goals as goal
 

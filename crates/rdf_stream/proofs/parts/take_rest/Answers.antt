@@ -1,7 +1,5 @@
 -- Lines are passed where they can be, and the next part is read, up to the end.
-use Rattle.std.proofs.Common.{◌≡◌, ◌+◌, ◌-◌, length, take, drop, refl, sym, ap, ◌∙◌, arith}
-use Rattle.std.proofs.Math.Seq.{take-length}
-use Rattle.std.proofs.lemmas.List.{length-drop}
+use Rattle.rdf_stream.proofs.Prelude.{◌≡◌, ◌+◌, ◌-◌, length, take, drop, refl, sym, ap, ◌∙◌, arith, take-length, length-drop}
 use Rattle.rdf_stream.proofs.PartsLemmas.{begun_on, front_at, front_within, halts_from, pass_later, takes_to}
 use Rattle.rdf_stream.proofs.parts.take_rest.Goals as goal
 

@@ -1,9 +1,7 @@
 -- The bytes before the place were taken, and what is left of the text may be passed.
-use Rattle.std.proofs.Common.{length, ◌-◌}
+use Rattle.rdf_stream.proofs.Prelude.{length, ◌-◌, MayPass, StaysOn}
 use denote.Text.{Utf8}
 use denote.Shadow.{shadow}
-use Rattle.rdf_stream.specs.Parts.{MayPass}
-use Rattle.rdf_stream.specs.Pieces.{StaysOn}
 use Rattle.rdf_stream.proofs.PartsLemmas.{HasTaken}
 use Rattle.rdf_stream.proofs.parts.take_rest.Given as goal
 

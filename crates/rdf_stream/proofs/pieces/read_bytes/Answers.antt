@@ -1,4 +1,4 @@
-use Rattle.std.proofs.Common.{[], false, true}
+use Rattle.rdf_stream.proofs.Prelude.{[], false, true}
 use Rattle.rdf_stream.proofs.PiecesLemmas.{if_err, whole_stops}
 use Rattle.rdf_stream.proofs.pieces.read_bytes.Goals as goal
 

@@ -1,9 +1,6 @@
 -- The loop over the pieces of a source: the bytes so far were taken, and it ends where the source does or an error stops it.
-use Rattle.std.proofs.Common.{◌≤◌, ◌∙◌, [], refl, rules, subst, arith, length, length-take, take, IfSome, Ok, Err}
-use Rattle.std.proofs.KnownBytes.{Consumes-kept, Consumes-nil}
+use Rattle.rdf_stream.proofs.Prelude.{◌≤◌, ◌∙◌, [], refl, rules, subst, arith, length, length-take, take, IfSome, Ok, Err, Consumes-kept, Consumes-nil, reading, TellsNear}
 use Rattle.rdf_stream.proofs.PiecesLemmas.{before_piece, end_read, end_stops, no_more, on_piece, piece_stops, read_stops}
-use Rattle.rdf_stream.specs.Devices.{reading}
-use Rattle.rdf_stream.specs.Places.{TellsNear}
 use Rattle.rdf_stream.proofs.WatchLemmas.{follows_more, tells_at_end, tells_in_piece}
 use Rattle.rdf_stream.proofs.pieces.read_pieces.Goals as goal
 

@@ -1,8 +1,6 @@
 -- What left the source was taken.
-use Rattle.std.proofs.Common.{◌-◌, ◌^◌, ◌≡◌, length}
-use Rattle.std.specs.Prelude.{None}
+use Rattle.rdf_stream.proofs.Prelude.{◌-◌, ◌^◌, ◌≡◌, length, None, reading}
 use Rattle.rdf_stream.specs.Watches.{Follows}
-use Rattle.rdf_stream.specs.Devices.{reading}
 use Rattle.rdf_stream.proofs.PiecesLemmas.{IsReading}
 use Rattle.rdf_stream.proofs.pieces.read_pieces.Given as goal
 

@@ -1,6 +1,4 @@
-use Rattle.std.proofs.Common.{rules, ◌++◌, take}
-use Rattle.std.proofs.KnownBytes.{Appends-trans}
-use Rattle.std.proofs.lemmas.List.{append_assoc, take_rest, take-append-drop}
+use Rattle.rdf_stream.proofs.Prelude.{rules, ◌++◌, take, Appends-trans, append_assoc, take_rest, take-append-drop}
 use Rattle.rdf_stream.proofs.put.put_all.Goals as goal
 
 pub loop-rest-preserved : goal.loop-rest-preserved

@@ -1,6 +1,5 @@
 -- What was put is the front that is no longer in the rest.
-use Rattle.std.proofs.Common.{◌≡◌, ℕ, List, length, false, ◌++◌}
-use Rattle.std.specs.Io.KnownBytes.{Appends}
+use Rattle.rdf_stream.proofs.Prelude.{◌≡◌, ℕ, List, length, false, ◌++◌, Appends}
 use Rattle.rdf_stream.proofs.put.put_all.Given as goal
 
 abbrev pub invariant-loop-rest : goal.invariant-loop-rest

@@ -1,11 +1,6 @@
 -- A run over the pieces of a source: it begins with nothing read, and each outcome is that of the pieces.
-use Rattle.std.proofs.Common.{rules, ◌≡◌, ◌∙◌, true, refl, ap, []}
+use Rattle.rdf_stream.proofs.Prelude.{rules, ◌≡◌, ◌∙◌, true, refl, ap, [], IsRefusal, output_of, dialect_of, showing_of, of_tokens, token_words, told}
 use Rattle.rdf_lines.specs.declared.form.Style.TheVariants.{Kept}
-use Rattle.rdf_stream.specs.Faults.{IsRefusal}
-use Rattle.rdf_stream.specs.Outputs.{output_of}
-use Rattle.rdf_stream.specs.Shows.{dialect_of, showing_of}
-use Rattle.rdf_stream.specs.TokenWords.{of_tokens, token_words}
-use Rattle.rdf_stream.specs.Told.{told}
 use Rattle.rdf_stream.proofs.ConvertsLemmas.{begins, begun_fresh, by_drains, none_prompt, none_stops, over_empty, prompt, refused_document, sent_on, stopped}
 use Rattle.rdf_stream.proofs.GrowthLemmas.{grows_none}
 use Rattle.rdf_stream.proofs.ShowsLemmas.{shown, shows_prompt, shows_stops, starts_tokens, token_writer}

@@ -1,8 +1,4 @@
-use Rattle.std.proofs.Common.{◌≡◌, ◌+◌, ◌++◌, ◌<◌, true, suc, length, take, drop, ap, subst, ◌∙◌, arith}
-use Rattle.std.specs.Prelude.{slice_index}
-use Rattle.std.proofs.lemmas.List.{length-drop}
-use Rattle.rdf_tokens.specs.Tokens.{is_line_end}
-use Rattle.rdf_lines.specs.SplitLines.{split_lines}
+use Rattle.rdf_stream.proofs.Prelude.{◌≡◌, ◌+◌, ◌++◌, ◌<◌, true, suc, length, take, drop, ap, subst, ◌∙◌, arith, slice_index, length-drop, is_line_end, split_lines}
 use Rattle.rdf_stream.proofs.LineCuts.{split_after, split_all}
 use Rattle.rdf_stream.proofs.WithoutCrsLemmas.{slice_rest}
 use Rattle.rdf_stream.proofs.sieve.group_len.Goals as goal

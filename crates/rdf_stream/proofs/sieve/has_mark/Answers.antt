@@ -1,5 +1,4 @@
-use Rattle.std.proofs.Common.{ap, sym, ◌∙◌, length, nat_eq, slice_index_or, arith}
-use Rattle.std.proofs.lemmas.Bool.{false≢true}
+use Rattle.rdf_stream.proofs.Prelude.{ap, sym, ◌∙◌, length, nat_eq, slice_index_or, arith, false≢true}
 use Rattle.rdf_stream.proofs.SieveLemmas.{no_mark}
 use Rattle.rdf_stream.proofs.sieve.has_mark.Goals as goal
 use Rattle.rdf_stream.proofs.sieve.has_mark.Goals.{then-bytes, else-bytes}

@@ -1,10 +1,4 @@
-use Rattle.std.proofs.Common.{◌≡◌, false, ◌+◌, ◌∷◌, ◌<◌, ℕ, List, [], inr, suc, length, take, drop, sym, ap, subst, ◌∙◌, arith}
-use Rattle.std.specs.Prelude.{slice_index}
-use Rattle.std.proofs.lemmas.Bool.{false_from_ne_true}
-use Rattle.std.proofs.lemmas.List.{take_all, drop_all}
-use Rattle.rdf_tokens.specs.Tokens.{is_line_end}
-use Rattle.rdf_lines.specs.SplitLines.{split_lines}
-use Rattle.rdf_stream.specs.Sieves.{IsEndedFront}
+use Rattle.rdf_stream.proofs.Prelude.{◌≡◌, false, ◌+◌, ◌∷◌, ◌<◌, ℕ, List, [], inr, suc, length, take, drop, sym, ap, subst, ◌∙◌, arith, slice_index, false_from_ne_true, take_all, drop_all, is_line_end, split_lines, IsEndedFront}
 use Rattle.rdf_stream.proofs.LineCuts.{first_line, front_ended, only_line}
 use Rattle.rdf_stream.proofs.sieve.line_len.Goals as goal
 

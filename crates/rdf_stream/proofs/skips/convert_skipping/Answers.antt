@@ -1,8 +1,5 @@
 -- A run over the pieces of a source, and what it means for the job.
-use Rattle.std.proofs.Common.{rules, ◌∙◌, ap}
-use Rattle.rdf_stream.specs.Outputs.{output_of}
-use Rattle.rdf_stream.specs.Skips.{SkipStops, SkipsAll}
-use Rattle.rdf_stream.specs.Told.{told}
+use Rattle.rdf_stream.proofs.Prelude.{rules, ◌∙◌, ap, output_of, SkipStops, SkipsAll, told}
 use Rattle.rdf_stream.proofs.PiecesLemmas.{if_err, if_ok, reported_stops}
 use Rattle.rdf_stream.proofs.SkipLemmas.{by_job, none_skips, skip_stopped, skipped_all, skipping_start}
 use Rattle.rdf_stream.proofs.skips.convert_skipping.Goals as goal

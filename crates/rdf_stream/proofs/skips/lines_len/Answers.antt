@@ -1,6 +1,4 @@
-use Rattle.std.proofs.Common.{◌≡◌, ◌+◌, suc, inl, inr, refl, take, drop, subst, arith}
-use Rattle.std.proofs.lemmas.Bool.{false_from_ne_true}
-use Rattle.rdf_stream.specs.Sieves.{EndsLines}
+use Rattle.rdf_stream.proofs.Prelude.{◌≡◌, ◌+◌, suc, inl, inr, refl, take, drop, subst, arith, false_from_ne_true, EndsLines}
 use Rattle.rdf_stream.proofs.LineCuts.{all_no_end, front_ended, rest_no_end}
 use Rattle.rdf_stream.proofs.skips.lines_len.Goals as goal
 

@@ -1,7 +1,5 @@
 -- The loop over the pieces of a source: the bytes so far were taken, and it ends where the source does or an error stops it.
-use Rattle.std.proofs.Common.{rules, arith, length-take, ap, ◌∙◌}
-use Rattle.std.proofs.KnownBytes.{Consumes-nil}
-use Rattle.rdf_stream.specs.Sieves.{IsSkipping, SkipEnds, SkipHalts}
+use Rattle.rdf_stream.proofs.Prelude.{rules, arith, length-take, ap, ◌∙◌, Consumes-nil, IsSkipping, SkipEnds, SkipHalts}
 use Rattle.rdf_stream.proofs.PiecesLemmas.{end_read, end_stops, no_more, on_piece, piece_stops, read_stops}
 use Rattle.rdf_stream.proofs.skips.skip_pieces.Goals as goal
 

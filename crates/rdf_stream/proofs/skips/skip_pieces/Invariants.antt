@@ -1,7 +1,5 @@
 -- What left the source was taken.
-use Rattle.std.proofs.Common.{◌-◌, ◌^◌, length}
-use Rattle.rdf_stream.specs.Devices.{reading}
-use Rattle.rdf_stream.specs.Sieves.{IsSkipping}
+use Rattle.rdf_stream.proofs.Prelude.{◌-◌, ◌^◌, length, reading, IsSkipping}
 use Rattle.rdf_stream.proofs.PiecesLemmas.{IsReading}
 use Rattle.rdf_stream.proofs.skips.skip_pieces.Given as goal
 

@@ -1,7 +1,4 @@
-use Rattle.std.proofs.Common.{◌≡◌, ℕ, List, length, ◌++◌, ◌∙◌, ap, append_assoc, rules, sym}
-use Rattle.std.proofs.lemmas.Result.{on_ok_weaker}
-use Rattle.std.specs.Prelude.{decimal}
-use Rattle.std.specs.Str.{chars}
+use Rattle.rdf_stream.proofs.Prelude.{◌≡◌, ℕ, List, length, ◌++◌, ◌∙◌, ap, append_assoc, rules, sym, on_ok_weaker, decimal, chars}
 use Rattle.rdf_stream.proofs.PutLemmas.{then_put}
 use Rattle.rdf_stream.proofs.token_line.put_parts.Goals as goal
 

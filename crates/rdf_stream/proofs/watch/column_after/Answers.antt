@@ -1,7 +1,5 @@
 -- What stands in front of the last line feed does not count.
-use Rattle.std.proofs.Common.{◌∙◌, ◌+◌, sym, ap}
-use Rattle.std.proofs.lemmas.List.{take_rest}
-use Rattle.rdf_stream.specs.Places.{column_after}
+use Rattle.rdf_stream.proofs.Prelude.{◌∙◌, ◌+◌, sym, ap, take_rest, column_after}
 use Rattle.rdf_stream.proofs.WatchLemmas.{column_feed}
 use Rattle.rdf_stream.proofs.watch.column_after.Goals as goal
 

@@ -1,6 +1,5 @@
 -- The bytes that are left lead from this column to that after all.
-use Rattle.std.proofs.Common.{◌≡◌, ◌≤◌, ◌+◌, drop}
-use Rattle.rdf_stream.specs.Places.{column_after}
+use Rattle.rdf_stream.proofs.Prelude.{◌≡◌, ◌≤◌, ◌+◌, drop, column_after}
 use Rattle.rdf_stream.proofs.watch.counted.Given as goal
 
 abbrev pub invariant-loop-byte : goal.invariant-loop-byte

@@ -1,7 +1,5 @@
 -- A byte more of the line.
-use Rattle.std.proofs.Common.{◌≡◌, ◌∙◌, ◌+◌, ◌-◌, ◌∷◌, ◌++◌, [], suc, false, cond, get_or, take, drop, sym, ap, arith, rules, append_assoc}
-use Rattle.std.proofs.lemmas.List.{drop_more, take_more}
-use Rattle.rdf_stream.specs.Places.{is_feed, line_rest, reach}
+use Rattle.rdf_stream.proofs.Prelude.{◌≡◌, ◌∙◌, ◌+◌, ◌-◌, ◌∷◌, ◌++◌, [], suc, false, cond, get_or, take, drop, sym, ap, arith, rules, append_assoc, drop_more, take_more, is_feed, line_rest, reach}
 use Rattle.rdf_stream.proofs.watch.line_after.Goals as goal
 
 pub loop-len-preserved : goal.loop-len-preserved

@@ -1,6 +1,5 @@
 -- The line goes on up to here, and what is left of it is told from here on.
-use Rattle.std.proofs.Common.{◌-◌, ◌≡◌, ◌≤◌, ◌++◌, take, drop, length}
-use Rattle.rdf_stream.specs.Places.{line_rest, reach}
+use Rattle.rdf_stream.proofs.Prelude.{◌-◌, ◌≡◌, ◌≤◌, ◌++◌, take, drop, length, line_rest, reach}
 use Rattle.rdf_stream.proofs.watch.line_after.Given as goal
 
 abbrev pub invariant-loop-len : goal.invariant-loop-len

@@ -1,6 +1,4 @@
-use Rattle.std.proofs.Common.{◌≡◌, ◌++◌, ◌+◌, suc, take, drop, sym, ap, ◌∙◌, append_assoc, arith}
-use Rattle.std.proofs.lemmas.Bool.{false_from_ne_true}
-use Rattle.rdf_lines.specs.Canonical.{without_crs}
+use Rattle.rdf_stream.proofs.Prelude.{◌≡◌, ◌++◌, ◌+◌, suc, take, drop, sym, ap, ◌∙◌, append_assoc, arith, false_from_ne_true, without_crs}
 use Rattle.rdf_lines.proofs.WrittenBytesLemmas.{on_ok}
 use Rattle.rdf_stream.proofs.WithoutCrsLemmas.{after_one, begins_more, first_cr, no_cr}
 use Rattle.rdf_stream.proofs.without_crs.put_runs.Goals as goal

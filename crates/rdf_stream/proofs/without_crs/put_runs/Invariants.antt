@@ -1,5 +1,4 @@
-use Rattle.std.proofs.Common.{◌≡◌, ◌++◌, length}
-use Rattle.rdf_lines.specs.Canonical.{without_crs}
+use Rattle.rdf_stream.proofs.Prelude.{◌≡◌, ◌++◌, length, without_crs}
 use Rattle.rdf_lines.specs.WrittenBytes.{BeginsWith}
 use Rattle.rdf_stream.proofs.without_crs.put_runs.Given as goal
 

@@ -1,10 +1,4 @@
-use Rattle.std.proofs.Common.{◌≡◌, true, [], Result, Ok, Err, OnOk, Some, unwrap_or, ap, sym, subst, ◌∙◌}
-use Rattle.std.specs.Str.{chars, IsUtf8}
-use Rattle.rdf_terms.specs.Classes.{has}
-use Rattle.rdf_terms.specs.Classes.Class.{iri_char}
-use Rattle.rdf_terms.specs.Runs.{is_unescaped}
-use Rattle.rdf_terms.specs.Terms.{all_have}
-use Rattle.rdf_terms.specs.Values.{iri_value}
+use Rattle.rdf_terms.proofs.Prelude.{◌≡◌, true, [], Result, Ok, Err, OnOk, Some, unwrap_or, ap, sym, subst, ◌∙◌, chars, IsUtf8, has, iri_char, is_unescaped, all_have, iri_value}
 use Rattle.rdf_terms.proofs.EscapesLemmas.{unescaped_iri}
 use Rattle.rdf_terms.proofs.SpelledLemmas.{fit_iri}
 use Rattle.rdf_terms.proofs.ValuesLemmas.{iri_value_characters}

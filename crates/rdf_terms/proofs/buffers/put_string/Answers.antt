@@ -1,8 +1,4 @@
-use Rattle.std.proofs.Common.{◌≡◌, true, [], Result, Ok, Err, OnOk, Some, unwrap_or, ap, sym, subst, ◌∙◌}
-use Rattle.std.specs.Str.{chars, IsUtf8}
-use Rattle.rdf_terms.specs.Runs.{is_unescaped}
-use Rattle.rdf_terms.specs.Terms.{all_have}
-use Rattle.rdf_terms.specs.Values.{string_value}
+use Rattle.rdf_terms.proofs.Prelude.{◌≡◌, true, [], Result, Ok, Err, OnOk, Some, unwrap_or, ap, sym, subst, ◌∙◌, chars, IsUtf8, is_unescaped, all_have, string_value}
 use Rattle.rdf_terms.proofs.EscapesLemmas.{unescaped_string}
 use Rattle.rdf_terms.proofs.SpelledLemmas.{fit_string, string_fits}
 use Rattle.rdf_terms.proofs.buffers.put_string.Goals as goal

@@ -1,5 +1,4 @@
-use Rattle.std.proofs.Common.{length, sym, ap}
-use Rattle.std.proofs.lemmas.Str.{encodes-chars}
+use Rattle.rdf_terms.proofs.Prelude.{length, sym, ap, encodes-chars}
 use Rattle.rdf_terms.proofs.buffers.text_len.Goals as goal
 
 pub returns : goal.returns

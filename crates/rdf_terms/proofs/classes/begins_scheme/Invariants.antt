@@ -1,5 +1,4 @@
-use Rattle.std.proofs.Common.{◌≡◌, ◌-◌, ◌≤◌, length, drop}
-use Rattle.rdf_terms.specs.Terms.{has_scheme, scheme_goes_on}
+use Rattle.rdf_terms.proofs.Prelude.{◌≡◌, ◌-◌, ◌≤◌, length, drop, has_scheme, scheme_goes_on}
 use Rattle.rdf_terms.proofs.classes.begins_scheme.Given as goal
 
 abbrev pub invariant-loop-at : goal.invariant-loop-at

@@ -1,6 +1,5 @@
 -- A scheme, by the bytes of the text.
-use Rattle.std.proofs.Common.{◌≡◌, true, sym, ap, ◌∙◌}
-use Rattle.rdf_terms.specs.Terms.{has_scheme}
+use Rattle.rdf_terms.proofs.Prelude.{◌≡◌, true, sym, ap, ◌∙◌, has_scheme}
 use Rattle.rdf_terms.proofs.SchemeLemmas.{http_scheme, scheme_by_bytes}
 use Rattle.rdf_terms.proofs.classes.has_scheme.Goals as goal
 

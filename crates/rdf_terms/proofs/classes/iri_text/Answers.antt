@@ -1,6 +1,4 @@
-use Rattle.std.proofs.Common.{ap, ◌∙◌}
-use Rattle.rdf_terms.specs.Runs.{iri_byte}
-use Rattle.rdf_terms.specs.Terms.{all_have}
+use Rattle.rdf_terms.proofs.Prelude.{ap, ◌∙◌, iri_byte, all_have}
 use Rattle.rdf_terms.proofs.IriBytes.{iri_bytes}
 use Rattle.rdf_terms.proofs.classes.iri_text.Goals as goal
 

@@ -1,7 +1,5 @@
-use Rattle.std.proofs.Common.{false, refl, get_or}
-use Rattle.std.proofs.lemmas.Bool.{agree_below_at}
+use Rattle.rdf_terms.proofs.Prelude.{false, refl, get_or, agree_below_at, iri_byte}
 use Rattle.rdf_terms.specs.declared.classes.TheConstants.{IRI_BYTES}
-use Rattle.rdf_terms.specs.Runs.{iri_byte}
 use Rattle.rdf_terms.proofs.classes.is_iri_byte.Goals as goal
 
 pub returns : goal.returns

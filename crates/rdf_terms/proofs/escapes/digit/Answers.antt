@@ -1,4 +1,4 @@
-use Rattle.std.proofs.Common.{subst, sym, ◌≤◌}
+use Rattle.rdf_terms.proofs.Prelude.{subst, sym, ◌≤◌}
 use Rattle.rdf_terms.proofs.FourDigits.{digit_most, table_digit}
 use Rattle.rdf_terms.proofs.escapes.digit.Goals as goal
 

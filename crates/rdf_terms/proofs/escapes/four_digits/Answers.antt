@@ -1,4 +1,4 @@
-use Rattle.std.proofs.Common.{◌+◌, get_or, arith}
+use Rattle.rdf_terms.proofs.Prelude.{◌+◌, get_or, arith}
 use Rattle.rdf_terms.proofs.FourDigits.{digit_told, digit_value}
 use Rattle.rdf_terms.proofs.UcharLemmas.{four_pass, four_written}
 use Rattle.rdf_terms.proofs.escapes.four_digits.Goals as goal

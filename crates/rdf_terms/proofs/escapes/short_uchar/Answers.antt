@@ -1,5 +1,4 @@
-use Rattle.std.proofs.Common.{sym, ◌∙◌, subst}
-use Rattle.rdf_terms.specs.Escapes.{IsUcharOf, UcharAt}
+use Rattle.rdf_terms.proofs.Prelude.{sym, ◌∙◌, subst, IsUcharOf, UcharAt}
 use Rattle.rdf_terms.proofs.UcharLemmas.{short_found}
 use Rattle.rdf_terms.proofs.escapes.short_uchar.Goals as goal
 

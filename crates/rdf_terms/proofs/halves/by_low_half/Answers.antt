@@ -1,4 +1,4 @@
-use Rattle.std.proofs.Common.{◌%◌, arith}
+use Rattle.rdf_terms.proofs.Prelude.{◌%◌, arith}
 use Rattle.rdf_terms.proofs.LookUps.{low_halves, may_look_up, looked_up}
 use Rattle.rdf_terms.proofs.halves.by_low_half.Goals as goal
 

@@ -1,4 +1,4 @@
-use Rattle.std.proofs.Common.{sym, ◌∙◌}
+use Rattle.rdf_terms.proofs.Prelude.{sym, ◌∙◌}
 use Rattle.rdf_terms.proofs.iris.is_iri.Goals as goal
 
 pub returns-then-iri_text : goal.returns-then-iri_text

@@ -1,8 +1,4 @@
-use Rattle.std.proofs.Common.{◌&&◌, true, sym, ap, ◌∙◌}
-use Rattle.std.specs.Str.{chars}
-use Rattle.std.specs.Str.Iter.{chars_rest}
-use Rattle.rdf_terms.specs.declared.kind.Dialect.TheVariants.{Lines}
-use Rattle.rdf_terms.specs.Names.{name_goes_on}
+use Rattle.rdf_terms.proofs.Prelude.{◌&&◌, true, sym, ap, ◌∙◌, chars, chars_rest, Lines, name_goes_on}
 use Rattle.rdf_terms.proofs.CharsLemmas.{next_char}
 use Rattle.rdf_terms.proofs.NamesLemmas.{name_goes_on-IsLabel}
 use Rattle.rdf_terms.proofs.labels.is_label.Goals as goal

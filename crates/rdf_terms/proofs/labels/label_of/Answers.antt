@@ -1,7 +1,4 @@
-use Rattle.std.proofs.Common.{ap, sym, subst, drop, length, ◌∙◌, arith, length-drop}
-use Rattle.std.proofs.lemmas.List.{drop-drop}
-use Rattle.std.specs.Str.{chars}
-use Rattle.rdf_terms.specs.Terms.{IsLabel}
+use Rattle.rdf_terms.proofs.Prelude.{ap, sym, subst, drop, length, ◌∙◌, arith, length-drop, drop-drop, chars, IsLabel}
 use Rattle.rdf_terms.proofs.CharsLemmas.{few_bytes}
 use Rattle.rdf_terms.proofs.SpelledLemmas.{label_in}
 use Rattle.rdf_terms.proofs.labels.label_of.Goals as goal

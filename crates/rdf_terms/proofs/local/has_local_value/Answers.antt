@@ -1,9 +1,5 @@
 -- The loop over a local part: the text has a meaning exactly where what is left has one.
-use Rattle.std.proofs.Common.{◌&&◌, Bool, is_some, sym, ap, ◌∙◌}
-use Rattle.std.specs.Str.{chars}
-use Rattle.std.specs.Str.Iter.{chars_rest}
-use Rattle.rdf_terms.specs.Values.{local_from}
-use Rattle.rdf_terms.specs.Local.{local_opens}
+use Rattle.rdf_terms.proofs.Prelude.{◌&&◌, Bool, is_some, sym, ap, ◌∙◌, chars, chars_rest, local_from, local_opens}
 use Rattle.rdf_terms.proofs.CharsLemmas.{next_char, no_chars}
 use Rattle.rdf_terms.proofs.LocalLemmas.{local-next, local-end}
 use Rattle.rdf_terms.proofs.local.has_local_value.Goals as goal

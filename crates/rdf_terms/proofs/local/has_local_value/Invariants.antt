@@ -1,7 +1,4 @@
-use Rattle.std.proofs.Common.{◌≡◌, is_some}
-use Rattle.std.specs.Str.{chars, IsUtf8}
-use Rattle.std.specs.Str.Iter.{chars_rest}
-use Rattle.rdf_terms.specs.Values.{local_from, local_value}
+use Rattle.rdf_terms.proofs.Prelude.{◌≡◌, is_some, chars, IsUtf8, chars_rest, local_from, local_value}
 use Rattle.rdf_terms.proofs.local.has_local_value.Given as goal
 
 abbrev pub invariant-loop-c : goal.invariant-loop-c

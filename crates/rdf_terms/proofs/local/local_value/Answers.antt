@@ -1,9 +1,5 @@
-use Rattle.std.proofs.Common.{Some, sym, ap, ◌∙◌}
-use Rattle.std.specs.Str.{chars}
+use Rattle.rdf_terms.proofs.Prelude.{Some, sym, ap, ◌∙◌, chars, has, iri_char, all_have}
 use Rattle.std.proofs.lemmas.Result.{IfOk-weaker}
-use Rattle.rdf_terms.specs.Classes.{has}
-use Rattle.rdf_terms.specs.Classes.Class.{iri_char}
-use Rattle.rdf_terms.specs.Terms.{all_have}
 use Rattle.rdf_terms.proofs.LocalLemmas.{value_is}
 use Rattle.rdf_terms.proofs.local.local_value.Goals as goal
 

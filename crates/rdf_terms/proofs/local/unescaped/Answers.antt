@@ -1,9 +1,5 @@
 -- The loop that copies a local part without its backslashes.
-use Rattle.std.proofs.Common.{sym, ap, subst, ◌∙◌}
-use Rattle.std.specs.Str.{IsUtf8}
-use Rattle.std.specs.Str.Iter.{chars_rest}
-use Rattle.std.proofs.lemmas.Str.{IsUtf8-string_bytes}
-use Rattle.std.proofs.lemmas.Bool.{cond-true}
+use Rattle.rdf_terms.proofs.Prelude.{sym, ap, subst, ◌∙◌, IsUtf8, chars_rest, IsUtf8-string_bytes, cond-true}
 use Rattle.rdf_terms.proofs.CharsLemmas.{next_char, no_chars}
 use Rattle.rdf_terms.proofs.LocalLemmas.{unescaped_none, unescaped_push, unescaped_skip, unescaped_all}
 use Rattle.rdf_terms.proofs.local.unescaped.Goals as goal

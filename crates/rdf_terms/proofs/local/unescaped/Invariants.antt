@@ -1,8 +1,4 @@
-use Rattle.std.proofs.Common.{◌≡◌, ◌++◌}
-use Rattle.std.specs.Str.{chars, IsUtf8}
-use Rattle.std.specs.Str.Iter.{chars_rest}
-use Rattle.std.specs.String.{string_bytes}
-use Rattle.rdf_terms.specs.Local.{without_backslashes}
+use Rattle.rdf_terms.proofs.Prelude.{◌≡◌, ◌++◌, chars, IsUtf8, chars_rest, string_bytes, without_backslashes}
 use Rattle.rdf_terms.proofs.local.unescaped.Given as goal
 
 abbrev pub invariant-loop-c : goal.invariant-loop-c

@@ -1,6 +1,5 @@
 -- A PNAME_NS is a prefix or nothing, and a last ':'.
-use Rattle.std.proofs.Common.{◌∙◌, sym, arith, length}
-use Rattle.std.proofs.lemmas.Bool.{false≢true, eqb-true, eqb-false}
+use Rattle.rdf_terms.proofs.Prelude.{◌∙◌, sym, arith, length, false≢true, eqb-true, eqb-false}
 use Rattle.std.proofs.lemmas.Str.Pattern.{strip_suffix_char}
 use Rattle.rdf_terms.proofs.NamesLemmas.{ns_of_prefix, ns_of_nothing, ns_without_colon}
 use Rattle.rdf_terms.proofs.names.is_pname_ns.Goals as goal

@@ -1,8 +1,4 @@
-use Rattle.std.proofs.Common.{◌&&◌, true, sym, ap, ◌∙◌}
-use Rattle.std.specs.Str.{chars}
-use Rattle.std.specs.Str.Iter.{chars_rest}
-use Rattle.rdf_terms.specs.declared.kind.Dialect.TheVariants.{Turtle}
-use Rattle.rdf_terms.specs.Names.{name_goes_on}
+use Rattle.rdf_terms.proofs.Prelude.{◌&&◌, true, sym, ap, ◌∙◌, chars, chars_rest, Turtle, name_goes_on}
 use Rattle.rdf_terms.proofs.CharsLemmas.{next_char}
 use Rattle.rdf_terms.proofs.NamesLemmas.{name_goes_on-prefix}
 use Rattle.rdf_terms.proofs.names.is_prefix.Goals as goal

@@ -1,5 +1,5 @@
 -- The loop over a name: the text is one exactly where what is left completes it.
-use Rattle.std.proofs.Common.{refl}
+use Rattle.rdf_terms.proofs.Prelude.{refl}
 use Rattle.rdf_terms.proofs.CharsLemmas.{next_char, no_chars}
 use Rattle.rdf_terms.proofs.names.name_goes_on.Goals as goal
 use Rattle.rdf_terms.proofs.names.name_goes_on.Goals.{else-not-ends-via-then-not-ends+else-not-is_dot, else-not-ends-via-else-not-ends}

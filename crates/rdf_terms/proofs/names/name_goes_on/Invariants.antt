@@ -1,7 +1,4 @@
-use Rattle.std.proofs.Common.{◌≡◌, true}
-use Rattle.std.specs.Str.{chars, IsUtf8}
-use Rattle.std.specs.Str.Iter.{chars_rest}
-use Rattle.rdf_terms.specs.Names.{name_goes_on}
+use Rattle.rdf_terms.proofs.Prelude.{◌≡◌, true, chars, IsUtf8, chars_rest, name_goes_on}
 use Rattle.rdf_terms.proofs.names.name_goes_on.Given as goal
 
 abbrev pub invariant-loop-c : goal.invariant-loop-c

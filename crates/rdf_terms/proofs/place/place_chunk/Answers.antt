@@ -1,5 +1,4 @@
-use Rattle.std.proofs.Common.{◌≡◌, length, take, arith, length-take-le}
-use Rattle.std.proofs.lemmas.Simd.{take_more_put_chunk, length-put_chunk}
+use Rattle.rdf_terms.proofs.Prelude.{◌≡◌, length, take, arith, length-take-le, take_more_put_chunk, length-put_chunk}
 use Rattle.rdf_terms.proofs.place.place_chunk.Goals as goal
 
 pub returns : goal.returns

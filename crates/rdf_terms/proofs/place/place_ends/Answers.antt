@@ -1,5 +1,4 @@
-use Rattle.std.proofs.Common.{◌-◌, rules, length}
-use Rattle.std.proofs.lemmas.List.{take_rest}
+use Rattle.rdf_terms.proofs.Prelude.{◌-◌, rules, length, take_rest}
 use Rattle.rdf_terms.proofs.Places.{Placed-ends}
 use Rattle.rdf_terms.proofs.place.place_ends.Goals as goal
 

@@ -1,5 +1,4 @@
-use Rattle.std.proofs.Common.{◌≡◌, ◌+◌, rules, arith, ap, length, take-add, length-take-le, take-append-drop}
-use Rattle.std.proofs.lemmas.List.{take_rest}
+use Rattle.rdf_terms.proofs.Prelude.{◌≡◌, ◌+◌, rules, arith, ap, length, take-add, length-take-le, take-append-drop, take_rest}
 use Rattle.rdf_terms.proofs.Places.{Placed-then}
 use Rattle.rdf_terms.proofs.place.place_long.Goals as goal
 

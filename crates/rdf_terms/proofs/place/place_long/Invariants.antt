@@ -1,4 +1,4 @@
-use Rattle.std.proofs.Common.{◌+◌, ◌-◌, ◌≤◌, length, take}
+use Rattle.rdf_terms.proofs.Prelude.{◌+◌, ◌-◌, ◌≤◌, length, take}
 use Rattle.rdf_terms.specs.Placing.{Placed}
 use Rattle.rdf_terms.proofs.place.place_long.Given as goal
 

@@ -1,6 +1,4 @@
-use Rattle.std.proofs.Common.{leb, cond, refl, sym}
-use Rattle.std.proofs.lemmas.List.{map-id}
-use Rattle.std.proofs.lemmas.Simd.{zip2_splat_left}
+use Rattle.rdf_terms.proofs.Prelude.{leb, cond, refl, sym, map-id, zip2_splat_left}
 use Rattle.rdf_terms.proofs.RunsLemmas.{joined, mask_is}
 use Rattle.rdf_terms.proofs.runs.ascii_quote_stops.Goals as goal
 

@@ -1,5 +1,4 @@
-use Rattle.std.proofs.Common.{leb, cond, refl}
-use Rattle.std.proofs.lemmas.Simd.{zip2_splat_left}
+use Rattle.rdf_terms.proofs.Prelude.{leb, cond, refl, zip2_splat_left}
 use Rattle.rdf_terms.proofs.RunsLemmas.{mask_is}
 use Rattle.rdf_terms.proofs.runs.ascii_stops.Goals as goal
 

@@ -1,5 +1,4 @@
-use Rattle.std.proofs.Common.{ℕ, refl}
-use Rattle.std.proofs.lemmas.Simd.{zip2_splat}
+use Rattle.rdf_terms.proofs.Prelude.{ℕ, refl, zip2_splat}
 use Rattle.rdf_terms.proofs.RunsLemmas.{mask_is}
 use Rattle.rdf_terms.proofs.runs.backslashes.Goals as goal
 

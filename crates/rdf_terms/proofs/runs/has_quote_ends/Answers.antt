@@ -1,5 +1,4 @@
-use Rattle.std.proofs.Common.{sym, ◌∙◌}
-use Rattle.rdf_terms.specs.Runs.{is_short_byte}
+use Rattle.rdf_terms.proofs.Prelude.{sym, ◌∙◌, is_short_byte}
 use Rattle.rdf_terms.proofs.RunsLemmas.{front_fails, front_passes}
 use Rattle.rdf_terms.proofs.runs.has_quote_ends.Goals as goal
 

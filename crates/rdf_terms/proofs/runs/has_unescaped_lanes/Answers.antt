@@ -1,8 +1,4 @@
-use Rattle.std.proofs.Common.{ℕ, refl, arith}
-use Rattle.std.proofs.lemmas.Simd.{chunk-fits, length-chunk, zip2_splat}
-use Rattle.std.proofs.Common.{w8}
-use lib.Lanes.{chunk}
-use Rattle.rdf_terms.specs.Runs.{is_unescaped}
+use Rattle.rdf_terms.proofs.Prelude.{ℕ, refl, arith, chunk-fits, length-chunk, zip2_splat, w8, chunk, is_unescaped}
 use Rattle.rdf_terms.proofs.RunsLemmas.{lanes_decide, mask_within}
 use Rattle.rdf_terms.proofs.runs.has_unescaped_lanes.Goals as goal
 

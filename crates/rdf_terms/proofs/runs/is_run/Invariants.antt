@@ -1,5 +1,4 @@
-use Rattle.std.proofs.Common.{◌-◌}
-use Rattle.rdf_terms.specs.Runs.{goes_over, PassBetween}
+use Rattle.rdf_terms.proofs.Prelude.{◌-◌, goes_over, PassBetween}
 use Rattle.rdf_terms.proofs.runs.is_run.Given as goal
 
 abbrev pub invariant-loop-at : goal.invariant-loop-at

@@ -1,4 +1,4 @@
-use Rattle.rdf_terms.specs.Runs.{goes_over}
+use Rattle.rdf_terms.proofs.Prelude.{goes_over}
 use Rattle.rdf_terms.proofs.RunsLemmas.{run_decides}
 use Rattle.rdf_terms.proofs.runs.is_short_run.Goals as goal
 

@@ -1,5 +1,4 @@
-use Rattle.std.proofs.Common.{ℕ, refl}
-use Rattle.std.proofs.lemmas.Simd.{zip2_splat}
+use Rattle.rdf_terms.proofs.Prelude.{ℕ, refl, zip2_splat}
 use Rattle.rdf_terms.proofs.RunsLemmas.{joined, mask_is}
 use Rattle.rdf_terms.proofs.runs.long_single_quote_stops.Goals as goal
 

@@ -1,5 +1,4 @@
-use Rattle.std.proofs.Common.{bit_and, refl}
-use Rattle.std.proofs.lemmas.Simd.{splat_is_map}
+use Rattle.rdf_terms.proofs.Prelude.{bit_and, refl, splat_is_map}
 use Rattle.rdf_terms.proofs.RunsLemmas.{joined, mask_is}
 use Rattle.rdf_terms.proofs.runs.name_stops.Goals as goal
 

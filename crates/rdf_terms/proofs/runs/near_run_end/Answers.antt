@@ -1,5 +1,4 @@
-use Rattle.std.proofs.Common.{arith}
-use Rattle.rdf_terms.specs.Runs.{goes_over}
+use Rattle.rdf_terms.proofs.Prelude.{arith, goes_over}
 use Rattle.rdf_terms.proofs.RunsLemmas.{none_left, some_left}
 use Rattle.rdf_terms.proofs.runs.near_run_end.Goals as goal
 

@@ -1,6 +1,5 @@
-use Rattle.std.proofs.Common.{sym, subst, ◌∙◌, arith}
+use Rattle.rdf_terms.proofs.Prelude.{sym, subst, ◌∙◌, arith, goes_over, IsRunIn}
 use lib.Count.{count_trailing_zeros}
-use Rattle.rdf_terms.specs.Runs.{goes_over, IsRunIn}
 use Rattle.rdf_terms.proofs.RunsLemmas.{none_stops, one_stops}
 use Rattle.rdf_terms.proofs.runs.passed_lanes.Goals as goal
 

@@ -1,5 +1,4 @@
-use Rattle.std.proofs.Common.{refl, sym}
-use Rattle.std.proofs.lemmas.List.{map-id}
+use Rattle.rdf_terms.proofs.Prelude.{refl, sym, map-id}
 use Rattle.rdf_terms.proofs.RunsLemmas.{joined, mask_is}
 use Rattle.rdf_terms.proofs.runs.quote_stops.Goals as goal
 

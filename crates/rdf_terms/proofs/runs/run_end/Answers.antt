@@ -1,5 +1,4 @@
-use Rattle.std.proofs.Common.{◌≡◌, ◌+◌, ◌≤◌, length, sym, ◌∙◌, arith}
-use Rattle.rdf_terms.specs.Runs.{goes_over}
+use Rattle.rdf_terms.proofs.Prelude.{◌≡◌, ◌+◌, ◌≤◌, length, sym, ◌∙◌, arith, goes_over}
 use Rattle.rdf_terms.proofs.RunsLemmas.{none_stops, first_ends, pass-more, run_after}
 use Rattle.rdf_terms.proofs.runs.run_end.Goals as goal
 

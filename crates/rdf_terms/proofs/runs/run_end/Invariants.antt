@@ -1,5 +1,4 @@
-use Rattle.std.proofs.Common.{◌-◌, ◌≤◌, length}
-use Rattle.rdf_terms.specs.Runs.{goes_over, PassBetween}
+use Rattle.rdf_terms.proofs.Prelude.{◌-◌, ◌≤◌, length, goes_over, PassBetween}
 use Rattle.rdf_terms.proofs.runs.run_end.Given as goal
 
 abbrev pub invariant-loop-at : goal.invariant-loop-at

@@ -1,5 +1,4 @@
-use Rattle.std.proofs.Common.{ℕ, bit_and, refl}
-use Rattle.std.proofs.lemmas.Simd.{zip2_splat}
+use Rattle.rdf_terms.proofs.Prelude.{ℕ, bit_and, refl, zip2_splat}
 use Rattle.rdf_terms.proofs.RunsLemmas.{joined, mask_is}
 use Rattle.rdf_terms.proofs.runs.space_stops.Goals as goal
 

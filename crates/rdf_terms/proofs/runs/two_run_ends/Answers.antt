@@ -1,5 +1,4 @@
-use Rattle.std.proofs.Common.{◌+◌, ◌≤◌, length, refl, sym, ◌∙◌, arith}
-use Rattle.rdf_terms.specs.Runs.{goes_over}
+use Rattle.rdf_terms.proofs.Prelude.{◌+◌, ◌≤◌, length, refl, sym, ◌∙◌, arith, goes_over}
 use Rattle.rdf_terms.proofs.RunsLemmas.{none_stops, run_on, first_within, first_ends, second_beyond, second_ends}
 use Rattle.rdf_terms.proofs.runs.two_run_ends.Goals as goal
 

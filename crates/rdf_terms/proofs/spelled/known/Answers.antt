@@ -1,5 +1,4 @@
-use Rattle.std.proofs.Common.{sym, subst}
-use Rattle.rdf_terms.specs.Terms.{IsIri}
+use Rattle.rdf_terms.proofs.Prelude.{sym, subst, IsIri}
 use Rattle.rdf_terms.proofs.KnownLemmas.{IsIri-known_chars}
 use Rattle.rdf_terms.proofs.spelled.known.Goals as goal
 

@@ -1,6 +1,5 @@
 -- Each constant is spelled as the definition spells it.
-use Rattle.std.proofs.Common.{refl}
-use Rattle.std.specs.Str.{chars}
+use Rattle.rdf_terms.proofs.Prelude.{refl, chars}
 use Rattle.rdf_terms.specs.Known.{known_chars}
 use Rattle.rdf_terms.proofs.spelled.text.Goals as goal
 

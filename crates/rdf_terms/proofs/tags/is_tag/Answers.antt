@@ -1,6 +1,5 @@
 -- The loop over a language tag: the text is one exactly where what is left completes it.
-use Rattle.std.proofs.Common.{sym, ap, ◌∙◌}
-use Rattle.rdf_terms.specs.Names.{tag_goes_on, place_of}
+use Rattle.rdf_terms.proofs.Prelude.{sym, ap, ◌∙◌, tag_goes_on, place_of}
 use Rattle.rdf_terms.proofs.CharsLemmas.{next_char, no_chars}
 use Rattle.rdf_terms.proofs.NamesLemmas.{tag_goes_on-IsTag, tag_step}
 use Rattle.rdf_terms.proofs.tags.is_tag.Goals as goal

@@ -1,7 +1,4 @@
-use Rattle.std.proofs.Common.{◌≡◌}
-use Rattle.std.specs.Str.{chars, IsUtf8}
-use Rattle.std.specs.Str.Iter.{chars_rest}
-use Rattle.rdf_terms.specs.Names.{start, tag_goes_on, place_of}
+use Rattle.rdf_terms.proofs.Prelude.{◌≡◌, chars, IsUtf8, chars_rest, start, tag_goes_on, place_of}
 use Rattle.rdf_terms.proofs.tags.is_tag.Given as goal
 
 abbrev pub invariant-loop-c : goal.invariant-loop-c

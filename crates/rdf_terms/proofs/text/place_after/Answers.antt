@@ -1,5 +1,4 @@
-use Rattle.std.proofs.Common.{IsUtf8, ap, sym, subst, take, ◌++◌, ◌∙◌}
-use Rattle.std.proofs.lemmas.Str.{IsUtf8-append}
+use Rattle.rdf_terms.proofs.Prelude.{IsUtf8, ap, sym, subst, take, ◌++◌, ◌∙◌, IsUtf8-append}
 use Rattle.rdf_terms.proofs.text.place_after.Goals as goal
 
 pub returns-clause-utf8 : goal.returns-clause-utf8

@@ -1,5 +1,4 @@
-use Rattle.std.proofs.Common.{IsUtf8, sym, subst, arith, length-append}
-use Rattle.std.proofs.lemmas.Str.{IsUtf8-append}
+use Rattle.rdf_terms.proofs.Prelude.{IsUtf8, sym, subst, arith, length-append, IsUtf8-append}
 use Rattle.rdf_terms.proofs.Places.{Placed-then}
 use Rattle.rdf_terms.proofs.text.place_joined.Goals as goal
 

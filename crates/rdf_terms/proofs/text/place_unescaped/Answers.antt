@@ -1,5 +1,4 @@
-use Rattle.std.proofs.Common.{◌++◌, ◌∙◌, ap, take}
-use Rattle.rdf_terms.specs.Local.{without_backslashes}
+use Rattle.rdf_terms.proofs.Prelude.{◌++◌, ◌∙◌, ap, take, without_backslashes}
 use Rattle.rdf_terms.proofs.LocalLemmas.{unescaped_after}
 use Rattle.rdf_terms.proofs.text.place_unescaped.Goals as goal
 

@@ -1,5 +1,4 @@
-use Rattle.std.proofs.Common.{◌≡◌, ◌+◌, ◌≤◌, ◌++◌, length, take, drop}
-use Rattle.rdf_terms.specs.Local.{without_backslashes}
+use Rattle.rdf_terms.proofs.Prelude.{◌≡◌, ◌+◌, ◌≤◌, ◌++◌, length, take, drop, without_backslashes}
 use Rattle.rdf_terms.proofs.text.place_without_backslashes.Given as goal
 
 -- with what is left, all is placed

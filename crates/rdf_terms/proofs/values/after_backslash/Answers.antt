@@ -1,7 +1,5 @@
 -- Behind a backslash: the end, a letter, or a number.
-use Rattle.std.proofs.Common.{◌≡◌, ◌+◌, Some, sym, ◌∙◌, subst, refl, arith}
-use Rattle.rdf_terms.specs.Escapes.{inside_of, IsRead, Reads}
-use Rattle.rdf_terms.specs.Values.{leads, outside, slash}
+use Rattle.rdf_terms.proofs.Prelude.{◌≡◌, ◌+◌, Some, sym, ◌∙◌, subst, refl, arith, inside_of, IsRead, Reads, leads, outside, slash}
 use Rattle.rdf_terms.proofs.EscapesLemmas.{no_letter, not_end, reads_from, reads_letter, step_byte, step_end, utf8_byte}
 use Rattle.rdf_terms.proofs.UcharLemmas.{uchar_reads}
 use Rattle.rdf_terms.proofs.values.after_backslash.Goals as goal

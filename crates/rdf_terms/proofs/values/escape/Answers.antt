@@ -1,5 +1,5 @@
 -- Another end of a run than a backslash may not stand there.
-use Rattle.rdf_terms.specs.Escapes.{inside_of}
+use Rattle.rdf_terms.proofs.Prelude.{inside_of}
 use Rattle.rdf_terms.proofs.EscapesLemmas.{stop_fails}
 use Rattle.rdf_terms.proofs.values.escape.Goals as goal
 

@@ -1,9 +1,5 @@
 -- The way from escape to escape: the text has a value exactly where what is left has one.
-use Rattle.std.proofs.Common.{is_some, sym, ap, ◌∙◌, subst, arith}
-use Rattle.std.specs.Str.{chars}
-use Rattle.rdf_terms.specs.Runs.{IsRun, goes_over}
-use Rattle.rdf_terms.specs.Values.{value, outside}
-use Rattle.rdf_terms.specs.Escapes.{inside_of}
+use Rattle.rdf_terms.proofs.Prelude.{is_some, sym, ap, ◌∙◌, subst, arith, chars, IsRun, goes_over, value, outside, inside_of}
 use Rattle.rdf_terms.proofs.EscapesLemmas.{run_read, run_is_some, read_is_some, value_end}
 use Rattle.rdf_terms.proofs.values.has_value.Goals as goal
 

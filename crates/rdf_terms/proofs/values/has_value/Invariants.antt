@@ -1,8 +1,4 @@
-use Rattle.std.proofs.Common.{◌≡◌, ◌-◌, ◌<◌, ◌≤◌, false, is_some, length, drop, get_or}
-use Rattle.std.specs.Str.{chars, IsUtf8}
-use Rattle.rdf_terms.specs.Runs.{goes_over}
-use Rattle.rdf_terms.specs.Values.{value, outside}
-use Rattle.rdf_terms.specs.Escapes.{inside_of, run_of}
+use Rattle.rdf_terms.proofs.Prelude.{◌≡◌, ◌-◌, ◌<◌, ◌≤◌, false, is_some, length, drop, get_or, chars, IsUtf8, goes_over, value, outside, inside_of, run_of}
 use Rattle.rdf_terms.proofs.values.has_value.Given as goal
 
 abbrev pub invariant-loop-at : goal.invariant-loop-at

@@ -1,7 +1,5 @@
 -- Only IRIs and strings are tested, without their delimiters.
-use Rattle.std.proofs.Common.{sym, ap, ◌∙◌}
-use Rattle.std.specs.Str.{chars}
-use Rattle.rdf_terms.specs.Values.{is_fit, inside}
+use Rattle.rdf_terms.proofs.Prelude.{sym, ap, ◌∙◌, chars, is_fit, inside}
 use Rattle.rdf_terms.proofs.InsideLemmas.{inside-inside}
 use Rattle.rdf_terms.proofs.ValuesLemmas.{is_fit_other}
 use Rattle.rdf_terms.proofs.values.is_fit.Goals as goal

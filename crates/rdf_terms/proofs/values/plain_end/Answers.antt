@@ -1,6 +1,4 @@
-use Rattle.std.proofs.Common.{sym, subst}
-use Rattle.rdf_terms.specs.Runs.{IsRun, goes_over}
-use Rattle.rdf_terms.specs.Escapes.{inside_of, run_of}
+use Rattle.rdf_terms.proofs.Prelude.{sym, subst, IsRun, goes_over, inside_of, run_of}
 use Rattle.rdf_terms.proofs.values.plain_end.Goals as goal
 
 pub returns-in-OfString : goal.returns-in-OfString

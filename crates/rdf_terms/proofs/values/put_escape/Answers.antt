@@ -1,8 +1,4 @@
-use Rattle.std.proofs.Common.{subst}
-use Rattle.std.specs.String.{string_bytes}
-use Rattle.std.proofs.lemmas.Str.{IsUtf8-string_bytes}
-use Rattle.rdf_terms.specs.Escapes.{inside_of, IsRead}
-use Rattle.rdf_terms.specs.Values.{leads, outside}
+use Rattle.rdf_terms.proofs.Prelude.{subst, string_bytes, IsUtf8-string_bytes, inside_of, IsRead, leads, outside}
 use Rattle.rdf_terms.proofs.EscapesLemmas.{put_one}
 use Rattle.rdf_terms.proofs.values.put_escape.Goals as goal
 

@@ -1,9 +1,5 @@
 -- The first escape was put, and then the row after it.
-use Rattle.std.proofs.Common.{subst}
-use Rattle.std.specs.String.{string_bytes}
-use Rattle.std.proofs.lemmas.Str.{IsUtf8-string_bytes}
-use Rattle.rdf_terms.specs.Escapes.{inside_of, IsRead}
-use Rattle.rdf_terms.specs.Values.{leads, outside}
+use Rattle.rdf_terms.proofs.Prelude.{subst, string_bytes, IsUtf8-string_bytes, inside_of, IsRead, leads, outside}
 use Rattle.rdf_terms.proofs.EscapesLemmas.{put_one, put_more}
 use Rattle.rdf_terms.proofs.values.put_escapes.Goals as goal
 

@@ -1,9 +1,5 @@
 -- Each escape of the row was put after those before it.
-use Rattle.std.proofs.Common.{◌≤◌, IsUtf8, ap, arith, drop, length, refl, subst, sym}
-use Rattle.std.specs.String.{string_bytes}
-use Rattle.std.proofs.lemmas.Str.{IsUtf8-string_bytes}
-use Rattle.rdf_terms.specs.Escapes.{inside_of, IsRead}
-use Rattle.rdf_terms.specs.Values.{leads, outside}
+use Rattle.rdf_terms.proofs.Prelude.{◌≤◌, IsUtf8, ap, arith, drop, length, refl, subst, sym, string_bytes, IsUtf8-string_bytes, inside_of, IsRead, leads, outside}
 use Rattle.rdf_terms.proofs.EscapesLemmas.{put_one, put_more}
 use Rattle.rdf_terms.proofs.values.put_row.Goals as goal
 

@@ -1,6 +1,4 @@
-use Rattle.std.proofs.Common.{◌-◌, length}
-use Rattle.std.specs.String.{string_bytes}
-use Rattle.rdf_terms.specs.Escapes.{inside_of, IsPutUpTo}
+use Rattle.rdf_terms.proofs.Prelude.{◌-◌, length, string_bytes, inside_of, IsPutUpTo}
 use Rattle.rdf_terms.proofs.values.put_row.Given as goal
 
 abbrev pub invariant-loop-meant : goal.invariant-loop-meant

@@ -1,8 +1,5 @@
 -- The text may be cut where a run begins and where it ends.
-use Rattle.std.proofs.Common.{subst}
-use Rattle.std.proofs.lemmas.Str.{IsCharBoundary-from_drop}
-use Rattle.rdf_terms.specs.Runs.{IsRun, goes_over}
-use Rattle.rdf_terms.specs.Escapes.{inside_of, run_of}
+use Rattle.rdf_terms.proofs.Prelude.{subst, IsCharBoundary-from_drop, IsRun, goes_over, inside_of, run_of}
 use Rattle.rdf_terms.proofs.EscapesLemmas.{run_cut}
 use Rattle.rdf_terms.proofs.values.put_run.Goals as goal
 

@@ -1,8 +1,5 @@
 -- The way from escape to escape: what was built, and the value of what is left, are the value of the text.
-use Rattle.std.proofs.Common.{subst, ◌∙◌, arith}
-use Rattle.std.specs.String.{string_bytes}
-use Rattle.std.proofs.lemmas.Str.{IsUtf8-string_bytes}
-use Rattle.rdf_terms.specs.Escapes.{inside_of, IsPut}
+use Rattle.rdf_terms.proofs.Prelude.{subst, ◌∙◌, arith, string_bytes, IsUtf8-string_bytes, inside_of, IsPut}
 use Rattle.rdf_terms.proofs.EscapesLemmas.{with_front-run, with_front-first, with_front-end, run_read}
 use Rattle.rdf_terms.proofs.values.put_value.Goals as goal
 

@@ -1,9 +1,4 @@
-use Rattle.std.proofs.Common.{◌≡◌, ◌-◌, ◌<◌, ◌≤◌, false, length, drop, get_or}
-use Rattle.std.specs.Str.{chars, IsUtf8}
-use Rattle.std.specs.String.{string_bytes}
-use Rattle.rdf_terms.specs.Runs.{goes_over}
-use Rattle.rdf_terms.specs.Values.{value, outside}
-use Rattle.rdf_terms.specs.Escapes.{inside_of, run_of, with_front}
+use Rattle.rdf_terms.proofs.Prelude.{◌≡◌, ◌-◌, ◌<◌, ◌≤◌, false, length, drop, get_or, chars, IsUtf8, string_bytes, goes_over, value, outside, inside_of, run_of, with_front}
 use Rattle.rdf_terms.proofs.values.put_value.Given as goal
 
 abbrev pub invariant-loop-at : goal.invariant-loop-at

@@ -1,5 +1,4 @@
-use Rattle.std.proofs.Common.{ap, sym}
-use Rattle.rdf_terms.specs.Escapes.{inside_of, run_of}
+use Rattle.rdf_terms.proofs.Prelude.{ap, sym, inside_of, run_of}
 use Rattle.rdf_terms.proofs.values.run_of.Goals as goal
 
 pub returns-in-OfIri : goal.returns-in-OfIri

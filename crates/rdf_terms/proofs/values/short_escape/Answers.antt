@@ -1,7 +1,4 @@
-use Rattle.std.proofs.Common.{ℕ, Option, sym, subst}
-use Rattle.std.specs.Option.{IfSome}
-use Rattle.rdf_terms.specs.Escapes.{inside_of, IsRead}
-use Rattle.rdf_terms.specs.Values.{leads, outside}
+use Rattle.rdf_terms.proofs.Prelude.{ℕ, Option, sym, subst, IfSome, inside_of, IsRead, leads, outside}
 use Rattle.rdf_terms.proofs.UcharLemmas.{short_reads}
 use Rattle.rdf_terms.proofs.values.short_escape.Goals as goal
 

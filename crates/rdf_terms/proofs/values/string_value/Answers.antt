@@ -1,5 +1,5 @@
 -- It is what the call answers for the inside of a string.
-use Rattle.std.proofs.Common.{rules}
+use Rattle.rdf_terms.proofs.Prelude.{rules}
 use Rattle.rdf_terms.proofs.values.string_value.Goals as goal
 
 pub returns-clause-ok : goal.returns-clause-ok

@@ -1,5 +1,4 @@
-use Rattle.std.proofs.Common.{drop, sym, ap, subst, ◌∙◌}
-use Rattle.std.specs.Str.{chars, IsUtf8}
+use Rattle.rdf_terms.proofs.Prelude.{drop, sym, ap, subst, ◌∙◌, chars, IsUtf8}
 use Rattle.rdf_terms.proofs.InsideLemmas.{front_off, back_off, ends_off}
 use Rattle.rdf_terms.proofs.values.without_ends.Goals as goal
 

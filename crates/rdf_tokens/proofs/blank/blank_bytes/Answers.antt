@@ -1,5 +1,5 @@
 -- What comes before a place was taken off; the comment and the white space there are taken off with it.
-use Rattle.std.proofs.Common.{◌∙◌, sym, arith}
+use Rattle.rdf_tokens.proofs.Prelude.{◌∙◌, sym, arith}
 use Rattle.rdf_tokens.proofs.BlankRuns.{part_on, cut_on, ends_there, hash_opens}
 use Rattle.rdf_tokens.proofs.blank.blank_bytes.Goals as goal
 

@@ -1,6 +1,4 @@
-use Rattle.std.proofs.Common.{◌≡◌, ◌+◌, ◌-◌, ◌≤◌, cond, drop, length}
-use Rattle.rdf_tokens.specs.Tokens.{blank}
-use Rattle.rdf_tokens.specs.Blank.{comment_after}
+use Rattle.rdf_tokens.proofs.Prelude.{◌≡◌, ◌+◌, ◌-◌, ◌≤◌, cond, drop, length, blank, comment_after}
 use Rattle.rdf_tokens.proofs.blank.blank_bytes.Given as goal
 
 abbrev pub invariant-parts : goal.invariant-parts

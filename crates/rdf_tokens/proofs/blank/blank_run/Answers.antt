@@ -1,6 +1,4 @@
-use Rattle.std.proofs.Common.{ap, ◌∙◌}
-use Rattle.rdf_tokens.specs.Tokens.{blank}
-use Rattle.rdf_tokens.specs.Blank.{comment_after}
+use Rattle.rdf_tokens.proofs.Prelude.{ap, ◌∙◌, blank, comment_after}
 use Rattle.rdf_tokens.proofs.BlankLemmas.{blank-bytes, comment-bytes}
 use Rattle.rdf_tokens.proofs.blank.blank_run.Goals as goal
 

@@ -1,8 +1,5 @@
 -- The bytes of the white space are its characters.
-use Rattle.std.proofs.Common.{◌∙◌, sym, ap, ◌==◌, false, take, count_by}
-use Rattle.rdf_terms.specs.declared.kind.Dialect.TheVariants.{Turtle}
-use Rattle.rdf_tokens.specs.Tokens.{blank}
-use Rattle.rdf_tokens.specs.Blank.{comment_after}
+use Rattle.rdf_tokens.proofs.Prelude.{◌∙◌, sym, ap, ◌==◌, false, take, count_by, Turtle, blank, comment_after}
 use Rattle.rdf_tokens.proofs.BlankLemmas.{blank-bytes, comment-bytes}
 use Rattle.rdf_tokens.proofs.HeldLemmas.{blank_feeds}
 use Rattle.rdf_tokens.proofs.blank.indented.Goals as goal

@@ -1,5 +1,5 @@
 -- A line feed, and the run after it up to a byte that is no white space.
-use Rattle.std.proofs.Common.{◌∙◌, sym}
+use Rattle.rdf_tokens.proofs.Prelude.{◌∙◌, sym}
 use Rattle.rdf_tokens.proofs.BlankRuns.{indented, one_feed}
 use Rattle.rdf_tokens.proofs.blank.indented_len.Goals as goal
 

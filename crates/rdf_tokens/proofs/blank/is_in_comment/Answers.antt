@@ -1,6 +1,5 @@
 -- The bytes of an open comment are its characters.
-use Rattle.std.proofs.Common.{◌≡◌, ◌∙◌, sym, subst, true, length}
-use Rattle.rdf_terms.specs.Runs.{IsRun, is_comment_byte}
+use Rattle.rdf_tokens.proofs.Prelude.{◌≡◌, ◌∙◌, sym, subst, true, length, IsRun, is_comment_byte}
 use Rattle.rdf_tokens.proofs.BlankLemmas.{blank-bytes, comment-bytes}
 use Rattle.rdf_tokens.proofs.BlankRuns.{flat_comment, in_comment}
 use Rattle.rdf_tokens.proofs.HeldLemmas.{blank_feeds}

@@ -1,7 +1,5 @@
 -- One byte of white space is one of the characters.
-use Rattle.std.proofs.Common.{◌∙◌, sym, ap, ◌==◌, false, take, count_by}
-use Rattle.rdf_tokens.specs.Tokens.{blank}
-use Rattle.rdf_tokens.specs.Blank.{comment_after}
+use Rattle.rdf_tokens.proofs.Prelude.{◌∙◌, sym, ap, ◌==◌, false, take, count_by, blank, comment_after}
 use Rattle.rdf_tokens.proofs.BlankLemmas.{blank-bytes, comment-bytes}
 use Rattle.rdf_tokens.proofs.HeldLemmas.{blank_feeds}
 use Rattle.rdf_tokens.proofs.blank.is_one.Goals as goal

@@ -1,7 +1,4 @@
-use Rattle.std.proofs.Common.{sym, subst}
-use Rattle.rdf_terms.specs.Runs.{IsRun}
-use Rattle.rdf_terms.specs.declared.kind.Dialect.{Dialect}
-use Rattle.rdf_tokens.specs.Tokens.{is_space}
+use Rattle.rdf_tokens.proofs.Prelude.{sym, subst, IsRun, Dialect, is_space}
 use Rattle.rdf_tokens.proofs.blank.white_end.Goals as goal
 
 pub returns-in-Lines : goal.returns-in-Lines

@@ -1,5 +1,4 @@
-use Rattle.std.proofs.Common.{◌++◌, ◌+◌, drop, encode_utf8, sym, ap, ◌∙◌, arith}
-use Rattle.std.proofs.lemmas.Str.{IsCharBoundary-from_drop, drop_past_char}
+use Rattle.rdf_tokens.proofs.Prelude.{◌++◌, ◌+◌, drop, encode_utf8, sym, ap, ◌∙◌, arith, IsCharBoundary-from_drop, drop_past_char}
 use Rattle.rdf_tokens.proofs.bytes.wide_char_at.Goals as goal
 
 pub range_from-requires : goal.range_from-requires

@@ -1,6 +1,5 @@
-use Rattle.std.proofs.Common.{ltb, ap, ◌∙◌, arith, w8}
+use Rattle.rdf_tokens.proofs.Prelude.{ltb, ap, ◌∙◌, arith, w8, bitmask_splat, ones-mask_l}
 use lib.Count.{ones}
-use Rattle.std.proofs.lemmas.Simd.{bitmask_splat, ones-mask_l}
 use Rattle.rdf_tokens.proofs.count.below.Goals as goal
 
 pub returns : goal.returns

@@ -1,6 +1,4 @@
-use Rattle.std.proofs.Common.{◌∙◌, ap}
-use Rattle.std.specs.Prelude.{count_by}
-use Rattle.rdf_tokens.specs.Count.{is_start}
+use Rattle.rdf_tokens.proofs.Prelude.{◌∙◌, ap, count_by, is_start}
 use Rattle.rdf_tokens.proofs.CountLemmas.{starts-chars}
 use Rattle.rdf_tokens.proofs.count.char_count.Goals as goal
 

@@ -1,4 +1,4 @@
-use Rattle.std.proofs.Common.{arith}
+use Rattle.rdf_tokens.proofs.Prelude.{arith}
 use Rattle.rdf_tokens.proofs.CountLemmas.{starts-more}
 use Rattle.rdf_tokens.proofs.count.start_count.Goals as goal
 

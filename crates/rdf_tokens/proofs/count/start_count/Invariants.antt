@@ -1,6 +1,4 @@
-use Rattle.std.proofs.Common.{◌≡◌, ◌-◌, ◌≤◌, length, take}
-use Rattle.std.specs.Prelude.{count_by}
-use Rattle.rdf_tokens.specs.Count.{is_start}
+use Rattle.rdf_tokens.proofs.Prelude.{◌≡◌, ◌-◌, ◌≤◌, length, take, count_by, is_start}
 use Rattle.rdf_tokens.proofs.count.start_count.Given as goal
 
 abbrev pub invariant-loop-at : goal.invariant-loop-at

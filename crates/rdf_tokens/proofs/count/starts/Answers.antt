@@ -1,6 +1,4 @@
-use Rattle.std.proofs.Common.{arith}
-use Rattle.std.specs.Prelude.{nat_lt}
-use Rattle.std.proofs.lemmas.List.Sums.{count_by-le-length}
+use Rattle.rdf_tokens.proofs.Prelude.{arith, nat_lt, count_by-le-length}
 use Rattle.rdf_tokens.proofs.CountLemmas.{starts-ends}
 use Rattle.rdf_tokens.proofs.count.starts.Goals as goal
 

@@ -1,5 +1,5 @@
 -- Runs and escapes of allowed characters lead back to the state within the IRI, and have a meaning.
-use Rattle.std.proofs.Common.{arith}
+use Rattle.rdf_tokens.proofs.Prelude.{arith}
 use Rattle.rdf_tokens.specs.declared.states.iri.Iri.TheVariants as iri_state
 use Rattle.rdf_tokens.specs.declared.states.machine.State.TheVariants as state
 use Rattle.rdf_tokens.proofs.FitEscapes.{fits_iri_run, fits_iri_uchar, fits-more}

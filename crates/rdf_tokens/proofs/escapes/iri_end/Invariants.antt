@@ -1,5 +1,4 @@
-use Rattle.std.proofs.Common.{◌-◌, ◌≤◌, length}
-use Rattle.rdf_tokens.specs.Escapes.{FitsInIri, RestsInIri}
+use Rattle.rdf_tokens.proofs.Prelude.{◌-◌, ◌≤◌, length, FitsInIri, RestsInIri}
 use Rattle.rdf_tokens.proofs.escapes.iri_end.Given as goal
 
 abbrev pub invariant-loop-next : goal.invariant-loop-next

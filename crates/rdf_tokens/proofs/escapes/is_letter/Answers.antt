@@ -1,4 +1,4 @@
-use Rattle.std.proofs.Common.{◌∙◌}
+use Rattle.rdf_tokens.proofs.Prelude.{◌∙◌}
 use Rattle.rdf_tokens.proofs.FitEscapes.{letter_tells}
 use Rattle.rdf_tokens.proofs.escapes.is_letter.Goals as goal
 

@@ -1,9 +1,7 @@
 -- Each escape, and the run after it, lead back to the state within the string.
-use Rattle.std.proofs.Common.{ap, subst, ◌∙◌, arith}
-use Rattle.rdf_terms.specs.Runs.{IsRun, goes_over}
+use Rattle.rdf_tokens.proofs.Prelude.{ap, subst, ◌∙◌, arith, IsRun, goes_over, IsEscapeThen}
 use Rattle.rdf_tokens.specs.declared.states.machine.State.TheVariants.{Text}
 use Rattle.rdf_tokens.specs.declared.states.text.Text.TheVariants as text
-use Rattle.rdf_tokens.specs.Escapes.{IsEscapeThen}
 use Rattle.rdf_tokens.proofs.FitEscapes.{fits_run, fits_then, fits-more, short_slash}
 use Rattle.rdf_tokens.proofs.RestEscapes.{escape_on, short_then}
 use Rattle.rdf_tokens.proofs.RestLemmas.{rests-more}

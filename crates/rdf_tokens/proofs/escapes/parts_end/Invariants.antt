@@ -1,6 +1,4 @@
-use Rattle.std.proofs.Common.{◌-◌, ◌≤◌, length}
-use Rattle.rdf_tokens.specs.Escapes.{FitsInString}
-use Rattle.rdf_tokens.specs.Strings.{RestsInQuotes}
+use Rattle.rdf_tokens.proofs.Prelude.{◌-◌, ◌≤◌, length, FitsInString, RestsInQuotes}
 use Rattle.rdf_tokens.proofs.escapes.parts_end.Given as goal
 
 abbrev pub invariant-loop-next : goal.invariant-loop-next

@@ -1,5 +1,5 @@
 -- An escape of one kind.
-use Rattle.std.proofs.Common.{inl, sym, ◌∙◌}
+use Rattle.rdf_tokens.proofs.Prelude.{inl, sym, ◌∙◌}
 use Rattle.rdf_tokens.proofs.RestEscapes.{echar_of}
 use Rattle.rdf_tokens.proofs.escapes.whole_escape_end.Goals as goal
 

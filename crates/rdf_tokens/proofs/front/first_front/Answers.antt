@@ -1,8 +1,6 @@
 -- A token from its first character on, in each family of states, or none where no family begins so.
-use Rattle.std.proofs.Common.{◌≡◌, length, refl, sym, ap, ◌∙◌, inl, inr, arith, None}
-use Rattle.std.proofs.lemmas.Bool.{eqb-true}
+use Rattle.rdf_tokens.proofs.Prelude.{◌≡◌, length, refl, sym, ap, ◌∙◌, inl, inr, arith, None, eqb-true, begin}
 use Rattle.rdf_tokens.specs.declared.states.machine.State.TheVariants.{Start, Iri, Label, Text, Tag, Number, Name, Dead}
-use Rattle.rdf_tokens.specs.Machine.{begin}
 use Rattle.rdf_tokens.proofs.StateLemmas.{reached-start, reached-first, reached-none, reached-out}
 use Rattle.rdf_tokens.proofs.front.first_front.Goals as goal
 

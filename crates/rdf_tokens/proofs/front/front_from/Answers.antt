@@ -1,8 +1,5 @@
 -- The loop over the characters of a token: it stands at a place that the states have reached, with the longest front so far.
-use Rattle.std.proofs.Common.{◌≡◌, inl, inr, refl, sym, ap, ◌∙◌, subst, arith, Some, None}
-use Rattle.std.specs.Str.{chars}
-use Rattle.rdf_tokens.specs.Tokens.{three_quotes, only_long, with_length}
-use Rattle.rdf_tokens.specs.Front.{Reached, kind_here}
+use Rattle.rdf_tokens.proofs.Prelude.{◌≡◌, inl, inr, refl, sym, ap, ◌∙◌, subst, arith, Some, None, chars, three_quotes, only_long, with_length, Reached, kind_here}
 use Rattle.rdf_tokens.specs.Machine.{kind_at}
 use Rattle.rdf_tokens.proofs.SpellingLemmas.{quotes-bytes}
 use Rattle.rdf_tokens.proofs.StateLemmas.{reached-step, reached-out}

@@ -1,6 +1,4 @@
-use Rattle.std.proofs.Common.{◌-◌, length, None}
-use Rattle.rdf_tokens.specs.Tokens.{with_length}
-use Rattle.rdf_tokens.specs.Front.{Reached}
+use Rattle.rdf_tokens.proofs.Prelude.{◌-◌, length, None, with_length, Reached}
 use Rattle.rdf_tokens.proofs.front.front_from.Given as goal
 
 abbrev pub invariant-loop-at : goal.invariant-loop-at

@@ -1,11 +1,6 @@
 -- The longer of the fronts by the states and by the spellings, and what is kept of an open token.
-use Rattle.std.proofs.Common.{◌≡◌, ◌||◌, true, false, ap, sym, ◌∙◌, subst, is_some, refl}
-use Rattle.std.specs.Str.{chars}
-use Rattle.rdf_terms.specs.Shapes.{fixed}
-use Rattle.rdf_tokens.specs.Fixed.{rows_of, live_by}
-use Rattle.rdf_tokens.specs.Front.{front_by, state_of}
+use Rattle.rdf_tokens.proofs.Prelude.{◌≡◌, ◌||◌, true, false, ap, sym, ◌∙◌, subst, is_some, refl, chars, fixed, rows_of, live_by, front_by, state_of, Walked}
 use Rattle.rdf_tokens.specs.Machine.{goes_on}
-use Rattle.rdf_tokens.specs.Walk.{Walked}
 use Rattle.rdf_tokens.proofs.StateLemmas.{front-bytes, live-bytes, open-live}
 use Rattle.rdf_tokens.proofs.WalkLemmas.{within-walk, walked-kept, walked_if}
 use Rattle.rdf_tokens.proofs.front.front_of.Goals as goal

@@ -1,8 +1,5 @@
-use Rattle.std.proofs.Common.{◌≡◌, ◌-◌, true, length, get_or, sym, ap, ◌∙◌, subst, Some, arith}
-use Rattle.std.specs.Str.{chars}
+use Rattle.rdf_tokens.proofs.Prelude.{◌≡◌, ◌-◌, true, length, get_or, sym, ap, ◌∙◌, subst, Some, arith, chars, IsRun, is_prefix_byte, BeginsNoName, HasNoNames, Ends}
 use Rattle.rdf_terms.specs.Classes.{is_letter}
-use Rattle.rdf_terms.specs.Runs.{IsRun}
-use Rattle.rdf_tokens.specs.NoNames.{is_prefix_byte, BeginsNoName, HasNoNames, Ends}
 use Rattle.rdf_tokens.proofs.NoNamesLemmas.{none_in}
 use Rattle.rdf_tokens.proofs.front.no_names_of.Goals as goal
 

@@ -1,6 +1,4 @@
-use Rattle.std.proofs.Common.{◌-◌, ◌≤◌, length}
-use Rattle.rdf_terms.specs.Runs.{PassBetween}
-use Rattle.rdf_tokens.specs.NoNames.{is_prefix_byte}
+use Rattle.rdf_tokens.proofs.Prelude.{◌-◌, ◌≤◌, length, PassBetween, is_prefix_byte}
 use Rattle.rdf_tokens.proofs.front.prefix_end.Given as goal
 
 abbrev pub invariant-loop-at : goal.invariant-loop-at

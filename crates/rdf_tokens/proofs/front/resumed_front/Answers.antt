@@ -1,8 +1,6 @@
 -- A token that is continued where its states had come to, in each family of states.
-use Rattle.std.proofs.Common.{arith, subst, None}
+use Rattle.rdf_tokens.proofs.Prelude.{arith, subst, None, with_length, Reached}
 use Rattle.rdf_tokens.specs.declared.states.machine.State.TheVariants.{Iri, Label, Text, Tag, Number, Name}
-use Rattle.rdf_tokens.specs.Tokens.{with_length}
-use Rattle.rdf_tokens.specs.Front.{Reached}
 use Rattle.rdf_tokens.proofs.StateLemmas.{reached-again}
 use Rattle.rdf_tokens.proofs.front.resumed_front.Goals as goal
 

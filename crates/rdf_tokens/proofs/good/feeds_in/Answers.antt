@@ -1,5 +1,4 @@
-use Rattle.std.proofs.Common.{◌==◌, ap, ◌∙◌, arith, w8}
-use Rattle.std.proofs.lemmas.Simd.{bitmask_splat, length-chunk, ones-mask_l}
+use Rattle.rdf_tokens.proofs.Prelude.{◌==◌, ap, ◌∙◌, arith, w8, bitmask_splat, length-chunk, ones-mask_l}
 use Rattle.std.specs.Int.RustNames.{count_ones}
 use lib.Lanes.{chunk}
 use Rattle.rdf_tokens.proofs.good.feeds_in.Goals as goal

@@ -1,8 +1,4 @@
-use Rattle.std.proofs.Common.{rules, ◌==◌, ◌+◌, ◌≤◌, count_by, length, take, drop, sym, ap, ap₂, ◌∙◌, arith}
-use Rattle.std.proofs.Math.Seq.{take-add}
-use Rattle.std.proofs.lemmas.List.Sums.{count_by-le-length}
-use Rattle.std.proofs.lemmas.List.{length-take-le}
-use Rattle.std.proofs.lemmas.Simd.{length-chunk}
+use Rattle.rdf_tokens.proofs.Prelude.{rules, ◌==◌, ◌+◌, ◌≤◌, count_by, length, take, drop, sym, ap, ap₂, ◌∙◌, arith, take-add, count_by-le-length, length-take-le, length-chunk}
 use lib.Lanes.{chunk}
 use Rattle.rdf_tokens.proofs.PlaceLemmas.{feeds-append}
 use Rattle.rdf_tokens.proofs.good.line_feeds.Goals as goal

@@ -1,5 +1,5 @@
 -- What both loops keep, over sixteen bytes and over one at a time: the line feeds counted are those before the place.
-use Rattle.std.proofs.Common.{◌≡◌, ◌==◌, ◌-◌, ◌≤◌, count_by, length, take}
+use Rattle.rdf_tokens.proofs.Prelude.{◌≡◌, ◌==◌, ◌-◌, ◌≤◌, count_by, length, take}
 use Rattle.rdf_tokens.proofs.good.line_feeds.Given as goal
 
 abbrev pub invariant-loop-at : goal.invariant-loop-at

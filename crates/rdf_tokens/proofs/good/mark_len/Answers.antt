@@ -1,13 +1,5 @@
 -- A byte order mark is the first character, of three bytes, or there is none.
-use Rattle.std.proofs.Common.{◌≡◌, ℕ, [], length, sym, ap, ◌∙◌, arith, true, ◌==◌}
-use Rattle.std.proofs.lemmas.Bool.{eqb-true, cond-true, cond-false, false_from_ne_true}
-use Rattle.std.proofs.lemmas.Bool.Decides.{nat_tests}
-use Rattle.std.proofs.lemmas.List.{nil_from_length}
-use Rattle.std.proofs.lemmas.Str.{chars-nil}
-use Rattle.std.specs.Str.{chars}
-use Rattle.std.specs.Char.{len_utf8}
-use Rattle.rdf_tokens.specs.Front.{bytes_of}
-use Rattle.rdf_tokens.specs.Good.{mark}
+use Rattle.rdf_tokens.proofs.Prelude.{◌≡◌, ℕ, [], length, sym, ap, ◌∙◌, arith, true, ◌==◌, eqb-true, cond-true, cond-false, false_from_ne_true, nat_tests, nil_from_length, chars-nil, chars, len_utf8, bytes_of, mark}
 use Rattle.rdf_tokens.proofs.CutLemmas.{mark_bytes}
 use Rattle.rdf_tokens.proofs.good.mark_len.Goals as goal
 

@@ -1,7 +1,4 @@
-use Rattle.std.proofs.Common.{◌≡◌, [], drop, take, sym, ap, ◌∙◌, is_some}
-use Rattle.std.proofs.Math.Seq.{drop-length, take-length}
-use Rattle.std.proofs.lemmas.Str.{utf8_valid_len-IsUtf8}
-use Rattle.std.specs.Str.Lossy.{utf8_valid_len, utf8_error_len}
+use Rattle.rdf_tokens.proofs.Prelude.{◌≡◌, [], drop, take, sym, ap, ◌∙◌, is_some, drop-length, take-length, utf8_valid_len-IsUtf8, utf8_valid_len, utf8_error_len}
 use Rattle.rdf_tokens.proofs.GoodLemmas.{utf8_error_len-nil}
 use Rattle.rdf_tokens.proofs.good.tested_front.Goals as goal
 

@@ -1,6 +1,5 @@
 -- What comes before bytes that begin no whole character is the good text, where it is good.
-use Rattle.std.proofs.Common.{◌≡◌, take, drop, sym, ap, ◌∙◌, subst, is_some, IsUtf8}
-use Rattle.std.specs.Str.Lossy.{utf8_valid_len, utf8_error_len}
+use Rattle.rdf_tokens.proofs.Prelude.{◌≡◌, take, drop, sym, ap, ◌∙◌, subst, is_some, IsUtf8, utf8_valid_len, utf8_error_len}
 use Rattle.rdf_tokens.proofs.GoodLemmas.{valid_cut}
 use Rattle.rdf_tokens.proofs.good.wide_front.Goals as goal
 

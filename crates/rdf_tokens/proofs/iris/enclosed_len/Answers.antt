@@ -1,11 +1,8 @@
 -- The states have come to the place where the inside of the reference ends.
-use Rattle.std.proofs.Common.{◌≡◌, ◌+◌, ◌≤◌, arith, true, sym, ◌∙◌, subst, None, IsUtf8}
-use Rattle.rdf_terms.specs.declared.kind.Kind.TheVariants.{IriRef}
+use Rattle.rdf_tokens.proofs.Prelude.{◌≡◌, ◌+◌, ◌≤◌, arith, true, sym, ◌∙◌, subst, None, IsUtf8, IriRef, Reached, begins_iri, counted_bytes}
 use Rattle.rdf_tokens.specs.declared.states.iri.Iri.TheVariants.{Inside}
 use Rattle.rdf_tokens.specs.declared.states.machine.State.TheVariants.{Iri}
-use Rattle.rdf_tokens.specs.Front.{Reached}
-use Rattle.rdf_tokens.specs.Quick.{IsToken, begins_iri}
-use Rattle.rdf_tokens.specs.Walk.{counted_bytes}
+use Rattle.rdf_tokens.specs.Quick.{IsToken}
 use Rattle.rdf_tokens.proofs.PlainQuick.{iri_reached, iri_whole}
 use Rattle.rdf_tokens.proofs.iris.enclosed_len.Goals as goal
 

@@ -1,5 +1,5 @@
 -- A part, or a run that does not begin with a hyphen.
-use Rattle.std.proofs.Common.{◌≡◌, get_or, arith}
+use Rattle.rdf_tokens.proofs.Prelude.{◌≡◌, get_or, arith}
 use Rattle.rdf_tokens.proofs.LocalLemmas.{run_in}
 use Rattle.rdf_tokens.proofs.local.front_end.Goals as goal
 

@@ -1,5 +1,5 @@
 -- A letter, by its length, and those after it.
-use Rattle.std.proofs.Common.{◌+◌, arith, sym}
+use Rattle.rdf_tokens.proofs.Prelude.{◌+◌, arith, sym}
 use Rattle.rdf_tokens.proofs.LocalLemmas.{leads_on, letter_in, letter_within}
 use Rattle.rdf_tokens.proofs.local.letters_end.Goals as goal
 

@@ -1,5 +1,5 @@
 -- Each part leads back to the state.
-use Rattle.std.proofs.Common.{arith}
+use Rattle.rdf_tokens.proofs.Prelude.{arith}
 use Rattle.rdf_tokens.specs.declared.states.machine.State.TheVariants.{Name}
 use Rattle.rdf_tokens.specs.declared.states.name.Name.TheVariants as name
 use Rattle.rdf_tokens.proofs.LocalLemmas.{rests_none}

@@ -1,5 +1,4 @@
-use Rattle.std.proofs.Common.{◌-◌, ◌≤◌, length}
-use Rattle.rdf_tokens.specs.Local.{RestsInLocal}
+use Rattle.rdf_tokens.proofs.Prelude.{◌-◌, ◌≤◌, length, RestsInLocal}
 use Rattle.rdf_tokens.proofs.local.local_end.Given as goal
 
 abbrev pub invariant-loop-next : goal.invariant-loop-next

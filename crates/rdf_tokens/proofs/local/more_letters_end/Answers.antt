@@ -1,5 +1,5 @@
 -- Each letter leads back to the state.
-use Rattle.std.proofs.Common.{◌+◌, arith, sym}
+use Rattle.rdf_tokens.proofs.Prelude.{◌+◌, arith, sym}
 use Rattle.rdf_tokens.specs.declared.states.machine.State.TheVariants.{Name}
 use Rattle.rdf_tokens.specs.declared.states.name.Name.TheVariants as name
 use Rattle.rdf_tokens.proofs.LocalLemmas.{letter_in, letter_within, rests_in, rests_none}

@@ -1,6 +1,5 @@
 -- What was passed leads back to the state, and the length is that of the next letter.
-use Rattle.std.proofs.Common.{◌-◌, ◌+◌, ◌≡◌, ◌≤◌, length}
-use Rattle.rdf_tokens.specs.Local.{RestsInLocal, letter_len}
+use Rattle.rdf_tokens.proofs.Prelude.{◌-◌, ◌+◌, ◌≡◌, ◌≤◌, length, RestsInLocal, letter_len}
 use Rattle.rdf_tokens.proofs.local.more_letters_end.Given as goal
 
 abbrev pub invariant-loop-len : goal.invariant-loop-len

@@ -1,7 +1,5 @@
 -- A dot and a run, or what may stand first too.
-use Rattle.std.proofs.Common.{◌∙◌, ℕ, Option, Some, None, sym}
-use Rattle.std.specs.Prelude.{IfSome}
-use Rattle.rdf_tokens.specs.Local.{BeginsLocal, RestsInLocal}
+use Rattle.rdf_tokens.proofs.Prelude.{◌∙◌, ℕ, Option, Some, None, sym, IfSome, BeginsLocal, RestsInLocal}
 use Rattle.rdf_tokens.proofs.LocalLemmas.{rests_dot, rests_in}
 use Rattle.rdf_tokens.proofs.local.onward_end.Goals as goal
 

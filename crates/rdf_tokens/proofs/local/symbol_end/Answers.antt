@@ -1,5 +1,5 @@
 -- A colon or an escape.
-use Rattle.std.proofs.Common.{◌∙◌, sym}
+use Rattle.rdf_tokens.proofs.Prelude.{◌∙◌, sym}
 use Rattle.rdf_tokens.proofs.LocalLemmas.{colon_in, escape_in, percent_in}
 use Rattle.rdf_tokens.proofs.local.symbol_end.Goals as goal
 

@@ -1,7 +1,5 @@
 -- A token that is too long, or one that the first bytes settle, is the step whatever comes after the text.
-use Rattle.std.proofs.Common.{sym, ◌∙◌, subst}
-use Rattle.std.specs.Str.{chars}
-use Rattle.rdf_tokens.specs.Quick.{IsQuick}
+use Rattle.rdf_tokens.proofs.Prelude.{sym, ◌∙◌, subst, chars, IsQuick}
 use Rattle.rdf_tokens.proofs.LookLemmas.{step-over, token-look}
 use Rattle.rdf_tokens.proofs.look.first_look.Goals as goal
 

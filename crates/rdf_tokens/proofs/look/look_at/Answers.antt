@@ -1,6 +1,5 @@
 -- A whole string or reference is the step whatever comes after the text.
-use Rattle.rdf_terms.specs.declared.kind.Kind.TheVariants.{IriRef, ShortString}
-use Rattle.rdf_tokens.specs.Look.{tail_after}
+use Rattle.rdf_tokens.proofs.Prelude.{IriRef, ShortString, tail_after}
 use Rattle.rdf_tokens.proofs.LookLemmas.{token-look}
 use Rattle.rdf_tokens.proofs.look.look_at.Goals as goal
 

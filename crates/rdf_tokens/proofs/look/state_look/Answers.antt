@@ -1,10 +1,5 @@
 -- Each answer of a look is the step of the definition, by what comes after the text.
-use Rattle.std.proofs.Common.{◌≡◌, ◌⊎◌, ◌||◌, true, false, inl, inr, sym, ap, ◌∙◌, subst}
-use Rattle.std.specs.Str.{chars}
-use Rattle.rdf_terms.specs.Shapes.{is_live}
-use Rattle.rdf_tokens.specs.Tokens.{is_empty, by_tail, decided}
-use Rattle.rdf_tokens.specs.Tokens.Tail.{ended}
-use Rattle.rdf_tokens.specs.Look.{tail_after, IsLook}
+use Rattle.rdf_tokens.proofs.Prelude.{◌≡◌, ◌⊎◌, ◌||◌, true, false, inl, inr, sym, ap, ◌∙◌, subst, chars, is_live, is_empty, by_tail, decided, ended, tail_after, IsLook}
 use Rattle.rdf_tokens.proofs.LookLemmas.{empty-bytes, step-open, step-done, decided-look, cuts-front}
 use Rattle.rdf_tokens.proofs.look.state_look.Goals as goal
 use Rattle.rdf_tokens.proofs.look.state_look.Goals.{in_default-via-in-GoesOn+else-waits, in_default-via-in-Broken+else-waits-2, in_default-via-in_default}

@@ -1,9 +1,5 @@
 -- The characters that were not counted before are those between two places.
-use Rattle.std.proofs.Common.{◌≡◌, ◌+◌, length, ap, ◌∙◌, subst, arith}
-use Rattle.std.specs.Prelude.{slice_range}
-use Rattle.std.specs.Str.{chars}
-use Rattle.std.proofs.lemmas.Str.{IsCharBoundary-from_drop}
-use Rattle.rdf_tokens.specs.Walk.{IsWalk, Walked}
+use Rattle.rdf_tokens.proofs.Prelude.{◌≡◌, ◌+◌, length, ap, ◌∙◌, subst, arith, slice_range, chars, IsCharBoundary-from_drop, IsWalk, Walked}
 use Rattle.rdf_tokens.proofs.OverLemmas.{fewer}
 use Rattle.rdf_tokens.proofs.WalkLemmas.{counted-up, walked-counted}
 use Rattle.rdf_tokens.proofs.over.count_up.Goals as goal

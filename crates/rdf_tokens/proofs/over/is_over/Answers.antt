@@ -1,8 +1,5 @@
 -- A short text is never over the limit, and a long one is where its states or a spelling go past it.
-use Rattle.std.proofs.Common.{◌||◌, sym, ap, ◌∙◌, arith}
-use Rattle.rdf_terms.specs.Shapes.{fixed}
-use Rattle.rdf_tokens.specs.Fixed.{rows_of}
-use Rattle.rdf_tokens.specs.Over.{fixed_over}
+use Rattle.rdf_tokens.proofs.Prelude.{◌||◌, sym, ap, ◌∙◌, arith, fixed, rows_of, fixed_over}
 use Rattle.rdf_tokens.proofs.OverLemmas.{over-bytes, over-short}
 use Rattle.rdf_tokens.proofs.over.is_over.Goals as goal
 

@@ -1,7 +1,5 @@
 -- Where the states stop, they or the count decide the definition's test.
-use Rattle.std.proofs.Common.{◌≡◌, ◌⊎◌, ◌≤◌, ◌||◌, true, false, is_some, length, ⊎_elim, sym, ap, ◌∙◌, arith}
-use Rattle.std.proofs.lemmas.Bool.{le-ltb}
-use Rattle.std.specs.Str.{chars}
+use Rattle.rdf_tokens.proofs.Prelude.{◌≡◌, ◌⊎◌, ◌≤◌, ◌||◌, true, false, is_some, length, ⊎_elim, sym, ap, ◌∙◌, arith, le-ltb, chars}
 use Rattle.rdf_tokens.specs.Machine.{kind_at, goes_on}
 use Rattle.rdf_tokens.proofs.OverLemmas.{ends-early, by_state}
 use Rattle.rdf_tokens.proofs.over.is_over_from.Goals as goal

@@ -1,6 +1,5 @@
 -- What is kept of a run without names tells that the states end within the limit.
-use Rattle.std.proofs.Common.{◌≡◌, true, sym, ap, ◌∙◌}
-use Rattle.rdf_tokens.specs.NoNames.{ends_within}
+use Rattle.rdf_tokens.proofs.Prelude.{◌≡◌, true, sym, ap, ◌∙◌, ends_within}
 use Rattle.rdf_tokens.proofs.OverLemmas.{names-within}
 use Rattle.rdf_tokens.proofs.over.is_shaped_over.Goals as goal
 

@@ -1,6 +1,5 @@
 -- The states have come over as many characters as are counted.
-use Rattle.std.proofs.Common.{subst}
-use Rattle.rdf_tokens.specs.Walk.{AreCounted, Walked}
+use Rattle.rdf_tokens.proofs.Prelude.{subst, AreCounted, Walked}
 use Rattle.rdf_tokens.proofs.WalkLemmas.{come-walk}
 use Rattle.rdf_tokens.proofs.over.resumed.Goals as goal
 

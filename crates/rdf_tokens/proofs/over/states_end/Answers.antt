@@ -1,5 +1,5 @@
 -- The states go over a whole text at most.
-use Rattle.std.proofs.Common.{refl, arith}
+use Rattle.rdf_tokens.proofs.Prelude.{refl, arith}
 use Rattle.rdf_tokens.proofs.ByteLemmas.{at-start}
 use Rattle.rdf_tokens.proofs.OverLemmas.{few, come-end}
 use Rattle.rdf_tokens.proofs.over.states_end.Goals as goal

@@ -1,6 +1,5 @@
 -- The loop over the states: how far they came, and why it stops.
-use Rattle.std.proofs.Common.{inl, inr, sym, ◌∙◌, arith}
-use Rattle.std.specs.Str.{chars}
+use Rattle.rdf_tokens.proofs.Prelude.{inl, inr, sym, ◌∙◌, arith, chars}
 use Rattle.rdf_tokens.specs.Machine.{step}
 use Rattle.rdf_tokens.specs.declared.states.machine.State.TheVariants.{Start}
 use Rattle.rdf_tokens.proofs.ByteLemmas.{char-step, run-more}

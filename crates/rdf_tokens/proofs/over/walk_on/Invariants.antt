@@ -1,6 +1,4 @@
-use Rattle.std.proofs.Common.{◌≡◌, ◌-◌, ◌+◌, ◌≤◌, length, take}
-use Rattle.std.specs.Str.{chars}
-use Rattle.rdf_tokens.specs.Front.{IsAt, state_of}
+use Rattle.rdf_tokens.proofs.Prelude.{◌≡◌, ◌-◌, ◌+◌, ◌≤◌, length, take, chars, IsAt, state_of}
 use Rattle.rdf_tokens.proofs.over.walk_on.Given as goal
 
 abbrev pub invariant-loop-count : goal.invariant-loop-count

@@ -1,7 +1,5 @@
 -- Two carets are a token.
-use Rattle.std.proofs.Common.{◌∙◌, sym, subst, IsUtf8}
-use Rattle.rdf_terms.specs.declared.kind.Dialect.TheVariants.{Turtle}
-use Rattle.rdf_terms.specs.declared.kind.Kind.TheVariants.{Carets}
+use Rattle.rdf_tokens.proofs.Prelude.{◌∙◌, sym, subst, IsUtf8, Turtle, Carets}
 use Rattle.rdf_tokens.specs.Quick.{IsToken}
 use Rattle.rdf_tokens.proofs.QuickLemmas.{quick_carets}
 use Rattle.rdf_tokens.proofs.peek.carets_len.Goals as goal

@@ -1,8 +1,6 @@
 -- A decimal, by its digits before and after the dot and the byte after them.
-use Rattle.std.proofs.Common.{◌∙◌, inl, refl, sym, subst, IsUtf8}
-use Rattle.rdf_terms.specs.declared.kind.Dialect.TheVariants.{Turtle}
-use Rattle.rdf_terms.specs.declared.kind.Kind.TheVariants.{Decimal}
-use Rattle.rdf_tokens.specs.Quick.{BeginsNumber, IsToken}
+use Rattle.rdf_tokens.proofs.Prelude.{◌∙◌, inl, refl, sym, subst, IsUtf8, Turtle, Decimal, BeginsNumber}
+use Rattle.rdf_tokens.specs.Quick.{IsToken}
 use Rattle.rdf_tokens.proofs.NumberQuick.{quick_decimal}
 use Rattle.rdf_tokens.proofs.peek.decimal_len.Goals as goal
 

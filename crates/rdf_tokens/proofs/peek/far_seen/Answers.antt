@@ -1,8 +1,5 @@
 -- A token is seen after one space or none.
-use Rattle.std.proofs.Common.{◌≡◌, sym, ap, ◌∙◌, subst}
-use Rattle.std.specs.Prelude.{IfSome}
-use Rattle.std.specs.Str.{IsCharBoundary}
-use Rattle.rdf_tokens.specs.Peek.{IsBare, Sees, one_space}
+use Rattle.rdf_tokens.proofs.Prelude.{◌≡◌, sym, ap, ◌∙◌, subst, IfSome, IsCharBoundary, IsBare, Sees, one_space}
 use Rattle.rdf_tokens.proofs.PeekLemmas.{seen_after, space_cut}
 use Rattle.rdf_tokens.proofs.peek.far_seen.Goals as goal
 

@@ -1,8 +1,6 @@
 -- An integer, by its digits and the byte after them.
-use Rattle.std.proofs.Common.{◌∙◌, inl, refl, sym, subst, IsUtf8}
-use Rattle.rdf_terms.specs.declared.kind.Dialect.TheVariants.{Turtle}
-use Rattle.rdf_terms.specs.declared.kind.Kind.TheVariants.{Integer}
-use Rattle.rdf_tokens.specs.Quick.{BeginsNumber, IsToken}
+use Rattle.rdf_tokens.proofs.Prelude.{◌∙◌, inl, refl, sym, subst, IsUtf8, Turtle, Integer, BeginsNumber}
+use Rattle.rdf_tokens.specs.Quick.{IsToken}
 use Rattle.rdf_tokens.proofs.NumberQuick.{quick_integer}
 use Rattle.rdf_tokens.proofs.peek.integer_len.Goals as goal
 

@@ -1,8 +1,6 @@
 -- A reference, by its brackets and the run between them.
-use Rattle.std.proofs.Common.{◌≡◌, ◌+◌, ◌∙◌, true, sym, subst, IsUtf8}
-use Rattle.rdf_terms.specs.declared.kind.Dialect.TheVariants.{Turtle}
-use Rattle.rdf_terms.specs.declared.kind.Kind.TheVariants.{IriRef}
-use Rattle.rdf_tokens.specs.Quick.{IsToken, begins_iri}
+use Rattle.rdf_tokens.proofs.Prelude.{◌≡◌, ◌+◌, ◌∙◌, true, sym, subst, IsUtf8, Turtle, IriRef, begins_iri}
+use Rattle.rdf_tokens.specs.Quick.{IsToken}
 use Rattle.rdf_tokens.proofs.PlainQuick.{quick_iri}
 use Rattle.rdf_tokens.proofs.peek.iri_len.Goals as goal
 

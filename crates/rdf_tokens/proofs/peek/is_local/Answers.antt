@@ -1,4 +1,4 @@
-use Rattle.std.proofs.Common.{rules}
+use Rattle.rdf_tokens.proofs.Prelude.{rules}
 use Rattle.rdf_tokens.proofs.peek.is_local.Goals as goal
 
 pub returns-then-from-end : goal.returns-then-from-end

@@ -1,7 +1,5 @@
 -- A label, by its run and the byte after it.
-use Rattle.std.proofs.Common.{◌∙◌, sym, subst, IsUtf8}
-use Rattle.rdf_terms.specs.declared.kind.Dialect.TheVariants.{Turtle}
-use Rattle.rdf_terms.specs.declared.kind.Kind.TheVariants.{LabelNode}
+use Rattle.rdf_tokens.proofs.Prelude.{◌∙◌, sym, subst, IsUtf8, Turtle, LabelNode}
 use Rattle.rdf_tokens.specs.Quick.{IsToken}
 use Rattle.rdf_tokens.proofs.PlainQuick.{quick_label}
 use Rattle.rdf_tokens.proofs.peek.label_len.Goals as goal

@@ -1,5 +1,5 @@
 -- No backslash stands between the colon and the end.
-use Rattle.std.proofs.Common.{◌∙◌, sym}
+use Rattle.rdf_tokens.proofs.Prelude.{◌∙◌, sym}
 use Rattle.rdf_tokens.proofs.PeekLemmas.{known_past}
 use Rattle.rdf_tokens.proofs.peek.lacks_escapes.Goals as goal
 

@@ -1,12 +1,6 @@
 -- A name with an empty prefix, by the run after its colon and the byte after it.
-use Rattle.std.proofs.Common.{◌≡◌, ◌==◌, ◌∙◌, ℕ, List, true, inl, refl, sym, ap, subst, cond, get_or, take, arith, IsUtf8}
-use Rattle.std.proofs.lemmas.Bool.{cond-false, ne_eqb}
-use Rattle.rdf_terms.specs.declared.kind.Dialect.TheVariants.{Turtle}
-use Rattle.rdf_terms.specs.declared.kind.Kind.TheVariants.{PnameLn, PnameNs}
-use Rattle.rdf_terms.specs.Runs.{IsRun, is_name_byte}
-use Rattle.rdf_tokens.specs.Peek.{local_kind}
-use Rattle.rdf_tokens.specs.Quick.{IsToken, is_colon, is_name_end}
-use Rattle.rdf_tokens.specs.Scans.{KnowsColon}
+use Rattle.rdf_tokens.proofs.Prelude.{◌≡◌, ◌==◌, ◌∙◌, ℕ, List, true, inl, refl, sym, ap, subst, cond, get_or, take, arith, IsUtf8, cond-false, ne_eqb, Turtle, PnameLn, PnameNs, IsRun, is_name_byte, local_kind, is_colon, is_name_end, KnowsColon}
+use Rattle.rdf_tokens.specs.Quick.{IsToken}
 use Rattle.rdf_tokens.proofs.LocalLemmas.{quick_local}
 use Rattle.rdf_tokens.proofs.PeekLemmas.{run_past}
 use Rattle.rdf_tokens.proofs.QuickLemmas.{quick_namespace}

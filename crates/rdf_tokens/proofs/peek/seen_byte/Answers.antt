@@ -1,6 +1,5 @@
 -- The byte is the token.
-use Rattle.std.proofs.Common.{refl}
-use Rattle.rdf_terms.specs.declared.kind.Dialect.TheVariants.{Turtle}
+use Rattle.rdf_tokens.proofs.Prelude.{refl, Turtle}
 use Rattle.rdf_tokens.proofs.QuickLemmas.{quick_single}
 use Rattle.rdf_tokens.proofs.peek.seen_byte.Goals as goal
 

@@ -1,6 +1,5 @@
 -- The dot is the token, by the byte after it.
-use Rattle.std.proofs.Common.{refl, sym, subst, ◌∙◌, IsUtf8}
-use Rattle.rdf_terms.specs.declared.kind.Dialect.TheVariants.{Turtle}
+use Rattle.rdf_tokens.proofs.Prelude.{refl, sym, subst, ◌∙◌, IsUtf8, Turtle}
 use Rattle.rdf_terms.specs.declared.kind.Kind.TheVariants.{Dot}
 use Rattle.rdf_tokens.specs.Quick.{IsToken}
 use Rattle.rdf_tokens.proofs.QuickLemmas.{quick_dot}

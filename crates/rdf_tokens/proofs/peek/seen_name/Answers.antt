@@ -1,12 +1,7 @@
 -- A name, by the colon, the runs beside it and the byte after them; or the word `a`.
-use Rattle.std.proofs.Common.{◌≡◌, ◌+◌, ◌∙◌, true, inr, refl, sym, subst, length, get_or, take, IsUtf8}
-use Rattle.std.proofs.lemmas.Bool.{and_parts, ltb-true}
-use Rattle.rdf_terms.specs.declared.kind.Dialect.TheVariants.{Turtle}
-use Rattle.rdf_terms.specs.declared.kind.Kind.TheVariants.{A, PnameLn}
+use Rattle.rdf_tokens.proofs.Prelude.{◌≡◌, ◌+◌, ◌∙◌, true, inr, refl, sym, subst, length, get_or, take, IsUtf8, and_parts, ltb-true, Turtle, A, PnameLn, IsRun, is_name_byte, KnowsColon}
 use Rattle.rdf_terms.specs.Classes.{is_letter}
-use Rattle.rdf_terms.specs.Runs.{IsRun, is_name_byte}
 use Rattle.rdf_tokens.specs.Quick.{IsToken}
-use Rattle.rdf_tokens.specs.Scans.{KnowsColon}
 use Rattle.rdf_tokens.proofs.LocalLemmas.{quick_local}
 use Rattle.rdf_tokens.proofs.PeekLemmas.{local_is, prefix_bytes, run_past}
 use Rattle.rdf_tokens.proofs.QuickLemmas.{quick_a}

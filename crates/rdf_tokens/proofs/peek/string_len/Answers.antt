@@ -1,9 +1,7 @@
 -- A string, by its quotes and the run between them.
-use Rattle.std.proofs.Common.{◌≡◌, ◌+◌, ◌∙◌, true, sym, subst, IsUtf8}
-use Rattle.rdf_terms.specs.declared.kind.Dialect.TheVariants.{Turtle}
-use Rattle.rdf_terms.specs.declared.kind.Kind.TheVariants.{ShortString}
+use Rattle.rdf_tokens.proofs.Prelude.{◌≡◌, ◌+◌, ◌∙◌, true, sym, subst, IsUtf8, Turtle, ShortString, opens_with}
 use Rattle.rdf_tokens.specs.declared.states.text.Quote.TheVariants.{Double}
-use Rattle.rdf_tokens.specs.Quick.{IsToken, opens_with}
+use Rattle.rdf_tokens.specs.Quick.{IsToken}
 use Rattle.rdf_tokens.proofs.StringLemmas.{run_string}
 use Rattle.rdf_tokens.proofs.peek.string_len.Goals as goal
 

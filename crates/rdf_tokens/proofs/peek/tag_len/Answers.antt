@@ -1,7 +1,5 @@
 -- The tag is one in both dialects.
-use Rattle.std.proofs.Common.{rules}
-use Rattle.rdf_terms.specs.declared.kind.Dialect.TheVariants.{Turtle}
-use Rattle.rdf_tokens.specs.Quick.{IsQuick}
+use Rattle.rdf_tokens.proofs.Prelude.{rules, Turtle, IsQuick}
 use Rattle.rdf_tokens.proofs.peek.tag_len.Goals as goal
 
 pub returns-in-Some-LangTag : goal.returns-in-Some-LangTag

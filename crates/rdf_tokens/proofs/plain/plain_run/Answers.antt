@@ -1,5 +1,4 @@
-use Rattle.std.proofs.Common.{sym, subst}
-use Rattle.rdf_terms.specs.Runs.{IsRun}
+use Rattle.rdf_tokens.proofs.Prelude.{sym, subst, IsRun}
 use Rattle.rdf_tokens.specs.declared.plain.RunClass.{RunClass}
 use Rattle.rdf_tokens.specs.Plain.{is_plain}
 use Rattle.rdf_tokens.proofs.plain.plain_run.Goals as goal

@@ -1,5 +1,4 @@
-use Rattle.std.proofs.Common.{ℕ, ap, sym}
-use Rattle.rdf_tokens.specs.Quick.{begins_directive}
+use Rattle.rdf_tokens.proofs.Prelude.{ℕ, ap, sym, begins_directive}
 use Rattle.rdf_tokens.proofs.quick.begins_directive.Goals as goal
 
 pub returns-then-first-eq98 : goal.returns-then-first-eq98

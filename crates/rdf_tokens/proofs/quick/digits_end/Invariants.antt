@@ -1,6 +1,4 @@
-use Rattle.std.proofs.Common.{◌-◌, ◌≤◌, length}
-use Rattle.rdf_terms.specs.Classes.{is_digit}
-use Rattle.rdf_terms.specs.Runs.{PassBetween}
+use Rattle.rdf_tokens.proofs.Prelude.{◌-◌, ◌≤◌, length, is_digit, PassBetween}
 use Rattle.rdf_tokens.proofs.quick.digits_end.Given as goal
 
 abbrev pub invariant-loop-at : goal.invariant-loop-at

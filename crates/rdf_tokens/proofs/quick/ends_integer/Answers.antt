@@ -1,4 +1,4 @@
-use Rattle.std.proofs.Common.{rules}
+use Rattle.rdf_tokens.proofs.Prelude.{rules}
 use Rattle.rdf_tokens.proofs.quick.ends_integer.Goals as goal
 
 pub returns-after-matches : goal.returns-after-matches

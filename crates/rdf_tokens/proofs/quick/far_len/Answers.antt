@@ -1,9 +1,6 @@
 -- A name that goes on after its run, by the parts of its local part and what comes after.
-use Rattle.std.proofs.Common.{◌≡◌, ◌+◌, ◌∙◌, true, sym, subst, IsUtf8}
-use Rattle.rdf_terms.specs.declared.kind.Dialect.TheVariants.{Turtle}
-use Rattle.rdf_terms.specs.declared.kind.Kind.TheVariants.{PnameLn}
-use Rattle.rdf_terms.specs.Runs.{IsRun, is_name_byte}
-use Rattle.rdf_tokens.specs.Quick.{IsToken, IsPrefix, is_colon}
+use Rattle.rdf_tokens.proofs.Prelude.{◌≡◌, ◌+◌, ◌∙◌, true, sym, subst, IsUtf8, Turtle, PnameLn, IsRun, is_name_byte, IsPrefix, is_colon}
+use Rattle.rdf_tokens.specs.Quick.{IsToken}
 use Rattle.rdf_tokens.proofs.QuickLemmas.{quick_far}
 use Rattle.rdf_tokens.proofs.quick.far_len.Goals as goal
 

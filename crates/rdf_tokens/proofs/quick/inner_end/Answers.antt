@@ -1,11 +1,5 @@
 -- A quote with a run after it, or an escape with one.
-use Rattle.std.proofs.Common.{◌≡◌, ◌+◌, ◌∙◌, Option, Some, None, ℕ, List, sym, subst, true, arith}
-use Rattle.std.specs.Prelude.{◌<◌, IfSome}
-use Rattle.rdf_terms.specs.declared.runs.Run.{Run}
-use Rattle.rdf_terms.specs.Runs.{IsRun, goes_over}
-use Rattle.rdf_tokens.specs.declared.states.text.Quote.{Quote}
-use Rattle.rdf_tokens.specs.Escapes.{FitsInString, IsEscapeThen}
-use Rattle.rdf_tokens.specs.Quick.{RestsInLong, long_run, stands_at}
+use Rattle.rdf_tokens.proofs.Prelude.{◌≡◌, ◌+◌, ◌∙◌, Option, Some, None, ℕ, List, sym, subst, true, arith, ◌<◌, IfSome, Run, IsRun, goes_over, Quote, FitsInString, IsEscapeThen, RestsInLong, long_run, stands_at}
 use Rattle.rdf_tokens.proofs.FitEscapes.{fits_then, long_slash}
 use Rattle.rdf_tokens.proofs.LongLemmas.{quoted_fits, quoted_rests}
 use Rattle.rdf_tokens.proofs.RestEscapes.{escape_on, long_then}

@@ -1,6 +1,5 @@
 -- Each part leads back to the state inside.
-use Rattle.std.proofs.Common.{subst, arith}
-use Rattle.rdf_terms.specs.Runs.{IsRun, goes_over}
+use Rattle.rdf_tokens.proofs.Prelude.{subst, arith, IsRun, goes_over}
 use Rattle.rdf_tokens.specs.declared.states.machine.State.TheVariants.{Text}
 use Rattle.rdf_tokens.specs.declared.states.text.Text.TheVariants as text
 use Rattle.rdf_tokens.proofs.FitEscapes.{fits_run, fits-more, long_slash}

@@ -1,6 +1,4 @@
-use Rattle.std.proofs.Common.{◌-◌, ◌≤◌, length}
-use Rattle.rdf_tokens.specs.Escapes.{FitsInString}
-use Rattle.rdf_tokens.specs.Quick.{RestsInLong}
+use Rattle.rdf_tokens.proofs.Prelude.{◌-◌, ◌≤◌, length, FitsInString, RestsInLong}
 use Rattle.rdf_tokens.proofs.quick.inside_end.Given as goal
 
 abbrev pub invariant-loop-next : goal.invariant-loop-next

@@ -1,5 +1,5 @@
 -- The byte after the dot is compared with the digits.
-use Rattle.std.proofs.Common.{rules, tests}
+use Rattle.rdf_tokens.proofs.Prelude.{rules, tests}
 use Rattle.rdf_tokens.proofs.quick.is_dot.Goals as goal
 
 pub returns-then-bytes-lt128 : goal.returns-then-bytes-lt128

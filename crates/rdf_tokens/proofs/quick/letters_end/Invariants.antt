@@ -1,6 +1,5 @@
-use Rattle.std.proofs.Common.{◌-◌, ◌≤◌, length}
+use Rattle.rdf_tokens.proofs.Prelude.{◌-◌, ◌≤◌, length, PassBetween}
 use Rattle.rdf_terms.specs.Classes.{is_letter}
-use Rattle.rdf_terms.specs.Runs.{PassBetween}
 use Rattle.rdf_tokens.proofs.quick.letters_end.Given as goal
 
 abbrev pub invariant-loop-at : goal.invariant-loop-at

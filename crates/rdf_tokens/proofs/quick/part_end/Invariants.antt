@@ -1,6 +1,4 @@
-use Rattle.std.proofs.Common.{◌-◌, ◌≤◌, length}
-use Rattle.rdf_tokens.specs.Quick.{is_part_byte}
-use Rattle.rdf_terms.specs.Runs.{PassBetween}
+use Rattle.rdf_tokens.proofs.Prelude.{◌-◌, ◌≤◌, length, is_part_byte, PassBetween}
 use Rattle.rdf_tokens.proofs.quick.part_end.Given as goal
 
 abbrev pub invariant-loop-at : goal.invariant-loop-at

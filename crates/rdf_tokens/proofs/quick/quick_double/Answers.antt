@@ -1,8 +1,7 @@
 -- A double, by the end of its digits, its exponent's sign and digits, and the byte after them.
-use Rattle.std.proofs.Common.{◌∙◌, sym, subst, IsUtf8}
-use Rattle.rdf_terms.specs.declared.kind.Dialect.TheVariants.{Turtle}
+use Rattle.rdf_tokens.proofs.Prelude.{◌∙◌, sym, subst, IsUtf8, Turtle, BeginsNumber, IsMantissa}
 use Rattle.rdf_terms.specs.declared.kind.Kind.TheVariants.{Double}
-use Rattle.rdf_tokens.specs.Quick.{BeginsNumber, IsMantissa, IsToken}
+use Rattle.rdf_tokens.specs.Quick.{IsToken}
 use Rattle.rdf_tokens.proofs.NumberQuick.{quick_double}
 use Rattle.rdf_tokens.proofs.quick.quick_double.Goals as goal
 

@@ -1,8 +1,8 @@
 -- The first byte tells the token, or a name is sought.
-use Rattle.std.proofs.Common.{◌≡◌, ◌<◌, ◌∙◌, true, sym, ap, subst, length, get_or, IsUtf8}
+use Rattle.rdf_tokens.proofs.Prelude.{◌≡◌, ◌<◌, ◌∙◌, true, sym, ap, subst, length, get_or, IsUtf8, BeginsNumber, IsQuick, single, is_colon}
 use Rattle.rdf_terms.specs.declared.kind.Kind.TheVariants.{Dot}
 use Rattle.rdf_terms.specs.Classes.{is_letter}
-use Rattle.rdf_tokens.specs.Quick.{BeginsNumber, IsQuick, IsToken, single, is_colon}
+use Rattle.rdf_tokens.specs.Quick.{IsToken}
 use Rattle.rdf_tokens.proofs.QuickLemmas.{named, numbered, quick_dot, quick_kind, signed, some-bytes, sought}
 use Rattle.rdf_tokens.proofs.quick.quick_front.Goals as goal
 

@@ -1,7 +1,6 @@
 -- A reference, by its brackets and the run between them.
-use Rattle.std.proofs.Common.{◌≡◌, ◌+◌, ◌∙◌, true, sym, subst, IsUtf8}
-use Rattle.rdf_terms.specs.declared.kind.Kind.TheVariants.{IriRef}
-use Rattle.rdf_tokens.specs.Quick.{IsToken, begins_iri}
+use Rattle.rdf_tokens.proofs.Prelude.{◌≡◌, ◌+◌, ◌∙◌, true, sym, subst, IsUtf8, IriRef, begins_iri}
+use Rattle.rdf_tokens.specs.Quick.{IsToken}
 use Rattle.rdf_tokens.proofs.PlainQuick.{quick_iri}
 use Rattle.rdf_tokens.proofs.quick.quick_iri.Goals as goal
 

@@ -1,7 +1,6 @@
 -- A label, by its run and the byte after it.
-use Rattle.std.proofs.Common.{◌≡◌, ◌∙◌, true, sym, subst, IsUtf8}
-use Rattle.rdf_terms.specs.declared.kind.Kind.TheVariants.{LabelNode}
-use Rattle.rdf_tokens.specs.Quick.{IsToken, begins_label}
+use Rattle.rdf_tokens.proofs.Prelude.{◌≡◌, ◌∙◌, true, sym, subst, IsUtf8, LabelNode, begins_label}
+use Rattle.rdf_tokens.specs.Quick.{IsToken}
 use Rattle.rdf_tokens.proofs.PlainQuick.{quick_label}
 use Rattle.rdf_tokens.proofs.quick.quick_label.Goals as goal
 

@@ -1,9 +1,6 @@
 -- A name, by the colon, the run after it and the byte that ends it.
-use Rattle.std.proofs.Common.{◌≡◌, ◌+◌, ◌∙◌, true, sym, subst, get_or, arith, IsUtf8}
-use Rattle.rdf_terms.specs.declared.kind.Dialect.TheVariants.{Turtle}
-use Rattle.rdf_terms.specs.declared.kind.Kind.TheVariants.{PnameNs, PnameLn}
-use Rattle.rdf_terms.specs.Runs.{IsRun, is_name_byte}
-use Rattle.rdf_tokens.specs.Quick.{IsToken, IsPrefix, is_colon}
+use Rattle.rdf_tokens.proofs.Prelude.{◌≡◌, ◌+◌, ◌∙◌, true, sym, subst, get_or, arith, IsUtf8, Turtle, PnameNs, PnameLn, IsRun, is_name_byte, IsPrefix, is_colon}
+use Rattle.rdf_tokens.specs.Quick.{IsToken}
 use Rattle.rdf_tokens.proofs.LocalLemmas.{quick_local}
 use Rattle.rdf_tokens.proofs.QuickLemmas.{quick_namespace}
 use Rattle.rdf_tokens.proofs.quick.quick_local.Goals as goal

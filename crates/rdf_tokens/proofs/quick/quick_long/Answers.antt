@@ -1,8 +1,6 @@
 -- A string between three quotes, by what stands inside.
-use Rattle.std.proofs.Common.{◌≡◌, ◌+◌, ◌∙◌, true, sym, subst, IsUtf8}
-use Rattle.rdf_terms.specs.declared.kind.Dialect.TheVariants.{Turtle}
-use Rattle.rdf_terms.specs.declared.kind.Kind.TheVariants.{LongString}
-use Rattle.rdf_tokens.specs.Quick.{IsToken, opens_with}
+use Rattle.rdf_tokens.proofs.Prelude.{◌≡◌, ◌+◌, ◌∙◌, true, sym, subst, IsUtf8, Turtle, LongString, opens_with}
+use Rattle.rdf_tokens.specs.Quick.{IsToken}
 use Rattle.rdf_tokens.proofs.LongQuick.{quick_long}
 use Rattle.rdf_tokens.proofs.quick.quick_long.Goals as goal
 

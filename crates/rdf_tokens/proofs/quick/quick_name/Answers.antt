@@ -1,10 +1,6 @@
 -- The prefix of a name, by the run after its first letter.
-use Rattle.std.proofs.Common.{◌≡◌, ◌+◌, ◌∙◌, true, inr, sym, subst, length, IsUtf8}
-use Rattle.std.proofs.lemmas.Bool.{and_parts, ltb-true}
-use Rattle.rdf_terms.specs.declared.kind.Dialect.TheVariants.{Turtle}
-use Rattle.rdf_terms.specs.declared.kind.Kind.TheVariants.{A}
-use Rattle.rdf_terms.specs.Runs.{IsRun, is_name_byte}
-use Rattle.rdf_tokens.specs.Quick.{IsToken, is_colon}
+use Rattle.rdf_tokens.proofs.Prelude.{◌≡◌, ◌+◌, ◌∙◌, true, inr, sym, subst, length, IsUtf8, and_parts, ltb-true, Turtle, A, IsRun, is_name_byte, is_colon}
+use Rattle.rdf_tokens.specs.Quick.{IsToken}
 use Rattle.rdf_tokens.proofs.QuickLemmas.{quick_a}
 use Rattle.rdf_tokens.proofs.quick.quick_name.Goals as goal
 

@@ -1,6 +1,5 @@
 -- The prefix is empty, and the local part the run after the colon.
-use Rattle.std.proofs.Common.{inl, refl, subst}
-use Rattle.rdf_terms.specs.Runs.{IsRun, is_name_byte}
+use Rattle.rdf_tokens.proofs.Prelude.{inl, refl, subst, IsRun, is_name_byte}
 use Rattle.rdf_tokens.proofs.quick.quick_named.Goals as goal
 
 pub quick_local-requires-clause-prefix : goal.quick_local-requires-clause-prefix

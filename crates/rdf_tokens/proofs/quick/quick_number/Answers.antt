@@ -1,8 +1,6 @@
 -- The parts of a number, by its runs of digits and the bytes between them.
-use Rattle.std.proofs.Common.{◌∙◌, sym, subst, IsUtf8}
-use Rattle.rdf_terms.specs.declared.kind.Dialect.TheVariants.{Turtle}
-use Rattle.rdf_terms.specs.declared.kind.Kind.TheVariants.{Integer, Decimal}
-use Rattle.rdf_tokens.specs.Quick.{BeginsNumber, IsToken}
+use Rattle.rdf_tokens.proofs.Prelude.{◌∙◌, sym, subst, IsUtf8, Turtle, Integer, Decimal, BeginsNumber}
+use Rattle.rdf_tokens.specs.Quick.{IsToken}
 use Rattle.rdf_tokens.proofs.NumberQuick.{quick_integer, quick_decimal}
 use Rattle.rdf_tokens.proofs.quick.quick_number.Goals as goal
 

@@ -1,8 +1,6 @@
 -- A string, by its quotes and the run between them.
-use Rattle.std.proofs.Common.{◌≡◌, ◌+◌, ◌∙◌, true, sym, subst, IsUtf8}
-use Rattle.rdf_terms.specs.declared.kind.Kind.TheVariants.{ShortString}
-use Rattle.rdf_terms.specs.Runs.{IsRun, goes_over}
-use Rattle.rdf_tokens.specs.Quick.{IsToken, opens_with, stands_at}
+use Rattle.rdf_tokens.proofs.Prelude.{◌≡◌, ◌+◌, ◌∙◌, true, sym, subst, IsUtf8, ShortString, IsRun, goes_over, opens_with, stands_at}
+use Rattle.rdf_tokens.specs.Quick.{IsToken}
 use Rattle.rdf_tokens.proofs.PlainQuick.{quick_empty}
 use Rattle.rdf_tokens.proofs.StringLemmas.{run_string}
 use Rattle.rdf_tokens.proofs.quick.quick_string.Goals as goal

@@ -1,6 +1,5 @@
 -- A tag, by its parts and the byte after them.
-use Rattle.std.proofs.Common.{◌≡◌, ◌∙◌, true, sym, subst}
-use Rattle.rdf_tokens.specs.Quick.{is_tag_end}
+use Rattle.rdf_tokens.proofs.Prelude.{◌≡◌, ◌∙◌, true, sym, subst, is_tag_end}
 use Rattle.rdf_tokens.proofs.TagQuick.{whole_tag}
 use Rattle.rdf_tokens.proofs.quick.quick_tag.Goals as goal
 

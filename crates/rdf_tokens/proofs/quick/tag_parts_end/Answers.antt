@@ -1,8 +1,6 @@
 -- The first part of a tag, and each later one.
-use Rattle.std.proofs.Common.{subst, arith}
+use Rattle.rdf_tokens.proofs.Prelude.{subst, arith, IsRun, IsLaterPart}
 use Rattle.rdf_terms.specs.Classes.{is_letter}
-use Rattle.rdf_terms.specs.Runs.{IsRun}
-use Rattle.rdf_tokens.specs.Quick.{IsLaterPart}
 use Rattle.rdf_tokens.proofs.TagQuick.{first_part, later_part}
 use Rattle.rdf_tokens.proofs.quick.tag_parts_end.Goals as goal
 

@@ -1,6 +1,4 @@
-use Rattle.std.proofs.Common.{◌-◌, ◌≤◌, length}
-use Rattle.rdf_terms.specs.declared.kind.Dialect.{Dialect}
-use Rattle.rdf_tokens.specs.Quick.{IsTagTo}
+use Rattle.rdf_tokens.proofs.Prelude.{◌-◌, ◌≤◌, length, Dialect, IsTagTo}
 use Rattle.rdf_tokens.proofs.quick.tag_parts_end.Given as goal
 
 abbrev pub invariant-loop-next : goal.invariant-loop-next

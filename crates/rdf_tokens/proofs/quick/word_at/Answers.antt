@@ -1,10 +1,6 @@
 -- The word, by its bytes and the byte after them.
-use Rattle.std.proofs.Common.{◌≡◌, ◌==◌, ◌∙◌, ℕ, List, [], ◌∷◌, true, sym, subst, length, IsUtf8}
-use Rattle.std.proofs.lemmas.Bool.{and_parts, eqb-true}
-use Rattle.rdf_terms.specs.declared.kind.Dialect.TheVariants.{Turtle}
-use Rattle.rdf_terms.specs.declared.kind.Kind.TheVariants.{True, False}
-use Rattle.rdf_terms.specs.Runs.{IsRun, is_name_byte}
-use Rattle.rdf_tokens.specs.Quick.{IsToken, is_word}
+use Rattle.rdf_tokens.proofs.Prelude.{◌≡◌, ◌==◌, ◌∙◌, ℕ, List, [], ◌∷◌, true, sym, subst, length, IsUtf8, and_parts, eqb-true, Turtle, True, False, IsRun, is_name_byte, is_word}
+use Rattle.rdf_tokens.specs.Quick.{IsToken}
 use Rattle.rdf_tokens.proofs.WordQuick.{quick_true, quick_false}
 use Rattle.rdf_tokens.proofs.quick.word_at.Goals as goal
 

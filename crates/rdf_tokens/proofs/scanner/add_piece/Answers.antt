@@ -1,4 +1,4 @@
-use Rattle.std.proofs.Common.{rules}
+use Rattle.rdf_tokens.proofs.Prelude.{rules}
 use Rattle.rdf_tokens.proofs.scanner.add_piece.Goals as goal
 
 pub returns-then-front-clause-text : goal.returns-then-front-clause-text

@@ -1,6 +1,5 @@
 -- The character at the second byte.
-use Rattle.std.proofs.Common.{◌≡◌, true, inl, inr, sym, ◌∙◌, subst}
-use Rattle.rdf_tokens.specs.Strings.{begins_high}
+use Rattle.rdf_tokens.proofs.Prelude.{◌≡◌, true, inl, inr, sym, ◌∙◌, subst, begins_high}
 use Rattle.rdf_tokens.proofs.StringLemmas.{high_char}
 use Rattle.rdf_tokens.proofs.strings.first_end.Goals as goal
 

@@ -1,9 +1,6 @@
 -- The states have come to the place where the inside of the string ends.
-use Rattle.std.proofs.Common.{◌≡◌, ◌+◌, ◌≤◌, arith, true, sym, ◌∙◌, subst, IsUtf8}
-use Rattle.rdf_terms.specs.declared.kind.Kind.TheVariants.{ShortString}
-use Rattle.rdf_tokens.specs.Quick.{IsToken, opens_with, stands_at}
-use Rattle.rdf_tokens.specs.Strings.{IsFirst}
-use Rattle.rdf_tokens.specs.Walk.{IsFit, counted_bytes}
+use Rattle.rdf_tokens.proofs.Prelude.{◌≡◌, ◌+◌, ◌≤◌, arith, true, sym, ◌∙◌, subst, IsUtf8, ShortString, opens_with, stands_at, IsFirst, IsFit, counted_bytes}
+use Rattle.rdf_tokens.specs.Quick.{IsToken}
 use Rattle.rdf_tokens.proofs.PlainQuick.{some_string, utf8_after}
 use Rattle.rdf_tokens.proofs.StringLemmas.{string_fits, string_whole}
 use Rattle.rdf_tokens.proofs.strings.quoted_len.Goals as goal

@@ -1,8 +1,6 @@
 -- The string goes on from the place up to which it has no bad escape.
-use Rattle.std.proofs.Common.{◌≡◌, ◌+◌, arith, true, sym, ◌∙◌, subst, IsUtf8}
-use Rattle.rdf_terms.specs.declared.kind.Kind.TheVariants.{ShortString}
-use Rattle.rdf_tokens.specs.Quick.{IsToken, stands_at}
-use Rattle.rdf_tokens.specs.Walk.{IsFit}
+use Rattle.rdf_tokens.proofs.Prelude.{◌≡◌, ◌+◌, arith, true, sym, ◌∙◌, subst, IsUtf8, ShortString, stands_at, IsFit}
+use Rattle.rdf_tokens.specs.Quick.{IsToken}
 use Rattle.rdf_tokens.proofs.StringLemmas.{fit_on, fit_whole}
 use Rattle.rdf_tokens.proofs.strings.resumed_len.Goals as goal
 

@@ -1,5 +1,4 @@
-use Rattle.std.proofs.Common.{◌&&◌, ap, sym, ◌∙◌}
-use Rattle.std.specs.Prelude.{nat_le}
+use Rattle.rdf_trig.proofs.Prelude.{◌&&◌, ap, sym, ◌∙◌, nat_le}
 use Rattle.rdf_trig.proofs.accept.is_too_deep.Goals as goal
 
 pub returns-then-deepens-clause-is : goal.returns-then-deepens-clause-is

@@ -1,8 +1,6 @@
 -- A document at once: what one feed and the end report is what the definition of whole documents says.
-use Rattle.std.proofs.Common.{◌≡◌, List}
-use Rattle.rdf_terms.specs.Terms.{Quad}
+use Rattle.rdf_trig.proofs.Prelude.{◌≡◌, List, Quad, tree_words}
 use Rattle.rdf_tokens.specs.Scans.{place_of}
-use Rattle.rdf_trig.specs.Accepting.{tree_words}
 use Rattle.rdf_trig.proofs.code.LawfulGrammar.{lawful}
 use Rattle.rdf_trig.proofs.code.OnePiece.{not_fed, not_finished, whole_read}
 use Rattle.rdf_trig.proofs.document.read_all.Goals as goal

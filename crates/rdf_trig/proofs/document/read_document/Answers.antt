@@ -1,8 +1,5 @@
-use Rattle.std.proofs.Common.{subst}
+use Rattle.rdf_trig.proofs.Prelude.{subst, IsDocumentOf, IsWhole, in_words, tree_words}
 use Rattle.rdf_tokens.specs.Scans.{place_of}
-use Rattle.rdf_tokens.specs.Grammars.{IsDocumentOf, IsWhole}
-use Rattle.rdf_driver.specs.Words.{in_words}
-use Rattle.rdf_trig.specs.Accepting.{tree_words}
 use Rattle.rdf_trig.specs.ReadWhole.{NotRead}
 use Rattle.rdf_trig.proofs.document.read_document.Goals as goal
 

@@ -1,6 +1,4 @@
-use Rattle.std.proofs.Common.{subst}
-use Rattle.std.specs.Str.{IsUtf8}
-use Rattle.std.proofs.lemmas.Str.{IsCharBoundary-start}
+use Rattle.rdf_trig.proofs.Prelude.{subst, IsUtf8, IsCharBoundary-start}
 use Rattle.rdf_trig.proofs.emptied.clear_text.Goals as goal
 
 pub truncate-requires : goal.truncate-requires

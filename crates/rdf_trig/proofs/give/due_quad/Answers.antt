@@ -1,9 +1,5 @@
 -- The object is at the place in hand, or at that of the last frame below.
-use Rattle.std.proofs.Common.{◌≡◌, subst}
-use Rattle.std.specs.Prelude.{option_map, slice_get, length, ◌-◌, Some}
-use Rattle.std.specs.Str.{chars}
-use Rattle.rdf_terms.specs.Views.{subject_by, term_by, quad_of}
-use Rattle.rdf_trig.specs.Steps.{IsQuadAt, due_term}
+use Rattle.rdf_trig.proofs.Prelude.{◌≡◌, subst, option_map, slice_get, length, ◌-◌, Some, chars, subject_by, term_by, quad_of, IsQuadAt, due_term}
 use Rattle.rdf_trig.proofs.code.DueQuads.{due_here, due_above}
 use Rattle.rdf_trig.proofs.give.due_quad.Goals as goal
 use Rattle.rdf_trig.proofs.give.due_quad.Goals.{in-After, in_default+in-Some-last}

@@ -1,10 +1,5 @@
 -- The three quads that a token may give out are put in their order; after a failed put some of them were.
-use Rattle.std.proofs.Common.{◌++◌, [], sym, ap, subst, refl, length, length-append, arith}
-use Rattle.std.specs.Prelude.{option_map}
-use Rattle.rdf_terms.specs.Sinks.{Appends}
-use Rattle.rdf_terms.specs.Views.{quad_of}
-use Rattle.rdf_trig.specs.Machine.{kept}
-use Rattle.rdf_trig.specs.Steps.{GaveUp}
+use Rattle.rdf_trig.proofs.Prelude.{◌++◌, [], sym, ap, subst, refl, length, length-append, arith, option_map, Appends, quad_of, kept, GaveUp}
 use Rattle.rdf_trig.proofs.code.DueQuads.{given_in}
 use Rattle.rdf_trig.proofs.code.PutsInRow.{appends_append, gave_more, gave_after, told_stops}
 use Rattle.rdf_trig.proofs.give.give_all.Goals as goal

@@ -1,12 +1,6 @@
 -- The quad of the IRI is all that is given out, whatever the token is.
-use Rattle.std.proofs.Common.{◌≡◌, ◌∷◌, [], sym, ap, subst, ◌∙◌, length}
-use Rattle.rdf_terms.specs.Sinks.{Appends}
-use Rattle.rdf_terms.specs.Views.{iri_chars, iris_quad, quad_of}
-use Rattle.rdf_iri.specs.Scope.{InForce}
+use Rattle.rdf_trig.proofs.Prelude.{◌≡◌, ◌∷◌, [], sym, ap, subst, ◌∙◌, length, Appends, iri_chars, iris_quad, quad_of, InForce, DocForm, graph_of, GaveUp, given}
 use Rattle.rdf_tokens.specs.declared.token.Token.{Token as Given}
-use Rattle.rdf_trig.specs.declared.form.DocForm.{DocForm}
-use Rattle.rdf_trig.specs.States.{graph_of}
-use Rattle.rdf_trig.specs.Steps.{GaveUp, given}
 use Rattle.rdf_trig.proofs.code.DueQuads.{given_iri, iris_at}
 use Rattle.rdf_trig.proofs.code.TurnsLemmas.{on_ok, if_ok, if_err}
 use Rattle.rdf_trig.proofs.give.give_iri.Given.{Over}

@@ -1,11 +1,5 @@
 -- The quad of the object is all that is given out.
-use Rattle.std.proofs.Common.{◌≡◌, ◌∷◌, [], sym, ap, subst, refl, ◌∙◌, length}
-use Rattle.std.specs.Str.{chars}
-use Rattle.rdf_terms.specs.Sinks.{Appends}
-use Rattle.rdf_terms.specs.Views.{quad_of, term_by}
-use Rattle.rdf_iri.specs.Scope.{InForce}
-use Rattle.rdf_trig.specs.declared.form.DocForm.{DocForm}
-use Rattle.rdf_trig.specs.Steps.{GaveUp, given}
+use Rattle.rdf_trig.proofs.Prelude.{◌≡◌, ◌∷◌, [], sym, ap, subst, refl, ◌∙◌, length, chars, Appends, quad_of, term_by, InForce, DocForm, GaveUp, given}
 use Rattle.rdf_trig.proofs.code.DueQuads.{given_listed, given_none}
 use Rattle.rdf_trig.proofs.code.TurnsLemmas.{on_ok, if_ok, if_err}
 use Rattle.rdf_trig.proofs.give.give_listed.Given.{Over}

@@ -1,6 +1,4 @@
-use Rattle.std.proofs.Common.{[], ◌∷◌, refl, inl, sym, ap, ◌∙◌, Err}
-use Rattle.std.proofs.lemmas.Bool.{false_from_ne_true}
-use Rattle.rdf_terms.specs.Views.{quad_of}
+use Rattle.rdf_trig.proofs.Prelude.{[], ◌∷◌, refl, inl, sym, ap, ◌∙◌, Err, false_from_ne_true, quad_of}
 use Rattle.rdf_trig.proofs.give.put.Goals as goal
 
 pub returns-in-Err-Memory-clause-err : goal.returns-in-Err-Memory-clause-err

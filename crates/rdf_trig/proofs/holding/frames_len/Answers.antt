@@ -1,7 +1,5 @@
 -- The next frame is counted, and the others are left.
-use Rattle.std.proofs.Common.{ap, arith}
-use Rattle.std.proofs.lemmas.List.Sums.{sum_by-drop_more}
-use Rattle.rdf_trig.specs.Holding.{frame_bytes}
+use Rattle.rdf_trig.proofs.Prelude.{ap, arith, sum_by-drop_more, frame_bytes}
 use Rattle.rdf_trig.proofs.holding.frames_len.Goals as goal
 
 pub frame_len-held-requires : goal.frame_len-held-requires

@@ -1,6 +1,4 @@
-use Rattle.std.proofs.Common.{◌≡◌, ◌+◌, drop}
-use Rattle.std.specs.List.{sum_by}
-use Rattle.rdf_trig.specs.Holding.{frame_bytes}
+use Rattle.rdf_trig.proofs.Prelude.{◌≡◌, ◌+◌, drop, sum_by, frame_bytes}
 use Rattle.rdf_trig.proofs.holding.frames_len.Given as goal
 
 -- what is counted, and what the frames that are left have, are all bytes

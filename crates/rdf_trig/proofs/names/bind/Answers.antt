@@ -1,8 +1,4 @@
-use Rattle.std.proofs.Common.{ap, subst, ◌∙◌}
-use Rattle.std.specs.Str.{chars}
-use Rattle.std.specs.String.{string_bytes}
-use Rattle.rdf_iri.specs.Scope.{IsBound}
-use Rattle.rdf_trig.specs.States.{leaf}
+use Rattle.rdf_trig.proofs.Prelude.{ap, subst, ◌∙◌, chars, string_bytes, IsBound, leaf}
 use Rattle.rdf_trig.proofs.code.LookUps.{binding_is}
 use Rattle.rdf_trig.proofs.names.bind.Goals as goal
 

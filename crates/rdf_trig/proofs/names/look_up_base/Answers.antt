@@ -1,7 +1,5 @@
 -- The base that the scope takes, or its error, is that of the machine.
-use Rattle.std.proofs.Common.{None, subst}
-use Rattle.rdf_trig.specs.States.{leaf}
-use Rattle.rdf_trig.specs.Scopes.{Unnamed}
+use Rattle.rdf_trig.proofs.Prelude.{None, subst, leaf, Unnamed}
 use Rattle.rdf_trig.proofs.code.AgreeingScopes.{base_looks, base_none}
 use Rattle.rdf_trig.proofs.code.TurnsLemmas.{on_ok, if_err}
 use Rattle.rdf_trig.proofs.names.look_up_base.Goals as goal

@@ -1,10 +1,5 @@
 -- The binding that the scope makes, or its error, is that of the machine.
-use Rattle.std.proofs.Common.{subst, ◌≤◌, ◌*◌, None}
-use Rattle.std.specs.Str.{chars}
-use Rattle.std.specs.String.{string_bytes}
-use Rattle.std.proofs.lemmas.Str.{IsUtf8-string_bytes}
-use Rattle.rdf_iri.proofs.ResolvedText.{byte_len-chars}
-use Rattle.rdf_trig.specs.States.{leaf}
+use Rattle.rdf_trig.proofs.Prelude.{subst, ◌≤◌, ◌*◌, None, chars, string_bytes, IsUtf8-string_bytes, byte_len-chars, leaf}
 use Rattle.rdf_trig.proofs.code.AgreeingScopes.{binding_looks, binding_none}
 use Rattle.rdf_trig.proofs.code.TurnsLemmas.{on_ok, if_err}
 use Rattle.rdf_trig.proofs.names.look_up_prefix.Goals as goal

@@ -1,9 +1,5 @@
 -- What stands after the colon of a plain name is its value.
-use Rattle.std.proofs.Common.{[], ap, sym, ◌∙◌}
-use Rattle.std.specs.Prelude.{unwrap_or}
-use Rattle.std.specs.Str.{chars}
-use Rattle.rdf_terms.specs.Values.{local_value}
-use Rattle.rdf_trig.specs.States.{leaf}
+use Rattle.rdf_trig.proofs.Prelude.{[], ap, sym, ◌∙◌, unwrap_or, chars, local_value, leaf}
 use Rattle.rdf_trig.proofs.code.LocalShapes.{token_local}
 use Rattle.rdf_trig.proofs.code.LookUps.{name_names}
 use Rattle.rdf_trig.proofs.names.put_prefixed.Goals as goal

@@ -1,15 +1,6 @@
 -- A reference of a token is fit, so its inside means something.
-use Rattle.std.proofs.Common.{ap, sym, subst, refl, ◌∙◌}
-use Rattle.std.specs.Prelude.{is_some}
-use Rattle.std.specs.Str.{chars}
-use Rattle.std.specs.String.{string_bytes}
-use Rattle.rdf_terms.specs.Terms.{IsIri}
-use Rattle.rdf_terms.specs.Values.{iri_value, is_fit}
-use Rattle.rdf_iri.specs.Scope.{ResolvesHere}
-use Rattle.rdf_tokens.specs.Leaves.{iri_of}
+use Rattle.rdf_trig.proofs.Prelude.{ap, sym, subst, refl, ◌∙◌, is_some, chars, string_bytes, IsIri, iri_value, is_fit, ResolvesHere, iri_of, Unnamed, step_fault, leaf}
 use Rattle.rdf_trig.specs.declared.fault.StepFault.TheVariants.{Memory}
-use Rattle.rdf_trig.specs.Scopes.{Unnamed, step_fault}
-use Rattle.rdf_trig.specs.States.{leaf}
 use Rattle.rdf_trig.proofs.code.LookUps.{reference_not, unescaped}
 use Rattle.rdf_trig.proofs.code.PutsInRow.{told_stops}
 use Rattle.rdf_trig.proofs.code.SpelledLemmas.{fit_reference}

@@ -1,13 +1,6 @@
 -- The local part of a name means a text, so an expanded name is the one of the definition.
-use Rattle.std.proofs.Common.{[], ap, sym, ◌∙◌, subst}
-use Rattle.std.specs.Prelude.{unwrap_or}
-use Rattle.std.specs.Str.{chars}
+use Rattle.rdf_trig.proofs.Prelude.{[], ap, sym, ◌∙◌, subst, unwrap_or, chars, without_backslashes, local_value, value_is, MeansLocal, leaf}
 use Rattle.std.proofs.lemmas.Result.{err_from_is_err_and}
-use Rattle.rdf_terms.specs.Local.{without_backslashes}
-use Rattle.rdf_terms.specs.Values.{local_value}
-use Rattle.rdf_terms.proofs.LocalLemmas.{value_is}
-use Rattle.rdf_trig.specs.Scopes.{MeansLocal}
-use Rattle.rdf_trig.specs.States.{leaf}
 use Rattle.rdf_trig.proofs.code.LocalShapes.{token_local}
 use Rattle.rdf_trig.proofs.code.LookUps.{name_names, escaped_not, means_without}
 use Rattle.rdf_trig.proofs.names.put_spelled.Goals as goal

@@ -1,6 +1,4 @@
-use Rattle.std.proofs.Common.{ap, ◌∙◌}
-use Rattle.std.specs.Str.{chars}
-use Rattle.rdf_trig.specs.States.{leaf}
+use Rattle.rdf_trig.proofs.Prelude.{ap, ◌∙◌, chars, leaf}
 use Rattle.rdf_trig.proofs.code.LookUps.{base_is}
 use Rattle.rdf_trig.proofs.names.set_base.Goals as goal
 

@@ -1,5 +1,4 @@
-use Rattle.std.proofs.Common.{refl}
-use Rattle.std.specs.Str.{chars}
+use Rattle.rdf_trig.proofs.Prelude.{refl, chars}
 use Rattle.rdf_trig.proofs.objects.false_word.Goals as goal
 
 pub returns : goal.returns

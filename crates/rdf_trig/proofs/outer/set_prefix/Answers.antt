@@ -1,7 +1,4 @@
-use Rattle.std.proofs.Common.{◌≡◌, rules}
-use Rattle.std.specs.Str.{chars}
-use Rattle.std.specs.String.{string_bytes}
-use Rattle.rdf_iri.specs.Texts.{before}
+use Rattle.rdf_trig.proofs.Prelude.{◌≡◌, rules, chars, string_bytes, before}
 use Rattle.rdf_trig.proofs.code.HoldingLemmas.{spelled_fits, before_shorter}
 use Rattle.rdf_trig.proofs.outer.set_prefix.Goals as goal
 

@@ -1,6 +1,4 @@
-use Rattle.std.proofs.Common.{◌≡◌, true, sym, subst, ◌∙◌}
-use Rattle.rdf_terms.specs.Runs.{is_unescaped}
-use Rattle.rdf_terms.specs.Terms.{all_have}
+use Rattle.rdf_trig.proofs.Prelude.{◌≡◌, true, sym, subst, ◌∙◌, is_unescaped, all_have}
 use Rattle.rdf_trig.proofs.code.Backslashes.{iri_plain}
 use Rattle.rdf_trig.proofs.plain.lacks_iri_escapes.Goals as goal
 

@@ -1,10 +1,6 @@
 -- The code cuts a name at its first ':' where the definition does.
-use Rattle.std.proofs.Common.{◌≡◌, ◌<◌, ◌+◌, ◌-◌, length, take, drop, get_or, sym, ap, ◌∙◌, arith, rules, []}
-use Rattle.std.specs.Prelude.{unwrap_or}
-use Rattle.std.specs.Str.{chars}
-use Rattle.std.specs.List.{position_or_len}
-use Rattle.std.proofs.lemmas.List.Sums.{position_or_len_is}
-use Rattle.std.proofs.lemmas.Str.{IsCharBoundary-after_ascii}
+use Rattle.rdf_trig.proofs.Prelude.{◌≡◌, ◌<◌, ◌+◌, ◌-◌, length, drop, get_or, sym, ap, ◌∙◌, arith, rules, [], unwrap_or, chars, position_or_len, position_or_len_is, IsCharBoundary-after_ascii}
+use Rattle.std.proofs.Common.{take}
 use Rattle.rdf_trig.proofs.code.ColonLemmas.{is_colon, front_chars, back_chars, no_colon}
 use Rattle.rdf_trig.proofs.spelled.parts.Goals as goal
 

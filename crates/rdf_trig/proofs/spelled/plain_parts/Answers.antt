@@ -1,6 +1,6 @@
 -- The bytes before the colon are of names, so it is the first, and those after it are no backslash.
-use Rattle.std.proofs.Common.{◌≡◌, ◌-◌, ap, arith, subst, sym, take, ◌∙◌}
-use Rattle.rdf_trig.specs.Scopes.{MeansLocal}
+use Rattle.rdf_trig.proofs.Prelude.{◌≡◌, ◌-◌, ap, arith, subst, sym, ◌∙◌, MeansLocal}
+use Rattle.std.proofs.Common.{take}
 use Rattle.rdf_trig.proofs.code.Backslashes.{local_plain}
 use Rattle.rdf_trig.proofs.code.ColonLemmas.{plain_back, plain_cut, plain_cut_after, plain_front, plain_rest}
 use Rattle.rdf_trig.proofs.spelled.plain_parts.Goals as goal

@@ -1,7 +1,5 @@
-use Rattle.std.proofs.Common.{◌≡◌, ◌≤◌, ◌*◌, ℕ, List, [], ap, sym, subst, length, true, is_some, unwrap_or, ◌∙◌, arith}
-use Rattle.std.specs.Str.{chars}
-use Rattle.std.specs.String.{string_bytes}
-use Rattle.rdf_terms.specs.Values.{string_value, inside, is_fit}
+use Rattle.rdf_trig.proofs.Prelude.{◌≡◌, ◌≤◌, ◌*◌, ℕ, List, [], ap, sym, subst, length, true, is_some, unwrap_or, ◌∙◌, arith, chars, string_bytes, string_value, is_fit}
+use Rattle.rdf_terms.specs.Values.{inside}
 use Rattle.rdf_terms.proofs.InsideLemmas.{inside-inside}
 use Rattle.rdf_terms.proofs.SpelledLemmas.{inside_short}
 use Rattle.rdf_trig.proofs.code.TurnsLemmas.{on_ok}

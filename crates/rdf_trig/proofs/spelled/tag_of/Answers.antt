@@ -1,5 +1,4 @@
-use Rattle.std.proofs.Common.{subst, sym}
-use Rattle.rdf_terms.specs.Terms.{IsTag}
+use Rattle.rdf_trig.proofs.Prelude.{subst, sym, IsTag}
 use Rattle.rdf_trig.proofs.code.SpelledLemmas.{token_tag}
 use Rattle.rdf_trig.proofs.spelled.tag_of.Goals as goal
 

@@ -1,4 +1,4 @@
-use Rattle.std.proofs.Common.{ap, rules, List, option_map, ℕ, Bor}
+use Rattle.rdf_command.proofs.Prelude.{ap, rules, List, option_map, ℕ, Bor}
 use Rattle.rdf_command.proofs.host.ProcessHost.open.Goals as goal
 
 pub returns-in-Err-clause-shut : goal.returns-in-Err-clause-shut

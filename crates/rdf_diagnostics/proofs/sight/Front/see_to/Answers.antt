@@ -1,7 +1,4 @@
-use Rattle.std.proofs.Common.{◌∙◌, ◌+◌, ◌-◌, ◌≤◌, arith, drop, refl, subst, take, false}
-use Rattle.rdf_tokens.specs.Tokens.Outcome.{undecided}
-use Rattle.rdf_diagnostics.specs.Sights.{HasNone, LeavesOpen, reading_from}
-use Rattle.rdf_diagnostics.specs.SightRuns.{HasTaken, IsSeen, SeesPart}
+use Rattle.rdf_diagnostics.proofs.Prelude.{◌∙◌, ◌+◌, ◌-◌, ◌≤◌, arith, drop, refl, subst, take, false, undecided, HasNone, LeavesOpen, reading_from, HasTaken, IsSeen, SeesPart}
 use Rattle.rdf_diagnostics.proofs.SightLemmas.{by_scan, decided, open_before, took}
 use Rattle.rdf_diagnostics.proofs.sight.Front.see_to.Goals as goal
 

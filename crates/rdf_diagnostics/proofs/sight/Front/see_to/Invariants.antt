@@ -1,6 +1,4 @@
-use Rattle.std.proofs.Common.{◌-◌}
-use Rattle.rdf_tokens.specs.Scans.{SameScan}
-use Rattle.rdf_diagnostics.specs.SightRuns.{HasTaken}
+use Rattle.rdf_diagnostics.proofs.Prelude.{◌-◌, SameScan, HasTaken}
 use Rattle.rdf_diagnostics.proofs.sight.Front.see_to.Given as goal
 
 abbrev pub invariant-parts : goal.invariant-parts

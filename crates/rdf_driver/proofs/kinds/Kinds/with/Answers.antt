@@ -1,5 +1,4 @@
-use Rattle.std.proofs.Common.{◌∙◌, ap}
-use Rattle.rdf_driver.specs.Kinds.{has}
+use Rattle.rdf_driver.proofs.Prelude.{◌∙◌, ap, has}
 use Rattle.rdf_driver.proofs.KindsLemmas.{has_added, has_others}
 use Rattle.rdf_driver.proofs.kinds.Kinds.with.Goals as goal
 

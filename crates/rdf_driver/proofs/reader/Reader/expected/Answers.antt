@@ -1,8 +1,4 @@
-use Rattle.std.proofs.Common.{subst}
-use Rattle.rdf_terms.specs.declared.kind.Kind.{Kind}
-use Rattle.rdf_driver.specs.Kinds.{has}
-use Rattle.rdf_driver.specs.Words.{KnowsNext}
-use Rattle.rdf_driver.specs.Readers.{Driven}
+use Rattle.rdf_driver.proofs.Prelude.{subst, Kind, has, KnowsNext, Driven}
 use Rattle.rdf_driver.proofs.reader.Reader.expected.Goals as goal
 
 pub returns : goal.returns

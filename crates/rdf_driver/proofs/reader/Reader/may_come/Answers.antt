@@ -1,6 +1,4 @@
-use Rattle.std.proofs.Common.{subst}
-use Rattle.rdf_driver.specs.Words.{KnowsNext}
-use Rattle.rdf_driver.specs.Readers.{Driven}
+use Rattle.rdf_driver.proofs.Prelude.{subst, KnowsNext, Driven}
 use Rattle.rdf_driver.proofs.reader.Reader.may_come.Goals as goal
 
 pub returns : goal.returns

@@ -1,7 +1,4 @@
-use Rattle.std.proofs.Common.{◌≡◌, ◌++◌, ◌+◌, List, true, false, length, sym, ap, ◌∙◌, subst, arith}
-use Rattle.rdf_tokens.specs.Unread.{Unread}
-use Rattle.rdf_driver.specs.Reading.{going, driven}
-use Rattle.rdf_driver.specs.Readers.{Driven, HasRead, IsLive}
+use Rattle.rdf_driver.proofs.Prelude.{◌≡◌, ◌++◌, ◌+◌, List, true, false, length, sym, ap, ◌∙◌, subst, arith, Unread, going, driven, Driven, HasRead, IsLive}
 use Rattle.rdf_driver.specs.Passing.{can_pass, passed, LeadsBack}
 use Rattle.rdf_driver.proofs.PromiseLemmas.{as_running}
 use Rattle.rdf_driver.proofs.PassingLemmas.{can_pass-parts, pass_live, pass_reads, quads_room, tokens_room, bytes_room}

@@ -1,11 +1,5 @@
 -- What was appended is what the reference stands for, and its size was tested before.
-use Rattle.std.proofs.Common.{◌≡◌, ◌+◌, ◌++◌, ◌∙◌, length, Some, ap, sym, subst, arith}
-use Rattle.std.specs.Str.{chars, encode_utf8_all}
-use Rattle.std.proofs.lemmas.Result.{err_from_is_err_and}
-use Rattle.rdf_iri.specs.Texts.{byte_len}
-use Rattle.rdf_iri.specs.Parts.{parts_of}
-use Rattle.rdf_iri.specs.Resolve.{Resolves}
-use Rattle.rdf_iri.specs.Directory.{EndsInSlash, HasDirectory, GrowsBy}
+use Rattle.rdf_iri.proofs.Prelude.{◌≡◌, ◌+◌, ◌++◌, ◌∙◌, length, Some, ap, sym, subst, arith, chars, encode_utf8_all, err_from_is_err_and, byte_len, parts_of, Resolves, EndsInSlash, HasDirectory, GrowsBy}
 use Rattle.rdf_iri.proofs.ScopeLemmas.{IsIri-append, byte_len-joined}
 use Rattle.rdf_iri.proofs.BaseLemmas.{Resolves-grown, HasDirectory-grown}
 use Rattle.rdf_iri.proofs.base.Base.grow.Goals as goal

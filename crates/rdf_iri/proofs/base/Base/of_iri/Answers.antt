@@ -1,11 +1,5 @@
 -- The bytes that were looked at are those of the IRI.
-use Rattle.std.proofs.Common.{◌∙◌, ap, sym, subst}
-use Rattle.std.specs.Prelude.{MatchOption, ⊤}
-use Rattle.std.specs.Str.{encode_utf8_all}
-use Rattle.rdf_iri.specs.Roots.{HasRoot}
-use Rattle.std.proofs.lemmas.Str.{encodes-chars}
-use Rattle.rdf_iri.specs.Parts.{parts_of}
-use Rattle.rdf_iri.specs.Directory.{HasDirectory}
+use Rattle.rdf_iri.proofs.Prelude.{◌∙◌, ap, sym, subst, MatchOption, ⊤, encode_utf8_all, HasRoot, encodes-chars, parts_of, HasDirectory}
 use Rattle.rdf_iri.proofs.base.Base.of_iri.Goals as goal
 
 pub invariant_of-result : goal.invariant_of-result

@@ -1,9 +1,5 @@
 -- What is resolved over bytes is resolved over characters.
-use Rattle.std.proofs.Common.{◌≡◌, ◌∙◌, ap, sym, subst}
-use Rattle.std.specs.Str.{chars, encode_utf8_all}
-use Rattle.std.proofs.lemmas.Str.{encodes-chars}
-use Rattle.std.proofs.lemmas.Result.{on_ok_weaker}
-use Rattle.rdf_iri.specs.Roots.{HasRoot}
+use Rattle.rdf_iri.proofs.Prelude.{◌≡◌, ◌∙◌, ap, sym, subst, chars, encode_utf8_all, encodes-chars, on_ok_weaker, HasRoot}
 use Rattle.rdf_iri.proofs.ResolvedText.{chars-target, target_text}
 use Rattle.rdf_iri.proofs.Slices.{has_scheme-chars}
 use Rattle.rdf_iri.proofs.base.Base.put_target.Goals as goal

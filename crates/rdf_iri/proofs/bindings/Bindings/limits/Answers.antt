@@ -1,5 +1,4 @@
-use Rattle.std.proofs.Common.{ap}
-use Rattle.rdf_iri.specs.Bindings.{BindingMap}
+use Rattle.rdf_iri.proofs.Prelude.{ap, BindingMap}
 use Rattle.rdf_iri.proofs.bindings.Bindings.limits.Goals as goal
 
 pub returns : goal.returns

@@ -1,5 +1,4 @@
-use Rattle.std.proofs.Common.{ap}
-use Rattle.rdf_iri.specs.Limits.{Sizes}
+use Rattle.rdf_iri.proofs.Prelude.{ap, Sizes}
 use Rattle.rdf_iri.proofs.limits.Limits.depth.Goals as goal
 
 pub returns : goal.returns

@@ -1,4 +1,4 @@
-use Rattle.std.proofs.Common.{rules}
+use Rattle.rdf_iri.proofs.Prelude.{rules}
 use Rattle.rdf_iri.proofs.limits.Limits.new.Goals as goal
 
 pub invariant_of-result : goal.invariant_of-result

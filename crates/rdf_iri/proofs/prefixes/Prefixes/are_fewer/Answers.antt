@@ -1,5 +1,4 @@
-use Rattle.std.proofs.Common.{◌-◌, ◌∙◌, ap, sym, length, length-append, arith}
-use Rattle.rdf_iri.specs.Prefixes.{entries_of}
+use Rattle.rdf_iri.proofs.Prelude.{◌-◌, ◌∙◌, ap, sym, length, length-append, arith, entries_of}
 use Rattle.rdf_iri.proofs.ScopeLemmas.{length-entries_of, decided}
 use Rattle.rdf_iri.proofs.prefixes.Prefixes.are_fewer.Goals as goal
 

@@ -1,6 +1,5 @@
 -- A prefix is bound as the row says, and if it is not there, as the map says.
-use Rattle.std.proofs.Common.{arith}
-use Rattle.std.specs.Str.{chars}
+use Rattle.rdf_iri.proofs.Prelude.{arith, chars}
 use Rattle.rdf_iri.proofs.PrefixLemmas.{place_within, found_in_row, found_in_map}
 use Rattle.rdf_iri.proofs.prefixes.Prefixes.get.Goals as goal
 

@@ -1,6 +1,5 @@
 -- The same by the slots of the row.
-use Rattle.std.proofs.Common.{arith}
-use Rattle.std.specs.Str.{chars}
+use Rattle.rdf_iri.proofs.Prelude.{arith, chars}
 use Rattle.rdf_iri.proofs.PrefixLemmas.{place_within, found_in_row, found_in_map}
 use Rattle.rdf_iri.proofs.TableLemmas.{sought}
 use Rattle.rdf_iri.proofs.prefixes.Prefixes.get_of_many.Goals as goal

@@ -1,6 +1,5 @@
 -- A prefix that stands in the row is bound as the row says.
-use Rattle.std.proofs.Common.{sym, arith}
-use Rattle.std.specs.Str.{chars}
+use Rattle.rdf_iri.proofs.Prelude.{sym, arith, chars}
 use Rattle.rdf_iri.proofs.PrefixLemmas.{place_within, found_in_row}
 use Rattle.rdf_iri.proofs.prefixes.Prefixes.get_short.Goals as goal
 

@@ -1,10 +1,5 @@
 -- What is counted, and what is left to count, are all bytes.
-use Rattle.std.proofs.Common.{◌≡◌, ◌+◌, ◌≤◌, ◌*◌, ◌∙◌, List, ℕ, Some, length, ap, sym, subst, arith}
-use Rattle.std.specs.List.{sum_by}
-use Rattle.std.proofs.lemmas.List.Sums.{sum_by-append}
-use Rattle.rdf_iri.specs.Texts.{byte_len}
-use Rattle.rdf_iri.specs.Scope.{bound_to, binding_bytes}
-use Rattle.rdf_iri.specs.Prefixes.{entries_of, entry_bytes}
+use Rattle.rdf_iri.proofs.Prelude.{◌≡◌, ◌+◌, ◌≤◌, ◌*◌, ◌∙◌, List, ℕ, Some, length, ap, sym, subst, arith, sum_by, sum_by-append, byte_len, bound_to, binding_bytes, entries_of, entry_bytes}
 use Rattle.rdf_iri.proofs.HeldLemmas.{sum-cons, sum-entries_of, sum_within, most_fits}
 use Rattle.rdf_iri.proofs.PrefixLemmas.{bound_to-apart, all_within, row_bound}
 use Rattle.rdf_iri.proofs.prefixes.Prefixes.held.Goals as goal

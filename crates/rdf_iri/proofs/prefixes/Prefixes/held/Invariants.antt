@@ -1,7 +1,4 @@
-use Rattle.std.proofs.Common.{◌≡◌, ◌+◌, ◌≤◌, ◌*◌}
-use Rattle.std.specs.List.{sum_by}
-use Rattle.rdf_iri.specs.Scope.{binding_bytes}
-use Rattle.rdf_iri.specs.Prefixes.{entry_bytes}
+use Rattle.rdf_iri.proofs.Prelude.{◌≡◌, ◌+◌, ◌≤◌, ◌*◌, sum_by, binding_bytes, entry_bytes}
 use Rattle.rdf_iri.proofs.prefixes.Prefixes.held.Given as goal
 
 -- what is counted, and what the entries that are left have, are all bytes

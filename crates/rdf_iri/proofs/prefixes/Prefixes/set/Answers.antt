@@ -1,13 +1,6 @@
 -- A prefix is set where it stands in the row, at the end of the row, or among the others.
-use Rattle.std.proofs.Common.{◌≡◌, ◌∙◌, List, [], ◌∷◌, ◌++◌, ℕ, None, Ok, Err, refl, ap, sym, subst, arith}
-use Rattle.std.proofs.Math.ListN.{set}
-use Rattle.std.specs.Prelude.{Result, OnOk, OnErr}
+use Rattle.rdf_iri.proofs.Prelude.{◌≡◌, ◌∙◌, List, [], ◌∷◌, ◌++◌, ℕ, None, Ok, Err, refl, ap, sym, subst, arith, set, Result, OnOk, OnErr, chars, false≢true, bound_to, entries_of, KeptApart, StandsAt, Sets, HaveSlots, Kept, IsNext}
 use Rattle.std.specs.Result.{IsErr}
-use Rattle.std.specs.Str.{chars}
-use Rattle.std.proofs.lemmas.Bool.{false≢true}
-use Rattle.rdf_iri.specs.Scope.{bound_to}
-use Rattle.rdf_iri.specs.Prefixes.{entries_of, KeptApart, StandsAt, Sets}
-use Rattle.rdf_iri.specs.Table.{HaveSlots, Kept, IsNext}
 use Rattle.rdf_iri.proofs.ScopeLemmas.{Sets-inserted}
 use Rattle.rdf_iri.proofs.PrefixLemmas.{place_within, key_there, entries_of-anew, entries_of-append, Sets-after, Sets-anew, Sets-pushed, KeptApart-anew, KeptApart-pushed, KeptApart-others}
 use Rattle.rdf_iri.proofs.TableLemmas.{sought, HaveSlots-anew, HaveSlots-kept, HaveSlots-pushed}

@@ -1,7 +1,4 @@
-use Rattle.std.proofs.Common.{◌≤◌, ◌*◌, ℕ, length, refl, sym, subst}
-use Rattle.std.specs.Str.{chars}
-use Rattle.rdf_iri.specs.Texts.{byte_len}
-use Rattle.rdf_iri.specs.Scope.{InForce, Binds, HasRoom}
+use Rattle.rdf_iri.proofs.Prelude.{◌≤◌, ◌*◌, ℕ, length, refl, sym, subst, chars, byte_len, InForce, Binds, HasRoom}
 use Rattle.rdf_iri.proofs.ResolvedText.{byte_len-chars}
 use Rattle.rdf_iri.proofs.ScopeLemmas.{Binds-set, KeepsLimits-bound}
 use Rattle.rdf_iri.proofs.scope.Scope.bind.Goals as goal

@@ -1,11 +1,5 @@
 -- What the scope looked up and joined is the IRI of the name, or why it has none.
-use Rattle.std.proofs.Common.{◌≡◌, ◌∙◌, ◌≤◌, ℕ, Some, None, ap, sym, subst}
-use Rattle.std.specs.Prelude.{OnOk, IfErr}
-use Rattle.std.specs.Str.{chars}
-use Rattle.rdf_iri.specs.Texts.{byte_len}
-use Rattle.rdf_iri.specs.Seen.{text_of}
-use Rattle.rdf_iri.specs.Scope.{InForce, bound_to}
-use Rattle.rdf_iri.specs.Prefixes.{NotJoined}
+use Rattle.rdf_iri.proofs.Prelude.{◌≡◌, ◌∙◌, ◌≤◌, ℕ, Some, None, ap, sym, subst, OnOk, IfErr, chars, byte_len, text_of, InForce, bound_to, NotJoined}
 use Rattle.rdf_iri.proofs.ScopeLemmas.{expands_joined, expands_not}
 use Rattle.rdf_iri.proofs.scope.Scope.expand_apart.Goals as goal
 use Rattle.rdf_iri.proofs.scope.Scope.expand_apart.Goals.{After-put_joined}

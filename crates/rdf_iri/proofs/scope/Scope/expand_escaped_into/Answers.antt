@@ -1,13 +1,6 @@
 -- The IRI of the prefix alone, with the local part after it.
-use Rattle.std.proofs.Common.{◌∙◌, [], ap, arith, subst, sym}
-use Rattle.std.specs.Str.{chars}
-use Rattle.std.proofs.lemmas.Str.{chars-nil}
-use Rattle.std.proofs.lemmas.Result.{err_from_is_err_and}
-use Rattle.rdf_terms.specs.Classes.{has}
-use Rattle.rdf_terms.specs.Classes.Class.{iri_char}
+use Rattle.rdf_iri.proofs.Prelude.{◌∙◌, [], ap, arith, subst, sym, chars, chars-nil, err_from_is_err_and, has, iri_char, IsIri, all_have, InForce}
 use Rattle.rdf_terms.specs.Local.{without_backslashes}
-use Rattle.rdf_terms.specs.Terms.{IsIri, all_have}
-use Rattle.rdf_iri.specs.Scope.{InForce}
 use Rattle.rdf_iri.proofs.ScopeLemmas.{IsIri-append, expands_more, expands_none}
 use Rattle.rdf_iri.proofs.scope.Scope.expand_escaped_into.Goals as goal
 

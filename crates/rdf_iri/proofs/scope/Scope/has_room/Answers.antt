@@ -1,10 +1,6 @@
 -- A prefix has room where fewer are bound than may be, or where it is bound.
-use Rattle.std.proofs.Common.{◌≡◌, ◌<◌, ◌≤◌, ℕ, Bool, List, Option, None, Some, length, is_some, refl, subst, sym, ◌∙◌}
-use Rattle.std.specs.Prelude.{MatchBool}
-use Rattle.std.specs.Str.{chars}
+use Rattle.rdf_iri.proofs.Prelude.{◌≡◌, ◌<◌, ◌≤◌, ℕ, Bool, List, Option, None, Some, length, is_some, refl, subst, sym, ◌∙◌, MatchBool, chars, InForce, HasRoom, IsFull, bound_to, text_of}
 use denote.Ref.{Bor}
-use Rattle.rdf_iri.specs.Scope.{InForce, HasRoom, IsFull, bound_to}
-use Rattle.rdf_iri.specs.Seen.{text_of}
 use Rattle.rdf_iri.proofs.ScopeLemmas.{some_not}
 use Rattle.rdf_iri.proofs.scope.Scope.has_room.Goals as goal
 

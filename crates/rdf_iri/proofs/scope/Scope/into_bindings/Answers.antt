@@ -1,6 +1,4 @@
-use Rattle.std.proofs.Common.{◌≡◌, Some, List, ℕ, sym, subst}
-use Rattle.rdf_terms.specs.Terms.{IsIri}
-use Rattle.rdf_iri.specs.Scope.{InForce, bound_to}
+use Rattle.rdf_iri.proofs.Prelude.{◌≡◌, Some, List, ℕ, sym, subst, IsIri, InForce, bound_to}
 use Rattle.rdf_iri.proofs.BindingSteps.{taken_keeps}
 use Rattle.rdf_iri.proofs.scope.Scope.into_bindings.Goals as goal
 

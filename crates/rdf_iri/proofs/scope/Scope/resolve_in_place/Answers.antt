@@ -1,9 +1,4 @@
-use Rattle.std.proofs.Common.{◌∙◌, List, ℕ, Option, ap, sym, subst}
-use Rattle.std.specs.Prelude.{IfErr}
-use Rattle.std.specs.Str.{chars}
-use Rattle.std.specs.String.{string_bytes}
-use Rattle.rdf_iri.specs.Faults.{Unresolved}
-use Rattle.rdf_iri.specs.Scope.{InForce, UnresolvedHere}
+use Rattle.rdf_iri.proofs.Prelude.{◌∙◌, List, ℕ, Option, ap, sym, subst, IfErr, chars, string_bytes, Unresolved, InForce, UnresolvedHere}
 use Rattle.rdf_iri.proofs.scope.Scope.resolve_in_place.Goals as goal
 
 pub returns-clause-refused : goal.returns-clause-refused

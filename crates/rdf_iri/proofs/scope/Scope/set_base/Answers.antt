@@ -1,10 +1,5 @@
 -- A base that has grown is what the reference stands for; any other is replaced.
-use Rattle.std.proofs.Common.{◌≡◌, ◌∙◌, ℕ, List, Option, Some, ap, sym, subst}
-use Rattle.std.specs.Prelude.{OnOk, IfErr}
-use Rattle.std.specs.Str.{chars}
-use Rattle.rdf_iri.specs.Limits.{Sizes}
-use Rattle.rdf_iri.specs.Faults.{Unresolved}
-use Rattle.rdf_iri.specs.Scope.{InForce, UnresolvedHere, IsBased}
+use Rattle.rdf_iri.proofs.Prelude.{◌≡◌, ◌∙◌, ℕ, List, Option, Some, ap, sym, subst, OnOk, IfErr, chars, Sizes, Unresolved, InForce, UnresolvedHere, IsBased}
 use Rattle.rdf_iri.proofs.scope.Scope.set_base.Goals as goal
 use Rattle.rdf_iri.proofs.scope.Scope.set_base.Goals.{After-replace_base, in_default-via-in-Some+else-grows_by, in_default-via-in_default}
 use Rattle.rdf_iri.proofs.scope.Scope.set_base.Given.{Over}

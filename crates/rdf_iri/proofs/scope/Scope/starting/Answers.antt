@@ -1,6 +1,4 @@
-use Rattle.std.proofs.Common.{ap, sym, ◌∙◌}
-use Rattle.rdf_iri.specs.Scope.{InForce}
-use Rattle.rdf_iri.specs.Bindings.{BindingMap}
+use Rattle.rdf_iri.proofs.Prelude.{ap, sym, ◌∙◌, InForce, BindingMap}
 use Rattle.rdf_iri.proofs.BindingSteps.{starting_keeps}
 use Rattle.rdf_iri.proofs.scope.Scope.starting.Goals as goal
 

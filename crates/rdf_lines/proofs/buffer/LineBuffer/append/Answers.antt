@@ -1,6 +1,4 @@
-use Rattle.std.proofs.Common.{◌∙◌, length, Ok, Err, ap, arith}
-use Rattle.std.specs.Prelude.{Result, OnErr}
-use Rattle.std.proofs.lemmas.Result.{IfOk-from_err}
+use Rattle.rdf_lines.proofs.Prelude.{◌∙◌, length, Ok, Err, ap, arith, Result, OnErr, IfOk-from_err}
 use Rattle.rdf_lines.proofs.BufferLemmas.{lines_placed, within_back, lines_appended, lines_left}
 use Rattle.rdf_lines.proofs.buffer.LineBuffer.append.Goals as goal
 

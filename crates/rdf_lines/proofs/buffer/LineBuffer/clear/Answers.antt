@@ -1,5 +1,5 @@
 -- No byte is left, whether memory is given back or not.
-use Rattle.std.proofs.Common.{refl}
+use Rattle.rdf_lines.proofs.Prelude.{refl}
 use Rattle.rdf_lines.proofs.buffer.LineBuffer.clear.Goals as goal
 
 pub returns-then-len-gt-LONG_LEN : goal.returns-then-len-gt-LONG_LEN

@@ -1,10 +1,5 @@
-use Rattle.std.proofs.Common.{◌≡◌, ◌+◌, ◌-◌, true, length, take, refl, ap, sym, ◌∙◌, rules}
-use Rattle.std.specs.Prelude.{◌++◌, encode_utf8_all}
+use Rattle.rdf_lines.proofs.Prelude.{◌≡◌, ◌+◌, ◌-◌, true, length, take, refl, ap, sym, ◌∙◌, rules, ◌++◌, encode_utf8_all, form_of, line_in, can_pass, can_pass-parts}
 use Rattle.rdf_terms.specs.Views.{quad_of}
-use Rattle.rdf_lines.specs.Forms.{form_of}
-use Rattle.rdf_lines.specs.NodePrefixes.{line_in}
-use Rattle.rdf_driver.specs.Passing.{can_pass}
-use Rattle.rdf_driver.proofs.PassingLemmas.{can_pass-parts}
 use Rattle.rdf_lines.proofs.EscapedLine.{line_shorter}
 use Rattle.rdf_lines.proofs.EscapedPassing.{can_slice, line_leads, line_passes, passes_nothing}
 use Rattle.rdf_lines.proofs.buffer.LineBuffer.pass_line.Goals as goal

@@ -1,8 +1,4 @@
-use Rattle.std.proofs.Common.{length, ap, sym, arith}
-use Rattle.std.proofs.lemmas.Bool.{false≢true}
-use Rattle.rdf_terms.specs.Views.{iris_quad}
-use Rattle.rdf_lines.specs.Forms.{form_of}
-use Rattle.rdf_lines.specs.WrittenBytes.{line_bytes}
+use Rattle.rdf_lines.proofs.Prelude.{length, ap, sym, arith, false≢true, iris_quad, form_of, line_bytes}
 use Rattle.rdf_lines.proofs.BufferLemmas.{lines_placed, lines_kept, within_back}
 use Rattle.rdf_lines.proofs.buffer.LineBuffer.put_short_iris.Goals as goal
 

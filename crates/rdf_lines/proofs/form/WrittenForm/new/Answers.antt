@@ -1,5 +1,4 @@
-use Rattle.std.proofs.Common.{ap}
-use Rattle.rdf_lines.specs.NodePrefixes.{Form}
+use Rattle.rdf_lines.proofs.Prelude.{ap, Form}
 use Rattle.rdf_lines.proofs.form.WrittenForm.new.Goals as goal
 
 pub returns : goal.returns

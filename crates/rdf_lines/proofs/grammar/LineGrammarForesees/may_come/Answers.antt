@@ -1,8 +1,4 @@
-use Rattle.std.proofs.Common.{subst}
-use Rattle.rdf_driver.specs.Words.{KnowsNext}
-use Rattle.rdf_lines.specs.Lines.{trees}
-use Rattle.rdf_lines.specs.States.{mode_of, state_bytes}
-use Rattle.rdf_lines.specs.Accepting.{LineAt, line_words}
+use Rattle.rdf_lines.proofs.Prelude.{subst, KnowsNext, trees, mode_of, state_bytes, LineAt, line_words}
 use Rattle.rdf_lines.proofs.NextKinds.{knows_next}
 use Rattle.rdf_lines.proofs.grammar.LineGrammarForesees.may_come.Goals as goal
 

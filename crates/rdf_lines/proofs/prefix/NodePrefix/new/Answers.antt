@@ -1,9 +1,4 @@
-use Rattle.std.proofs.Common.{◌≡◌, true, is_some, ap, sym, ◌∙◌}
-use Rattle.std.proofs.lemmas.Bool.{false≢true}
-use Rattle.std.specs.Str.{chars}
-use Rattle.std.specs.String.{string_bytes}
-use Rattle.rdf_terms.specs.Terms.{all_have}
-use Rattle.rdf_lines.specs.NodePrefixes.{is_word_char}
+use Rattle.rdf_lines.proofs.Prelude.{◌≡◌, true, is_some, ap, sym, ◌∙◌, false≢true, chars, string_bytes, all_have, is_word_char}
 use Rattle.rdf_lines.proofs.prefix.NodePrefix.new.Goals as goal
 
 pub returns-clause-none : goal.returns-clause-none

@@ -1,5 +1,4 @@
-use Rattle.std.proofs.Common.{subst}
-use Rattle.rdf_lines.specs.NodePrefixes.{IsNodePrefix}
+use Rattle.rdf_lines.proofs.Prelude.{subst, IsNodePrefix}
 use Rattle.rdf_lines.proofs.NodePrefixLemmas.{IsNodePrefix-had}
 use Rattle.rdf_lines.proofs.prefix.NodePrefix.view.Goals as goal
 

@@ -1,4 +1,4 @@
-use Rattle.std.proofs.Common.{refl}
+use Rattle.rdf_lines.proofs.Prelude.{refl}
 use Rattle.rdf_lines.proofs.prefix.NodePrefixView.as_str.Goals as goal
 
 pub returns : goal.returns

@@ -1,9 +1,5 @@
-use Rattle.std.proofs.Common.{subst}
-use Rattle.rdf_terms.specs.declared.kind.Kind.{Kind}
+use Rattle.rdf_lines.proofs.Prelude.{subst, Kind, KnowsNext, trees, line_words}
 use Rattle.rdf_driver.specs.Kinds.{has}
-use Rattle.rdf_driver.specs.Words.{KnowsNext}
-use Rattle.rdf_lines.specs.Lines.{trees}
-use Rattle.rdf_lines.specs.Accepting.{line_words}
 use Rattle.rdf_lines.proofs.reader.LineReader.expected.Goals as goal
 
 pub returns : goal.returns

@@ -1,7 +1,5 @@
-use Rattle.std.proofs.Common.{◌≡◌, ◌+◌, ◌≤◌, subst}
-use Rattle.rdf_tokens.specs.Scans.{unread_bytes}
+use Rattle.rdf_lines.proofs.Prelude.{◌≡◌, ◌+◌, ◌≤◌, subst, unread_bytes, all_bytes, line_words}
 use Rattle.rdf_driver.specs.Readers as R
-use Rattle.rdf_lines.specs.Accepting.{all_bytes, line_words}
 use Rattle.rdf_lines.proofs.reader.LineReader.held.Goals as goal
 
 pub returns-clause-sum : goal.returns-clause-sum

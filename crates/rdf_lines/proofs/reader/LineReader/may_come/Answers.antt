@@ -1,7 +1,4 @@
-use Rattle.std.proofs.Common.{subst}
-use Rattle.rdf_driver.specs.Words.{KnowsNext}
-use Rattle.rdf_lines.specs.Lines.{trees}
-use Rattle.rdf_lines.specs.Accepting.{line_words}
+use Rattle.rdf_lines.proofs.Prelude.{subst, KnowsNext, trees, line_words}
 use Rattle.rdf_lines.proofs.reader.LineReader.may_come.Goals as goal
 
 pub returns : goal.returns

@@ -1,6 +1,4 @@
-use Rattle.std.proofs.Common.{ap, ◌∙◌}
-use Rattle.std.proofs.lemmas.Str.{chars-nil}
-use Rattle.std.specs.Str.{chars}
+use Rattle.rdf_lines.proofs.Prelude.{ap, ◌∙◌, chars-nil, chars}
 use Rattle.rdf_lines.proofs.slots.IriText.clear.Goals as goal
 
 pub invariant_of-self : goal.invariant_of-self

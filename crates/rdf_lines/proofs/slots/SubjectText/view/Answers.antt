@@ -1,7 +1,4 @@
-use Rattle.std.proofs.Common.{sym, subst}
-use Rattle.std.specs.Str.{chars}
-use Rattle.std.specs.String.{string_bytes}
-use Rattle.rdf_terms.specs.Terms.{IsIri, IsLabel}
+use Rattle.rdf_lines.proofs.Prelude.{sym, subst, chars, string_bytes, IsIri, IsLabel}
 use Rattle.rdf_terms.proofs.TermsLemmas.{IsIri-had, IsLabel-had}
 use Rattle.rdf_lines.specs.Slots.{IsSubjectText}
 use Rattle.rdf_lines.proofs.slots.SubjectText.view.Goals as goal

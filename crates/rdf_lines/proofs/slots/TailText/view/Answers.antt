@@ -1,7 +1,4 @@
-use Rattle.std.proofs.Common.{sym, subst}
-use Rattle.std.specs.Str.{chars}
-use Rattle.std.specs.String.{string_bytes}
-use Rattle.rdf_terms.specs.Terms.{IsIri, IsTag}
+use Rattle.rdf_lines.proofs.Prelude.{sym, subst, chars, string_bytes, IsIri, IsTag}
 use Rattle.rdf_terms.proofs.TermsLemmas.{IsIri-had, IsTag-had}
 use Rattle.rdf_lines.specs.Slots.{IsTailText}
 use Rattle.rdf_lines.proofs.slots.TailText.view.Goals as goal

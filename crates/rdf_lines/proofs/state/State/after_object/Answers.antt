@@ -1,6 +1,4 @@
-use Rattle.std.proofs.Common.{refl, ap}
-use Rattle.rdf_lines.specs.Machine.{AfterGraph}
-use Rattle.rdf_lines.specs.States.{object_of, predicate_of}
+use Rattle.rdf_lines.proofs.Prelude.{refl, ap, AfterGraph, object_of, predicate_of}
 use Rattle.rdf_lines.proofs.state.State.after_object.Goals as goal
 
 pub returns-in_ok-set_label-in-NQuads-LabelNode-clause-ok : goal.returns-in_ok-set_label-in-NQuads-LabelNode-clause-ok

@@ -1,4 +1,4 @@
-use Rattle.std.proofs.Common.{rules}
+use Rattle.rdf_lines.proofs.Prelude.{rules}
 use Rattle.rdf_lines.proofs.state.State.after_string.Goals as goal
 
 pub returns-in-Carets-clause-ok : goal.returns-in-Carets-clause-ok

@@ -1,8 +1,5 @@
-use Rattle.std.proofs.Common.{◌≡◌, ◌∙◌, sym, ap, subst}
-use Rattle.rdf_terms.specs.Terms.{Literal, Typed, xsd_string}
-use Rattle.rdf_lines.specs.Lines.{any_iri}
-use Rattle.rdf_lines.specs.Machine.{accept}
-use Rattle.rdf_lines.specs.States.{is_accepted, mode_at, predicate_of, text_in}
+use Rattle.rdf_lines.proofs.Prelude.{◌≡◌, ◌∙◌, sym, ap, subst, Literal, Typed, xsd_string, any_iri, accept, is_accepted, mode_at, predicate_of}
+use Rattle.rdf_lines.specs.States.{text_in}
 use Rattle.rdf_lines.proofs.NextKinds.{text_then}
 use Rattle.rdf_lines.proofs.state.State.may_come.Goals as goal
 

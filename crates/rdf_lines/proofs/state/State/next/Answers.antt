@@ -1,9 +1,7 @@
 -- In each state within a line the code accepts what the machine accepts, and refuses what it refuses.
-use Rattle.rdf_lines.specs.declared.form.LineForm.{LineForm}
-use Rattle.rdf_lines.specs.declared.rules.Rules.{Rules}
+use Rattle.rdf_lines.proofs.Prelude.{LineForm, Rules, mode_at, answer}
 use Rattle.rdf_lines.specs.declared.state.Mode.TheVariants as at
 use Rattle.rdf_lines.specs.Machine as M
-use Rattle.rdf_lines.specs.States.{mode_at, answer}
 use Rattle.rdf_lines.proofs.StatesLemmas.{does_goes, fails_declines, does_same, fails_same}
 use Rattle.rdf_lines.proofs.state.State.next.Goals as goal
 

@@ -1,8 +1,5 @@
-use Rattle.std.proofs.Common.{ap, sym, ◌∙◌}
-use Rattle.rdf_lines.specs.Forms.{form_of}
-use Rattle.rdf_lines.specs.WrittenBytes.{graph_bytes}
+use Rattle.rdf_lines.proofs.Prelude.{ap, sym, ◌∙◌, form_of, graph_bytes, Placed-as}
 use Rattle.rdf_lines.proofs.EncodedLine.{encoded_graph}
-use Rattle.rdf_terms.proofs.Places.{Placed-as}
 use Rattle.rdf_lines.proofs.writer.at_once.place_graph.Goals as goal
 
 pub returns-in-Some-clause-placed : goal.returns-in-Some-clause-placed

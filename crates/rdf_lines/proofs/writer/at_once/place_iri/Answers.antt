@@ -1,6 +1,5 @@
-use Rattle.std.proofs.Common.{◌++◌, [], ◌∷◌, ap, sym, ◌∙◌}
+use Rattle.rdf_lines.proofs.Prelude.{◌++◌, [], ◌∷◌, ap, sym, ◌∙◌, Placed-as, Placed-then}
 use Rattle.rdf_lines.proofs.PlacedLines.{plain_iri_bytes}
-use Rattle.rdf_terms.proofs.Places.{Placed-as, Placed-then}
 use Rattle.rdf_lines.proofs.writer.at_once.place_iri.Goals as goal
 
 pub returns-clause-placed : goal.returns-clause-placed

@@ -1,4 +1,4 @@
-use Rattle.rdf_terms.proofs.Places.{Placed-then}
+use Rattle.rdf_lines.proofs.Prelude.{Placed-then}
 use Rattle.rdf_lines.proofs.writer.at_once.place_iris.Goals as goal
 
 pub returns : goal.returns

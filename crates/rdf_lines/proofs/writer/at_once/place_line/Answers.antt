@@ -1,10 +1,6 @@
-use Rattle.std.proofs.Common.{ℕ, List, ◌++◌, [], ◌∷◌, append_assoc, ap, sym, ◌∙◌, arith}
-use Rattle.rdf_lines.specs.declared.form.Escapes.{Escapes}
-use Rattle.rdf_lines.specs.Forms.{form_of}
-use Rattle.rdf_lines.specs.Writing.{space}
-use Rattle.rdf_lines.specs.WrittenBytes.{graph_bytes, iri_bytes, subject_bytes, term_bytes}
+use Rattle.rdf_lines.proofs.Prelude.{ℕ, List, ◌++◌, [], ◌∷◌, append_assoc, ap, sym, ◌∙◌, arith, Escapes, form_of, space, graph_bytes, subject_bytes, term_bytes, Placed-as, Placed-then}
+use Rattle.rdf_lines.specs.WrittenBytes.{iri_bytes}
 use Rattle.rdf_lines.proofs.EncodedLine.{encoded_line}
-use Rattle.rdf_terms.proofs.Places.{Placed-as, Placed-then}
 use Rattle.rdf_lines.proofs.writer.at_once.place_line.Goals as goal
 
 pub place_object-fourth-requires-clause-room : goal.place_object-fourth-requires-clause-room

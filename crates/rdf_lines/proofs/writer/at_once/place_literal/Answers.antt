@@ -1,6 +1,5 @@
-use Rattle.std.proofs.Common.{sym}
+use Rattle.rdf_lines.proofs.Prelude.{sym, Placed-as, Placed-then}
 use Rattle.rdf_lines.proofs.PlacedCharacters.{quoted_bytes}
-use Rattle.rdf_terms.proofs.Places.{Placed-as, Placed-then}
 use Rattle.rdf_lines.proofs.writer.at_once.place_literal.Goals as goal
 
 pub returns-clause-placed : goal.returns-clause-placed

@@ -1,9 +1,6 @@
-use Rattle.std.proofs.Common.{ap, sym, ◌∙◌}
-use Rattle.rdf_lines.specs.Forms.{form_of, prefix_chars}
-use Rattle.rdf_lines.specs.WrittenBytes.{node_bytes}
+use Rattle.rdf_lines.proofs.Prelude.{ap, sym, ◌∙◌, form_of, prefix_chars, node_bytes, Placed-as}
 use Rattle.rdf_lines.proofs.EncodedLine.{encoded_prefix}
 use Rattle.rdf_lines.proofs.PlacedLines.{placed_anon, placed_cell, placed_label}
-use Rattle.rdf_terms.proofs.Places.{Placed-as}
 use Rattle.rdf_lines.proofs.writer.at_once.place_node.Goals as goal
 
 pub returns-in-Label-clause-placed : goal.returns-in-Label-clause-placed

@@ -1,5 +1,4 @@
-use Rattle.std.proofs.Common.{◌≡◌, length, ap, arith}
-use Rattle.std.proofs.lemmas.Fmt.{length-decimal-le}
+use Rattle.rdf_lines.proofs.Prelude.{◌≡◌, length, ap, arith, length-decimal-le}
 use Rattle.rdf_lines.proofs.writer.at_once.place_number.Goals as goal
 
 pub place_digits-requires : goal.place_digits-requires

@@ -1,12 +1,6 @@
-use Rattle.std.proofs.Common.{◌≡◌, ap, sym, ◌∙◌}
-use Rattle.std.specs.Prelude.{bytes_eq, chars, encode_utf8_all}
-use Rattle.std.proofs.lemmas.Str.{IsUtf8-had}
-use Rattle.rdf_terms.specs.Terms.{xsd_string}
+use Rattle.rdf_lines.proofs.Prelude.{◌≡◌, ap, sym, ◌∙◌, bytes_eq, chars, encode_utf8_all, IsUtf8-had, xsd_string, type_text, tail_bytes, Placed-as}
 use Rattle.rdf_lines.specs.declared.form.Escapes.TheVariants.{Plain}
-use Rattle.rdf_lines.specs.Writing.{type_text}
-use Rattle.rdf_lines.specs.WrittenBytes.{tail_bytes}
 use Rattle.rdf_lines.proofs.EncodedLine.{encoded_tag, same_type}
-use Rattle.rdf_terms.proofs.Places.{Placed-as}
 use Rattle.rdf_lines.proofs.writer.at_once.place_tail.Goals as goal
 
 pub returns-in-Lang-clause-placed : goal.returns-in-Lang-clause-placed

@@ -1,8 +1,5 @@
-use Rattle.std.proofs.Common.{◌++◌, ap, sym, ◌∙◌}
-use Rattle.rdf_lines.specs.Forms.{form_of}
-use Rattle.rdf_lines.specs.WrittenBytes.{string_bytes_of, tail_bytes, term_bytes}
+use Rattle.rdf_lines.proofs.Prelude.{◌++◌, ap, sym, ◌∙◌, form_of, string_bytes_of, tail_bytes, term_bytes, Placed-as}
 use Rattle.rdf_lines.proofs.EncodedLine.{literal_bytes}
-use Rattle.rdf_terms.proofs.Places.{Placed-as}
 use Rattle.rdf_lines.proofs.writer.at_once.place_term.Goals as goal
 
 pub returns-in-Literal-clause-placed : goal.returns-in-Literal-clause-placed

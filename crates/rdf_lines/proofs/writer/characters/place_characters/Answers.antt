@@ -1,13 +1,8 @@
-use Rattle.std.proofs.Common.{◌≡◌, true, ap, sym, ◌∙◌}
-use Rattle.std.specs.Prelude.{flat_map}
+use Rattle.rdf_lines.proofs.Prelude.{◌≡◌, true, ap, sym, ◌∙◌, flat_map, goes_over, all_have, escaped, Placed-as}
 use Rattle.rdf_terms.specs.declared.runs.Run.TheVariants.{QuoteText}
-use Rattle.rdf_terms.specs.Runs.{goes_over}
-use Rattle.rdf_terms.specs.Terms.{all_have}
 use Rattle.rdf_lines.specs.declared.form.Escapes.TheVariants.{Plain}
-use Rattle.rdf_lines.specs.Writing.{escaped}
 use Rattle.rdf_lines.proofs.EscapedRuns.{text_stands}
 use Rattle.rdf_lines.proofs.PlacedCharacters.{escaped_by_bytes}
-use Rattle.rdf_terms.proofs.Places.{Placed-as}
 use Rattle.rdf_lines.proofs.writer.characters.place_characters.Goals as goal
 
 pub returns-then-is_run-clause-placed : goal.returns-then-is_run-clause-placed

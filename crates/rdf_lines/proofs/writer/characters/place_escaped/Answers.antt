@@ -1,9 +1,6 @@
-use Rattle.std.proofs.Common.{◌-◌, drop, ap, ◌∙◌, arith, take_all, length-take-le, length-drop}
-use Rattle.std.specs.Prelude.{flat_map}
+use Rattle.rdf_lines.proofs.Prelude.{◌-◌, drop, ap, ◌∙◌, arith, take_all, length-take-le, length-drop, flat_map, escaped, Placed-as, Placed-then}
 use Rattle.rdf_lines.specs.declared.form.Escapes.TheVariants.{Plain}
-use Rattle.rdf_lines.specs.Writing.{escaped}
 use Rattle.rdf_lines.proofs.PlacedCharacters.{run_placed, byte_placed}
-use Rattle.rdf_terms.proofs.Places.{Placed-as, Placed-then}
 use Rattle.rdf_lines.proofs.writer.characters.place_escaped.Goals as goal
 
 pub returns-then-stop-bytes-clause-placed : goal.returns-then-stop-bytes-clause-placed

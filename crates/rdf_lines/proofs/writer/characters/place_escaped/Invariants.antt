@@ -1,8 +1,5 @@
-use Rattle.std.proofs.Common.{◌+◌, ◌-◌, ◌*◌, ◌≤◌, length, take}
-use Rattle.std.specs.Prelude.{flat_map}
+use Rattle.rdf_lines.proofs.Prelude.{◌+◌, ◌-◌, ◌*◌, ◌≤◌, length, take, flat_map, Placed, escaped}
 use Rattle.rdf_lines.specs.declared.form.Escapes.TheVariants.{Plain}
-use Rattle.rdf_terms.specs.Placing.{Placed}
-use Rattle.rdf_lines.specs.Writing.{escaped}
 use Rattle.rdf_lines.proofs.writer.characters.place_escaped.Given as goal
 
 abbrev pub invariant-loop-from : goal.invariant-loop-from

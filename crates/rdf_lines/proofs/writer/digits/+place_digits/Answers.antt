@@ -1,6 +1,4 @@
-use Rattle.std.proofs.Common.{sym, arith}
-use Rattle.itoa.proofs.Decimal.{decimal_four, length_four}
-use Rattle.rdf_terms.proofs.Places.{Placed-as, Placed-then}
+use Rattle.rdf_lines.proofs.Prelude.{sym, arith, decimal_four, length_four, Placed-as, Placed-then}
 use Rattle.rdf_lines.proofs.writer.digits.+place_digits.Goals as goal
 
 pub place_digits-front-requires : goal.place_digits-front-requires

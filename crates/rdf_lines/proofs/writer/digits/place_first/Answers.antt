@@ -1,7 +1,4 @@
-use Rattle.std.proofs.Common.{sym, arith}
-use Rattle.std.proofs.lemmas.Fmt.{decimal_digit}
-use Rattle.itoa.proofs.Decimal.{decimal_two, length_one, length_two}
-use Rattle.rdf_terms.proofs.Places.{Placed-as}
+use Rattle.rdf_lines.proofs.Prelude.{sym, arith, decimal_digit, decimal_two, length_one, length_two, Placed-as}
 use Rattle.rdf_lines.proofs.writer.digits.place_first.Goals as goal
 
 pub place_byte-requires : goal.place_byte-requires

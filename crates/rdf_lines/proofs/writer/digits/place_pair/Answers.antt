@@ -1,5 +1,5 @@
 use Rattle.rdf_lines.proofs.DigitPairs.{pair_at}
-use Rattle.rdf_terms.proofs.Places.{Placed-as}
+use Rattle.rdf_lines.proofs.Prelude.{Placed-as}
 use Rattle.rdf_lines.proofs.writer.digits.place_pair.Goals as goal
 
 pub returns : goal.returns

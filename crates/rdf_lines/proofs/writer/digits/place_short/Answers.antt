@@ -1,6 +1,4 @@
-use Rattle.std.proofs.Common.{sym, arith}
-use Rattle.itoa.proofs.Decimal.{decimal_pair, length_pair}
-use Rattle.rdf_terms.proofs.Places.{Placed-as, Placed-then}
+use Rattle.rdf_lines.proofs.Prelude.{sym, arith, decimal_pair, length_pair, Placed-as, Placed-then}
 use Rattle.rdf_lines.proofs.writer.digits.place_short.Goals as goal
 
 pub place_first-next-requires : goal.place_first-next-requires

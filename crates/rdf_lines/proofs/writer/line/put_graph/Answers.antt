@@ -1,6 +1,4 @@
-use Rattle.std.proofs.Common.{◌++◌, ap, sym, ◌∙◌}
-use Rattle.rdf_lines.specs.Forms.{form_of}
-use Rattle.rdf_lines.specs.WrittenBytes.{graph_bytes}
+use Rattle.rdf_lines.proofs.Prelude.{◌++◌, ap, sym, ◌∙◌, form_of, graph_bytes}
 use Rattle.rdf_lines.proofs.EncodedLine.{encoded_graph}
 use Rattle.rdf_lines.proofs.WrittenBytesLemmas.{on_ok}
 use Rattle.rdf_lines.proofs.writer.line.put_graph.Goals as goal

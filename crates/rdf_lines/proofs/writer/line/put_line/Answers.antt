@@ -1,8 +1,5 @@
-use Rattle.std.proofs.Common.{◌≡◌, ◌++◌, [], ◌∷◌, append_assoc, ap, sym, ◌∙◌}
-use Rattle.std.proofs.lemmas.Result.{on_err_weaker}
-use Rattle.rdf_lines.specs.Forms.{form_of}
-use Rattle.rdf_lines.specs.Writing.{space}
-use Rattle.rdf_lines.specs.WrittenBytes.{subject_bytes, iri_bytes, term_bytes, graph_bytes}
+use Rattle.rdf_lines.proofs.Prelude.{◌≡◌, ◌++◌, [], ◌∷◌, append_assoc, ap, sym, ◌∙◌, on_err_weaker, form_of, space, subject_bytes, term_bytes, graph_bytes}
+use Rattle.rdf_lines.specs.WrittenBytes.{iri_bytes}
 use Rattle.rdf_lines.proofs.EncodedLine.{encoded_line}
 use Rattle.rdf_lines.proofs.WrittenBytesLemmas.{on_ok, on_err, parts_appended, begins_with_front}
 use Rattle.rdf_lines.proofs.writer.line.put_line.Goals as goal

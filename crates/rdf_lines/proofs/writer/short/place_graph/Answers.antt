@@ -1,7 +1,5 @@
-use Rattle.std.proofs.Common.{Some, ap, sym, ◌∙◌}
-use Rattle.rdf_terms.proofs.Places.{Placed-as}
+use Rattle.rdf_lines.proofs.Prelude.{Some, ap, sym, ◌∙◌, Placed-as, graph_bytes, usual}
 use Rattle.rdf_terms.specs.declared.views.SubjectRef.TheVariants.{Iri}
-use Rattle.rdf_lines.specs.WrittenBytes.{graph_bytes, usual}
 use Rattle.rdf_lines.proofs.EncodedLine.{encoded_graph}
 use Rattle.rdf_lines.proofs.writer.short.place_graph.Goals as goal
 

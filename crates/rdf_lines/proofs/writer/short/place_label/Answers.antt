@@ -1,5 +1,4 @@
-use Rattle.std.proofs.Common.{◌∷◌, ap}
-use Rattle.rdf_terms.proofs.Places.{Placed-as, Placed-then}
+use Rattle.rdf_lines.proofs.Prelude.{◌∷◌, ap, Placed-as, Placed-then}
 use Rattle.rdf_lines.proofs.writer.short.place_label.Goals as goal
 
 pub returns-clause-placed : goal.returns-clause-placed

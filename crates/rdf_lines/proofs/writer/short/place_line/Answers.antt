@@ -1,8 +1,5 @@
-use Rattle.std.proofs.Common.{ap, sym, ◌∙◌}
-use Rattle.rdf_terms.specs.Placing.{Placed}
-use Rattle.rdf_terms.proofs.Places.{Placed-as, Placed-then}
+use Rattle.rdf_lines.proofs.Prelude.{ap, sym, ◌∙◌, Placed, Placed-as, Placed-then, term_bytes, usual}
 use Rattle.rdf_lines.specs.declared.form.Escapes.TheVariants.{Plain}
-use Rattle.rdf_lines.specs.WrittenBytes.{term_bytes, usual}
 use Rattle.rdf_lines.proofs.EncodedLine.{literal_bytes}
 use Rattle.rdf_lines.proofs.PlacedCharacters.{quoted_bytes}
 use Rattle.rdf_lines.proofs.PlacedLines.{placed_at, short_line}

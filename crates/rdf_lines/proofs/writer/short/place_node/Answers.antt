@@ -1,9 +1,5 @@
-use Rattle.std.proofs.Common.{ℕ, [], ◌∷◌, refl, ap, sym, ◌∙◌}
-use Rattle.std.specs.Prelude.{decimal}
-use Rattle.rdf_terms.proofs.Places.{Placed-as}
+use Rattle.rdf_lines.proofs.Prelude.{ℕ, [], ◌∷◌, refl, ap, sym, ◌∙◌, decimal, Placed-as, Tagged, node_bytes, usual}
 use Rattle.rdf_lines.specs.declared.form.Escapes.TheVariants.{Plain}
-use Rattle.rdf_lines.specs.declared.form.Style.TheVariants.{Tagged}
-use Rattle.rdf_lines.specs.WrittenBytes.{node_bytes, usual}
 use Rattle.rdf_lines.proofs.PlacedLines.{placed_anon, placed_cell, placed_label}
 use Rattle.rdf_lines.proofs.writer.short.place_node.Goals as goal
 use Rattle.rdf_lines.proofs.writer.short.place_node.Goals.{in-Anon, in-Cell}

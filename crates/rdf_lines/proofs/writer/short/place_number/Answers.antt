@@ -1,6 +1,4 @@
-use Rattle.std.proofs.Common.{arith}
-use Rattle.std.proofs.lemmas.Fmt.{length-decimal-le}
-use Rattle.rdf_terms.proofs.Places.{Placed-then}
+use Rattle.rdf_lines.proofs.Prelude.{arith, length-decimal-le, Placed-then}
 use Rattle.rdf_lines.proofs.writer.short.place_number.Goals as goal
 
 pub place_twelve-requires : goal.place_twelve-requires

@@ -1,7 +1,4 @@
-use Rattle.std.proofs.Common.{◌++◌, ap, sym, ◌∙◌}
-use Rattle.std.specs.Prelude.{encode_utf8_all}
-use Rattle.std.proofs.Math.Utf8.{encode}
-use Rattle.rdf_lines.specs.Writing.{escaped}
+use Rattle.rdf_lines.proofs.Prelude.{◌++◌, ap, sym, ◌∙◌, encode_utf8_all, encode, escaped}
 use Rattle.rdf_lines.proofs.WrittenBytesLemmas.{on_ok, where_ok}
 use Rattle.rdf_lines.proofs.writer.string.put_char.Goals as goal
 

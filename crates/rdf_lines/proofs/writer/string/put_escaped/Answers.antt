@@ -1,9 +1,4 @@
-use Rattle.std.proofs.Common.{◌≡◌, ◌++◌, length, sym, ap, ◌∙◌, true}
-use Rattle.std.proofs.lemmas.Bool.{eqb-true}
-use Rattle.std.proofs.lemmas.List.{append-nil}
-use Rattle.rdf_terms.specs.Runs.{goes_over}
-use Rattle.rdf_terms.specs.Terms.{all_have}
-use Rattle.rdf_lines.specs.WrittenBytes.{run_of}
+use Rattle.rdf_lines.proofs.Prelude.{◌≡◌, ◌++◌, length, sym, ap, ◌∙◌, true, eqb-true, append-nil, goes_over, all_have, run_of}
 use Rattle.rdf_lines.proofs.EscapedRuns.{none_written, text_stands}
 use Rattle.rdf_lines.proofs.WrittenBytesLemmas.{on_ok, where_ok, begins_where_err}
 use Rattle.rdf_lines.proofs.writer.string.put_escaped.Goals as goal

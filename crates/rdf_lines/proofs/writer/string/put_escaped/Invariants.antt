@@ -1,7 +1,6 @@
-use Rattle.std.proofs.Common.{◌≡◌, ◌++◌, length}
+use Rattle.rdf_lines.proofs.Prelude.{◌≡◌, ◌++◌, length, BeginsWith, escaped_bytes}
 use denote.Text.{Utf8}
 use denote.Shadow.{shadow}
-use Rattle.rdf_lines.specs.WrittenBytes.{BeginsWith, escaped_bytes}
 use Rattle.rdf_lines.proofs.writer.string.put_escaped.Given as goal
 
 abbrev pub invariant-loop-rest : goal.invariant-loop-rest

@@ -1,8 +1,5 @@
-use Rattle.std.proofs.Common.{◌++◌, append_assoc, sym, ap, ◌∙◌, refl}
-use Rattle.std.specs.Prelude.{encode_utf8, encode_utf8_all}
+use Rattle.rdf_lines.proofs.Prelude.{◌++◌, append_assoc, sym, ap, ◌∙◌, refl, encode_utf8, encode_utf8_all, escaped, escaped_bytes}
 use Rattle.std.proofs.lemmas.Option.{MatchOption-at_some}
-use Rattle.rdf_lines.specs.Writing.{escaped}
-use Rattle.rdf_lines.specs.WrittenBytes.{escaped_bytes}
 use Rattle.rdf_lines.proofs.EscapedRuns.{char_written}
 use Rattle.rdf_lines.proofs.WrittenBytesLemmas.{begins_with_same, begins_with_front}
 use Rattle.rdf_lines.proofs.writer.string.put_first.Goals as goal

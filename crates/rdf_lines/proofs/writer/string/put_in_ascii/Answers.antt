@@ -1,7 +1,5 @@
 -- An IRI of ASCII is appended as it stands.
-use Rattle.std.proofs.Common.{◌≡◌, ◌++◌, sym, ap, ◌∙◌, true}
-use Rattle.rdf_terms.specs.Runs.{is_ascii_byte}
-use Rattle.rdf_terms.specs.Terms.{all_have}
+use Rattle.rdf_lines.proofs.Prelude.{◌≡◌, ◌++◌, sym, ap, ◌∙◌, true, is_ascii_byte, all_have}
 use Rattle.rdf_lines.proofs.EscapedRuns.{ascii_iri}
 use Rattle.rdf_lines.proofs.WrittenBytesLemmas.{on_ok, where_ok}
 use Rattle.rdf_lines.proofs.writer.string.put_in_ascii.Goals as goal

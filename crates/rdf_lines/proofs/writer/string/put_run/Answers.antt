@@ -1,8 +1,4 @@
-use Rattle.std.proofs.Common.{ℕ, List, ◌≡◌, ◌++◌, append_assoc, take, drop, subst, sym, ap, ◌∙◌, refl}
-use Rattle.std.specs.Str.{IsUtf8}
-use Rattle.rdf_terms.specs.Runs.{IsRun, goes_over}
-use Rattle.rdf_lines.specs.declared.form.Escapes.{Escapes}
-use Rattle.rdf_lines.specs.WrittenBytes.{escaped_bytes, run_of}
+use Rattle.rdf_lines.proofs.Prelude.{ℕ, List, ◌≡◌, ◌++◌, append_assoc, take, drop, subst, sym, ap, ◌∙◌, refl, IsUtf8, IsRun, goes_over, Escapes, escaped_bytes, run_of}
 use Rattle.rdf_lines.proofs.EscapedRuns.{run_cut, run_written}
 use Rattle.rdf_lines.proofs.WrittenBytesLemmas.{if_ok, begins_with_front, begins_with_same}
 use Rattle.rdf_lines.proofs.writer.string.put_run.Goals as goal

@@ -1,8 +1,4 @@
-use Rattle.std.proofs.Common.{◌++◌, [], ◌∷◌, ap, sym, ◌∙◌, arith}
-use Rattle.std.specs.Prelude.{chars, flat_map}
-use Rattle.std.proofs.lemmas.Result.{on_err_weaker}
-use Rattle.rdf_lines.specs.Writing.{escaped}
-use Rattle.rdf_lines.specs.WrittenBytes.{escaped_bytes}
+use Rattle.rdf_lines.proofs.Prelude.{◌++◌, [], ◌∷◌, ap, sym, ◌∙◌, arith, chars, flat_map, on_err_weaker, escaped, escaped_bytes}
 use Rattle.rdf_lines.proofs.EncodedLine.{between}
 use Rattle.rdf_lines.proofs.WrittenBytesLemmas.{on_ok, on_err, parts_appended, where_ok, begins_with_front, begins_with_same, begins_where_err}
 use Rattle.rdf_lines.proofs.writer.string.put_string.Goals as goal

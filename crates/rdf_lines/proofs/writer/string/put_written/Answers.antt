@@ -1,11 +1,5 @@
 -- A character as the form writes it: an escape, or itself.
-use Rattle.std.proofs.Common.{◌≡◌, ℕ, ◌<◌, false, [], ◌∷◌, ◌++◌, ap, sym, ◌∙◌, arith}
-use Rattle.std.specs.Prelude.{encode_utf8_all, nat_le}
-use Rattle.std.proofs.lemmas.Bool.{cond-false}
-use Rattle.std.proofs.lemmas.Bool.Decides.{nat_tests}
-use Rattle.rdf_lines.specs.declared.form.Escapes.{Escapes}
-use Rattle.rdf_lines.specs.declared.form.Escapes.TheVariants.{Ascii}
-use Rattle.rdf_lines.specs.Writing.{uchar, written}
+use Rattle.rdf_lines.proofs.Prelude.{◌≡◌, ℕ, ◌<◌, false, [], ◌∷◌, ◌++◌, ap, sym, ◌∙◌, arith, encode_utf8_all, nat_le, cond-false, nat_tests, Escapes, Ascii, uchar, written}
 use Rattle.rdf_lines.proofs.AsciiLemmas.{low_encodes}
 use Rattle.rdf_lines.proofs.UcharLemmas.{uchar_low}
 use Rattle.rdf_lines.proofs.WrittenBytesLemmas.{on_ok}

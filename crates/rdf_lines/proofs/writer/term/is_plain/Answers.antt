@@ -1,6 +1,5 @@
 -- The three parts are all of it.
-use Rattle.std.proofs.Common.{◌≡◌, ◌&&◌, ◌∙◌, length, take, drop, ap, arith, bytes_eq}
-use Rattle.rdf_terms.specs.Terms.{xsd_string}
+use Rattle.rdf_lines.proofs.Prelude.{◌≡◌, ◌&&◌, ◌∙◌, length, take, drop, ap, arith, bytes_eq, xsd_string}
 use Rattle.rdf_lines.proofs.PlainTypeLemmas.{string_by}
 use Rattle.rdf_lines.proofs.writer.term.is_plain.Goals as goal
 

@@ -1,8 +1,4 @@
-use Rattle.std.proofs.Common.{◌∷◌, ap, sym, ◌∙◌}
-use Rattle.rdf_terms.specs.Terms.{Label}
-use Rattle.rdf_terms.specs.Views.{node_by}
-use Rattle.rdf_lines.specs.declared.form.Style.TheVariants.{Tagged}
-use Rattle.rdf_lines.specs.Writing.{rename_node}
+use Rattle.rdf_lines.proofs.Prelude.{◌∷◌, ap, sym, ◌∙◌, Label, node_by, Tagged, rename_node}
 use Rattle.rdf_lines.proofs.writer.term.letter_and_name.Goals as goal
 
 pub returns-in-Label-node-clause-named : goal.returns-in-Label-node-clause-named

@@ -1,5 +1,5 @@
 -- Three parts in turn.
-use Rattle.std.proofs.Common.{[], ◌∷◌}
+use Rattle.rdf_lines.proofs.Prelude.{[], ◌∷◌}
 use Rattle.rdf_lines.proofs.WrittenBytesLemmas.{on_ok, parts_appended}
 use Rattle.rdf_lines.proofs.writer.term.put_front.Goals as goal
 

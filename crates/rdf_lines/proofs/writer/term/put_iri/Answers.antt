@@ -1,8 +1,4 @@
-use Rattle.std.proofs.Common.{◌++◌, [], ◌∷◌, ap, sym, ◌∙◌, arith}
-use Rattle.std.specs.Prelude.{encode_utf8_all, flat_map}
-use Rattle.rdf_terms.specs.Views.{iri_chars}
-use Rattle.std.proofs.lemmas.Result.{on_err_weaker}
-use Rattle.rdf_lines.specs.Writing.{written}
+use Rattle.rdf_lines.proofs.Prelude.{◌++◌, [], ◌∷◌, ap, sym, ◌∙◌, arith, encode_utf8_all, flat_map, iri_chars, on_err_weaker, written}
 use Rattle.rdf_lines.proofs.EncodedLine.{between}
 use Rattle.rdf_lines.proofs.WrittenBytesLemmas.{on_ok, on_err, parts_appended, where_ok, begins_with_front, begins_with_same, begins_where_err}
 use Rattle.rdf_lines.proofs.writer.term.put_iri.Goals as goal

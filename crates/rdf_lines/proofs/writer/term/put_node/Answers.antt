@@ -1,6 +1,4 @@
-use Rattle.std.proofs.Common.{◌≡◌, ◌∷◌, ◌++◌, append_assoc, ap, sym, ◌∙◌}
-use Rattle.rdf_lines.specs.Forms.{form_of}
-use Rattle.rdf_lines.specs.WrittenBytes.{node_bytes}
+use Rattle.rdf_lines.proofs.Prelude.{◌≡◌, ◌∷◌, ◌++◌, append_assoc, ap, sym, ◌∙◌, form_of, node_bytes}
 use Rattle.rdf_lines.proofs.EncodedLine.{encoded_prefix, encoded_node}
 use Rattle.rdf_lines.proofs.WrittenBytesLemmas.{on_ok, where_ok}
 use Rattle.rdf_lines.proofs.writer.term.put_node.Goals as goal

@@ -1,5 +1,4 @@
-use Rattle.std.proofs.Common.{length, sym, ◌∙◌}
-use Rattle.std.proofs.lemmas.Bool.{eqb-true}
+use Rattle.rdf_lines.proofs.Prelude.{length, sym, ◌∙◌, eqb-true}
 use Rattle.rdf_lines.proofs.WrittenBytesLemmas.{none_appended}
 use Rattle.rdf_lines.proofs.writer.term.put_part.Goals as goal
 

@@ -1,6 +1,4 @@
-use Rattle.std.proofs.Common.{◌++◌, append_assoc, ap, sym, ◌∙◌}
-use Rattle.rdf_lines.specs.Forms.{form_of}
-use Rattle.rdf_lines.specs.WrittenBytes.{string_bytes_of, tail_bytes, term_bytes}
+use Rattle.rdf_lines.proofs.Prelude.{◌++◌, append_assoc, ap, sym, ◌∙◌, form_of, string_bytes_of, tail_bytes, term_bytes}
 use Rattle.rdf_lines.proofs.EncodedLine.{literal_bytes}
 use Rattle.rdf_lines.proofs.WrittenBytesLemmas.{on_ok}
 use Rattle.rdf_lines.proofs.writer.term.put_term.Goals as goal

@@ -1,5 +1,5 @@
 -- What is appended comes after what stood there.
-use Rattle.std.proofs.lemmas.Result.{on_err_weaker}
+use Rattle.rdf_lines.proofs.Prelude.{on_err_weaker}
 use Rattle.rdf_lines.proofs.WrittenBytesLemmas.{begins_with_front, on_err, begins_with_same}
 use Rattle.rdf_lines.proofs.writer.term.put_type.Goals as goal
 

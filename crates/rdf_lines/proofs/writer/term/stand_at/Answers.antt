@@ -1,7 +1,6 @@
 -- No lane differs.
-use Rattle.std.proofs.Common.{◌≡◌, ◌≤◌, ◌∙◌, ◌%◌, ◌^◌, ◌==◌, ℕ, not, length, take, drop, ap, arith, bytes_eq, w8}
+use Rattle.rdf_lines.proofs.Prelude.{◌≡◌, ◌≤◌, ◌∙◌, ◌%◌, ◌^◌, ◌==◌, ℕ, not, length, take, drop, ap, arith, bytes_eq, w8, take_all}
 use Rattle.std.specs.Simd.Lanes.{mask_l, zip2}
-use Rattle.std.proofs.lemmas.List.{take_all}
 use Rattle.std.proofs.lemmas.Simd.{length-chunk, length-zip2, mask_l-mod, tops_compared}
 use Rattle.rdf_lines.proofs.PlainTypeLemmas.{same_lanes}
 use Rattle.rdf_lines.proofs.writer.term.stand_at.Goals as goal

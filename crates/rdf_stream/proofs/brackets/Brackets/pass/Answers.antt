@@ -1,7 +1,5 @@
 -- The part of the piece that is taken decides the token at the place, or its tokens are noted.
-use Rattle.std.proofs.Common.{◌++◌, take, drop, subst, append_assoc}
-use Rattle.rdf_tokens.specs.Good.{tokens_of}
-use Rattle.rdf_stream.specs.Opening.{ComesTo, IsNoted}
+use Rattle.rdf_stream.proofs.Prelude.{◌++◌, take, drop, subst, append_assoc, tokens_of, ComesTo, IsNoted}
 use Rattle.rdf_stream.proofs.BracketLemmas.{comes_with_more, front_more, noted_bytes, whole_piece}
 use Rattle.rdf_stream.proofs.brackets.Brackets.pass.Goals as goal
 

@@ -1,8 +1,5 @@
 -- What was taken of the piece is noted, and its tokens were given.
-use Rattle.std.proofs.Common.{◌≡◌, ◌++◌, ℕ, List, length}
-use Rattle.rdf_terms.specs.declared.kind.Dialect.{Dialect}
-use Rattle.rdf_tokens.specs.Scans.{IsWaiting}
-use Rattle.rdf_stream.specs.Opening.{HasNoted}
+use Rattle.rdf_stream.proofs.Prelude.{◌≡◌, ◌++◌, ℕ, List, length, Dialect, IsWaiting, HasNoted}
 use Rattle.rdf_stream.proofs.brackets.Brackets.pass.Given as goal
 
 abbrev pub invariant-parts : goal.invariant-parts

@@ -1,7 +1,5 @@
 -- The token at the place is given, or one before it is noted.
-use Rattle.std.proofs.Common.{◌∙◌, subst}
-use Rattle.rdf_tokens.specs.Good.{tokens_of}
-use Rattle.rdf_stream.specs.Opening.{ComesTo, Offers}
+use Rattle.rdf_stream.proofs.Prelude.{◌∙◌, subst, tokens_of, ComesTo, Offers}
 use Rattle.rdf_stream.proofs.BracketLemmas.{comes_to, noted_token}
 use Rattle.rdf_stream.proofs.brackets.Brackets.pass_tokens.Goals as goal
 

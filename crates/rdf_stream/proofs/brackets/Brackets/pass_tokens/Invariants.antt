@@ -1,8 +1,5 @@
 -- The tokens so far are noted.
-use Rattle.std.proofs.Common.{◌≡◌, ℕ, List}
-use Rattle.rdf_terms.specs.declared.kind.Dialect.{Dialect}
-use Rattle.rdf_tokens.specs.Scans.{left}
-use Rattle.rdf_stream.specs.Opening.{HasNoted}
+use Rattle.rdf_stream.proofs.Prelude.{◌≡◌, ℕ, List, Dialect, left, HasNoted}
 use Rattle.rdf_stream.proofs.brackets.Brackets.pass_tokens.Given as goal
 
 abbrev pub invariant-tokens : goal.invariant-tokens

@@ -1,6 +1,4 @@
-use Rattle.std.proofs.Common.{subst, sym}
-use Rattle.std.proofs.lemmas.List.{append-nil}
-use Rattle.rdf_stream.specs.CheckRuns.{IsChecking}
+use Rattle.rdf_stream.proofs.Prelude.{subst, sym, append-nil, IsChecking}
 use Rattle.rdf_stream.proofs.checks.ReaderPartsNoQuads.pass_escaped.Goals as goal
 
 pub returns-clause-takes : goal.returns-clause-takes

@@ -1,6 +1,4 @@
-use Rattle.std.proofs.Common.{sym, subst, ◌++◌, false, append_assoc}
-use Rattle.rdf_stream.specs.CheckRuns.{CheckHalts}
-use Rattle.rdf_stream.specs.ExpectedRuns.{StandsFor}
+use Rattle.rdf_stream.proofs.Prelude.{sym, subst, ◌++◌, false, append_assoc, CheckHalts, StandsFor}
 use Rattle.rdf_stream.proofs.ChecksLemmas.{halts_more, piece_halts}
 use Rattle.rdf_stream.proofs.ExpectedLemmas.{stands_in_piece, stands_more}
 use Rattle.rdf_stream.proofs.checks.ReaderPartsNoQuads.read_part.Goals as goal

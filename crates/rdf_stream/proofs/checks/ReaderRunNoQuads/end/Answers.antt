@@ -1,6 +1,4 @@
-use Rattle.std.proofs.Common.{sym, subst, true}
-use Rattle.rdf_stream.specs.CheckRuns.{CheckHalts}
-use Rattle.rdf_stream.specs.ExpectedRuns.{StandsFor}
+use Rattle.rdf_stream.proofs.Prelude.{sym, subst, true, CheckHalts, StandsFor}
 use Rattle.rdf_stream.proofs.ChecksLemmas.{end_halts, end_read}
 use Rattle.rdf_stream.proofs.ExpectedLemmas.{stands_at_end}
 use Rattle.rdf_stream.proofs.checks.ReaderRunNoQuads.end.Goals as goal

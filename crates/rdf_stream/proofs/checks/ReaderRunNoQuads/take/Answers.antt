@@ -1,4 +1,4 @@
-use Rattle.std.proofs.Common.{◌≡◌, ◌+◌, ◌++◌, length}
+use Rattle.rdf_stream.proofs.Prelude.{◌≡◌, ◌+◌, ◌++◌, length}
 use Rattle.rdf_stream.proofs.ChecksLemmas.{counted, few_read}
 use Rattle.rdf_stream.proofs.PiecesLemmas.{if_err, on_both, on_ok}
 use Rattle.rdf_stream.proofs.checks.ReaderRunNoQuads.take.Goals as goal

@@ -1,23 +1,12 @@
 -- What is written for lines with any escapes is put. A failure to hand it over, or want of memory for more, stops the run, whatever comes after it.
-use Rattle.std.proofs.Common.{◌≡◌, ◌++◌, ◌∙◌, [], ℕ, Bool, List, Option, false, true, ap, append_assoc, drop, rules, subst, sym, take}
-use Rattle.std.proofs.lemmas.Bool.{false≢true}
-use Rattle.std.proofs.lemmas.List.{append-nil, take-append-drop}
-use Rattle.rdf_terms.specs.Terms.{Quad}
-use Rattle.rdf_driver.specs.Readers.{Driven}
+use Rattle.rdf_stream.proofs.Prelude.{◌≡◌, ◌++◌, ◌∙◌, [], ℕ, Bool, List, Option, false, true, ap, append_assoc, drop, rules, subst, sym, take, false≢true, append-nil, take-append-drop, Quad, Driven, Style, StreamFault, LineOut, IsPutting, RunHalts, OnlyGrows, PutHalts, SameOut, RewritesText, of_quads}
 use Rattle.rdf_driver.specs.Words.{Words}
-use Rattle.rdf_lines.specs.declared.form.Style.{Style}
-use Rattle.rdf_stream.specs.declared.fault.StreamFault.{StreamFault}
-use Rattle.rdf_stream.specs.declared.line_out.LineOut.{LineOut}
-use Rattle.rdf_stream.specs.Converting.{IsPutting, RunHalts}
-use Rattle.rdf_stream.specs.LineOut.{OnlyGrows, PutHalts, SameOut}
-use Rattle.rdf_stream.specs.Passes.{RewritesText}
 use Rattle.rdf_stream.specs.WrittenForms.{keeps_lines}
 use Rattle.rdf_stream.proofs.ConvertingLemmas.{kept_where, live_now, quad_lines, run_passes, run_stops}
 use Rattle.rdf_stream.proofs.ConvertsLemmas.{halts_more}
 use Rattle.rdf_stream.proofs.ExpectedLemmas.{stands_unput}
 use Rattle.rdf_stream.proofs.GrowthLemmas.{grows_both, grows_moved, refusal_grows}
 use Rattle.rdf_stream.proofs.LineOutLemmas.{put_sent, rewritten_waits, rewritten_writes, same_out}
-use Rattle.rdf_stream.specs.Outputs.{of_quads}
 use Rattle.rdf_stream.proofs.conversions.ReaderPartsLineOut.pass_escaped.Goals as goal
 
 -- Some text was passed, and what is written for it waits.

@@ -1,16 +1,11 @@
 -- A front of the text: its lines are put as they stand, or a failure to put them stops the run, whatever comes after it.
-use Rattle.std.proofs.Common.{◌≡◌, ◌++◌, ◌∙◌, false, ap, append_assoc, drop, rules, subst, sym, take}
-use Rattle.std.proofs.lemmas.List.{take-append-drop}
-use Rattle.rdf_lines.specs.Canonical.{written_as}
-use Rattle.rdf_stream.specs.Converting.{RunHalts}
-use Rattle.rdf_stream.specs.LineOut.{PutHalts, Writes}
+use Rattle.rdf_stream.proofs.Prelude.{◌≡◌, ◌++◌, ◌∙◌, false, ap, append_assoc, drop, rules, subst, sym, take, take-append-drop, written_as, RunHalts, PutHalts, Writes, of_quads}
 use Rattle.rdf_stream.proofs.ConvertingLemmas.{kept_where, live_now, pass_halts, quad_lines, run_passes}
 use Rattle.rdf_stream.proofs.ConvertsLemmas.{halts_more}
 use Rattle.rdf_stream.proofs.ExpectedLemmas.{stands_unput}
 use Rattle.rdf_stream.proofs.GrowthLemmas.{grows_both, grows_moved, refusal_grows}
 use Rattle.rdf_stream.proofs.LineOutLemmas.{put_sent}
 use Rattle.rdf_stream.proofs.PartsLemmas.{ascii_take, low_written}
-use Rattle.rdf_stream.specs.Outputs.{of_quads}
 use Rattle.rdf_stream.proofs.conversions.ReaderPartsLineOut.pass_front.Goals as goal
 
 pub append-requires : goal.append-requires

@@ -1,12 +1,9 @@
 -- A part: its lines are put, and an error within it stops the run, whatever comes after it.
-use Rattle.std.proofs.Common.{◌++◌, false, append_assoc, subst}
-use Rattle.rdf_stream.specs.Converting.{RunHalts}
-use Rattle.rdf_stream.specs.ExpectedRuns.{StandsFor}
+use Rattle.rdf_stream.proofs.Prelude.{◌++◌, false, append_assoc, subst, RunHalts, StandsFor, of_quads}
 use Rattle.rdf_stream.proofs.ConvertingLemmas.{few_now, live_now, quad_lines, run_halts, run_reads}
 use Rattle.rdf_stream.proofs.ConvertsLemmas.{halts_more}
 use Rattle.rdf_stream.proofs.ExpectedLemmas.{stands_in_piece, stands_more, stands_told}
 use Rattle.rdf_stream.proofs.GrowthLemmas.{feed_grows, grows_both, puts_grow, stop_grows}
-use Rattle.rdf_stream.specs.Outputs.{of_quads}
 use Rattle.rdf_stream.proofs.conversions.ReaderPartsLineOut.read_part.Goals as goal
 
 pub feed-requires : goal.feed-requires

@@ -1,10 +1,9 @@
 -- The end: what waits is sent, and an error there or of the drain stops the run.
-use Rattle.std.proofs.Common.{rules, true}
+use Rattle.rdf_stream.proofs.Prelude.{rules, true, of_quads}
 use Rattle.rdf_stream.proofs.LineOutLemmas.{puts_live}
 use Rattle.rdf_stream.proofs.GrowthLemmas.{finish_grows, grows_both, grows_by, grows_front, puts_grow, stop_grows}
 use Rattle.rdf_stream.proofs.ConvertingLemmas.{end_run_broke, end_run_halts, live_now, putting, quad_lines, run_ends}
 use Rattle.rdf_stream.proofs.ExpectedLemmas.{stands_at_end, stands_told}
-use Rattle.rdf_stream.specs.Outputs.{of_quads}
 use Rattle.rdf_stream.proofs.conversions.ReaderRunLineOut.end.Goals as goal
 
 pub send-requires : goal.send-requires

@@ -1,9 +1,7 @@
 -- A piece: its lines are handed over, and an error within it or of the drain stops the run.
-use Rattle.std.proofs.Common.{rules, ap, ◌+◌, ◌≤◌, ◌∙◌, length, length-append, subst, sym}
-use Rattle.rdf_tokens.specs.Scans.{most_bytes}
+use Rattle.rdf_stream.proofs.Prelude.{rules, ap, ◌+◌, ◌≤◌, ◌∙◌, length, length-append, subst, sym, most_bytes, of_quads}
 use Rattle.rdf_stream.proofs.ConvertingLemmas.{count_now, live_now, putting, quad_lines, run_broke, run_handed}
 use Rattle.rdf_stream.proofs.GrowthLemmas.{grows_both, grows_by, grows_front}
-use Rattle.rdf_stream.specs.Outputs.{of_quads}
 use Rattle.rdf_stream.proofs.conversions.ReaderRunLineOut.take.Goals as goal
 
 pub take_parts-requires : goal.take_parts-requires

@@ -1,4 +1,4 @@
-use Rattle.std.proofs.Common.{rules}
+use Rattle.rdf_stream.proofs.Prelude.{rules}
 use Rattle.rdf_stream.proofs.devices.InSource.failed.Goals as goal
 
 pub returns : goal.returns

@@ -1,5 +1,4 @@
-use Rattle.std.proofs.Common.{refl, ap, subst, ◌∙◌}
-use Rattle.std.specs.Io.KnownBytes.{Keeps}
+use Rattle.rdf_stream.proofs.Prelude.{refl, ap, subst, ◌∙◌, Keeps}
 use Rattle.rdf_stream.specs.Devices.{Reading}
 use Rattle.rdf_stream.proofs.devices.InSource.fill.Goals as goal
 

@@ -1,5 +1,4 @@
-use Rattle.std.proofs.Common.{ap}
-use Rattle.rdf_stream.specs.Devices.{Written}
+use Rattle.rdf_stream.proofs.Prelude.{ap, Written}
 use Rattle.rdf_stream.proofs.devices.OutDrain.flush.Goals as goal
 
 pub returns-in-Err-clause-flushed : goal.returns-in-Err-clause-flushed

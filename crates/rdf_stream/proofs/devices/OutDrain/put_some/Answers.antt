@@ -1,6 +1,4 @@
-use Rattle.std.proofs.Common.{◌≡◌, ℕ, List, ◌++◌, ◌∙◌, Option, None, Some, append-nil, ap, rules, subst, sym, take}
-use Rattle.std.specs.Io.KnownBytes.{Appends, Keeps}
-use Rattle.rdf_stream.specs.Devices.{Written}
+use Rattle.rdf_stream.proofs.Prelude.{◌≡◌, ℕ, List, ◌++◌, ◌∙◌, Option, None, Some, append-nil, ap, rules, subst, sym, take, Appends, Keeps, Written}
 use Rattle.rdf_stream.proofs.devices.OutDrain.put_some.Goals as goal
 
 -- where none of the bytes were written, known bytes stay as they were

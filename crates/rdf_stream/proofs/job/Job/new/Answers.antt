@@ -1,4 +1,4 @@
-use Rattle.std.proofs.Common.{rules}
+use Rattle.rdf_stream.proofs.Prelude.{rules}
 use Rattle.rdf_stream.proofs.job.Job.new.Goals as goal
 
 pub invariant_of-result : goal.invariant_of-result

@@ -1,5 +1,4 @@
-use Rattle.std.proofs.Common.{ap}
-use Rattle.rdf_stream.specs.Jobs.{JobRead}
+use Rattle.rdf_stream.proofs.Prelude.{ap, JobRead}
 use Rattle.rdf_stream.proofs.job.Job.with_escapes.Goals as goal
 
 pub returns : goal.returns

@@ -1,6 +1,4 @@
-use Rattle.std.proofs.Common.{ap}
-use Rattle.std.specs.Prelude.{Some}
-use Rattle.rdf_stream.specs.Jobs.{JobRead}
+use Rattle.rdf_stream.proofs.Prelude.{ap, Some, JobRead}
 use Rattle.rdf_stream.proofs.job.Job.with_graph.Goals as goal
 
 pub returns : goal.returns

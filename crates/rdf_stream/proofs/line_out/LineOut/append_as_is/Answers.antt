@@ -1,4 +1,4 @@
-use Rattle.std.proofs.Common.{rules}
+use Rattle.rdf_stream.proofs.Prelude.{rules}
 use Rattle.rdf_stream.proofs.LineOutLemmas.{all_taken, front_before, front_taken}
 use Rattle.rdf_stream.proofs.line_out.LineOut.append_as_is.Goals as goal
 

@@ -1,4 +1,4 @@
-use Rattle.rdf_lines.specs.Canonical.{without_crs}
+use Rattle.rdf_stream.proofs.Prelude.{without_crs}
 use Rattle.rdf_stream.proofs.LineOutLemmas.{put_left, waits_same}
 use Rattle.rdf_stream.proofs.line_out.LineOut.append_without_crs.Goals as goal
 

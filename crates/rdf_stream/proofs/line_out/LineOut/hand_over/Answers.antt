@@ -1,4 +1,4 @@
-use Rattle.std.proofs.Common.{rules}
+use Rattle.rdf_stream.proofs.Prelude.{rules}
 use Rattle.rdf_stream.proofs.line_out.LineOut.hand_over.Goals as goal
 
 pub returns-clause-empty : goal.returns-clause-empty

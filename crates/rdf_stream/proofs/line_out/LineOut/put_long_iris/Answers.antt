@@ -1,4 +1,4 @@
-use Rattle.std.proofs.Common.{refl}
+use Rattle.rdf_stream.proofs.Prelude.{refl}
 use Rattle.rdf_stream.proofs.LineOutLemmas.{waits, waits_same}
 use Rattle.rdf_stream.proofs.line_out.LineOut.put_long_iris.Goals as goal
 

@@ -1,6 +1,4 @@
-use Rattle.std.proofs.Common.{refl, sym, ◌∙◌}
-use Rattle.std.proofs.lemmas.Bool.{eqb-true}
-use Rattle.std.proofs.lemmas.Result.{on_err_weaker, on_ok_weaker}
+use Rattle.rdf_stream.proofs.Prelude.{refl, sym, ◌∙◌, eqb-true, on_err_weaker, on_ok_weaker}
 use Rattle.rdf_stream.proofs.LineOutLemmas.{left_by, taken_by}
 use Rattle.rdf_stream.proofs.OutputLemmas.{no_graph}
 use Rattle.rdf_stream.proofs.line_out.LineOutQuadSink.put.Goals as goal

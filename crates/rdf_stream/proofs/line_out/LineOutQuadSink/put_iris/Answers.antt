@@ -1,7 +1,4 @@
-use Rattle.std.proofs.Common.{refl, sym, subst, ◌∙◌}
-use Rattle.std.proofs.lemmas.Bool.{eqb-true}
-use Rattle.std.proofs.lemmas.Result.{on_err_weaker, on_ok_weaker}
-use Rattle.rdf_terms.specs.Terms.{IsQuad}
+use Rattle.rdf_stream.proofs.Prelude.{refl, sym, subst, ◌∙◌, eqb-true, on_err_weaker, on_ok_weaker, IsQuad}
 use Rattle.rdf_terms.specs.Views.{quad_of}
 use Rattle.rdf_stream.proofs.LineOutLemmas.{left_by, taken_by}
 use Rattle.rdf_stream.proofs.OutputLemmas.{no_graph}

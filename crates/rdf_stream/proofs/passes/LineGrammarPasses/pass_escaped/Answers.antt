@@ -1,4 +1,4 @@
-use Rattle.std.proofs.lemmas.Result.{IfOk-weaker}
+use Rattle.rdf_stream.proofs.Prelude.{IfOk-weaker}
 use Rattle.rdf_stream.proofs.PassesLemmas.{lines_rewritten, refused_rewritten}
 use Rattle.rdf_stream.proofs.passes.LineGrammarPasses.pass_escaped.Goals as goal
 

@@ -1,7 +1,6 @@
 -- The end: what waits is sent, and an error there or of the drain stops the run.
-use Rattle.std.proofs.Common.{rules, refl, subst, sym}
+use Rattle.rdf_stream.proofs.Prelude.{rules, refl, subst, sym, ShowEnds, of_tokens, token_words}
 use Rattle.rdf_lines.specs.declared.form.Style.TheVariants.{Kept}
-use Rattle.rdf_stream.specs.TokenWords.{ShowEnds, of_tokens, token_words}
 use Rattle.rdf_stream.proofs.ConvertingLemmas.{end_run_broke, end_run_halts, live_now, putting, run_ends}
 use Rattle.rdf_stream.proofs.GrowthLemmas.{finish_grows, grows_both, grows_by, grows_front, puts_grow, stop_grows}
 use Rattle.rdf_stream.proofs.LineOutLemmas.{puts_live}

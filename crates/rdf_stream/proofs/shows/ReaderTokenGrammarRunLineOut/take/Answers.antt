@@ -1,8 +1,6 @@
 -- A piece: its lines are handed over, and an error within it or of the drain stops the run.
-use Rattle.std.proofs.Common.{rules, ap, subst, sym, ◌+◌, ◌≤◌, ◌∙◌, length, length-append}
-use Rattle.rdf_tokens.specs.Scans.{most_bytes}
+use Rattle.rdf_stream.proofs.Prelude.{rules, ap, subst, sym, ◌+◌, ◌≤◌, ◌∙◌, length, length-append, most_bytes, of_tokens, token_words}
 use Rattle.rdf_lines.specs.declared.form.Style.TheVariants.{Kept}
-use Rattle.rdf_stream.specs.TokenWords.{of_tokens, token_words}
 use Rattle.rdf_stream.proofs.ConvertingLemmas.{count_now, few_now, live_now, putting, run_broke, run_halts, run_handed, run_reads}
 use Rattle.rdf_stream.proofs.GrowthLemmas.{feed_grows, grows_both, grows_by, grows_front, puts_grow, stop_grows}
 use Rattle.rdf_stream.proofs.ShowsLemmas.{token_writer}

@@ -1,10 +1,4 @@
-use Rattle.std.proofs.Common.{Some, ap, inl, refl, subst, arith}
-use Rattle.rdf_lines.specs.Accepting.{line_words}
-use Rattle.rdf_lines.specs.declared.rules.Rules.{Rules}
-use Rattle.rdf_lines.specs.Documents.{in_lines}
-use Rattle.rdf_tokens.specs.Scans.{place_of}
-use Rattle.rdf_stream.specs.Converts.{Accepts}
-use Rattle.rdf_stream.specs.Outputs.{conversion, of_quads, output_of}
+use Rattle.rdf_stream.proofs.Prelude.{Some, ap, inl, refl, subst, arith, line_words, Rules, in_lines, place_of, Accepts, conversion, of_quads, output_of}
 use Rattle.rdf_stream.proofs.DocumentLemmas.{lines_convertible}
 use Rattle.rdf_stream.proofs.SieveLemmas.{converted_good, mark_bad, mark_had, refusal, refused_bad, refused_for, refused_place}
 use Rattle.rdf_stream.proofs.sieve.Sieve.convert.Goals as goal

@@ -1,5 +1,4 @@
-use Rattle.std.proofs.Common.{refl, arith, subst, ◌∙◌}
-use Rattle.std.specs.Io.KnownBytes.{Appends}
+use Rattle.rdf_stream.proofs.Prelude.{refl, arith, subst, ◌∙◌, Appends}
 use Rattle.rdf_stream.proofs.sieve.Sieve.put_bad.Goals as goal
 
 pub returns-clause-put : goal.returns-clause-put

@@ -1,5 +1,4 @@
-use Rattle.std.proofs.Common.{refl, subst}
-use Rattle.rdf_stream.specs.Sieves.{IsTried}
+use Rattle.rdf_stream.proofs.Prelude.{refl, subst, IsTried}
 use Rattle.rdf_stream.proofs.sieve.Sieve.put_good.Goals as goal
 
 pub returns-in-Ok-Bad-clause-bad : goal.returns-in-Ok-Bad-clause-bad

@@ -1,5 +1,4 @@
-use Rattle.std.proofs.Common.{length, sym, ◌∙◌}
-use Rattle.std.proofs.lemmas.Bool.{eqb-true}
+use Rattle.rdf_stream.proofs.Prelude.{length, sym, ◌∙◌, eqb-true}
 use Rattle.rdf_stream.proofs.SieveLemmas.{block_fails, block_good, empty_sifted, some_bytes}
 use Rattle.rdf_stream.proofs.sieve.Sieve.sift.Goals as goal
 

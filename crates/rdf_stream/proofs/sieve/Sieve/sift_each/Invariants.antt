@@ -1,6 +1,4 @@
-use Rattle.std.proofs.Common.{◌≡◌, ◌++◌, List, ℕ, length}
-use Rattle.rdf_lines.specs.SplitLines.{split_lines}
-use Rattle.rdf_stream.specs.Sieves.{HasRoom, HasSifted, place_past, start_of}
+use Rattle.rdf_stream.proofs.Prelude.{◌≡◌, ◌++◌, List, ℕ, length, split_lines, HasRoom, HasSifted, place_past, start_of}
 use Rattle.rdf_stream.proofs.sieve.Sieve.sift_each.Given as goal
 
 abbrev pub invariant-loop-rest : goal.invariant-loop-rest

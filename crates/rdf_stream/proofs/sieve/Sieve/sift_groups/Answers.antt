@@ -1,10 +1,4 @@
-use Rattle.std.proofs.Common.{◌≡◌, ◌++◌, ◌∷◌, [], List, ℕ, length, take, drop, refl, sym, ap, subst, ◌∙◌, append_assoc, arith, length-take}
-use Rattle.std.proofs.lemmas.Bool.{eqb-true}
-use Rattle.std.proofs.lemmas.List.{append-nil}
-use Rattle.rdf_tokens.specs.Tokens.{Place}
-use Rattle.rdf_lines.specs.SplitLines.{split_lines}
-use Rattle.rdf_stream.specs.Sieves.{HasRoom, HasSifted, SiftFails, start_of}
-use Rattle.rdf_stream.specs.Skips.{place_after}
+use Rattle.rdf_stream.proofs.Prelude.{◌≡◌, ◌++◌, ◌∷◌, [], List, ℕ, length, take, drop, refl, sym, ap, subst, ◌∙◌, append_assoc, arith, length-take, eqb-true, append-nil, Place, split_lines, HasRoom, HasSifted, SiftFails, start_of, place_after}
 use Rattle.rdf_stream.proofs.SieveLemmas.{fails_more, fails_then, past_lines, room_left, sifted_none, sifted_then}
 use Rattle.rdf_stream.proofs.WithoutCrsLemmas.{slice_rest}
 use Rattle.rdf_stream.proofs.sieve.Sieve.sift_groups.Goals as goal

@@ -1,6 +1,4 @@
-use Rattle.std.proofs.Common.{arith, subst}
-use Rattle.rdf_tokens.specs.declared.token.Fault.{Fault}
-use Rattle.rdf_stream.specs.Sieves.{PutBadFails, PutsBad, PutsNone}
+use Rattle.rdf_stream.proofs.Prelude.{arith, subst, Fault, PutBadFails, PutsBad, PutsNone}
 use Rattle.rdf_stream.proofs.PiecesLemmas.{if_err, if_ok}
 use Rattle.rdf_stream.proofs.SieveLemmas.{bad_fails, fault_fits, known, line_bad, line_fails, line_good}
 use Rattle.rdf_stream.proofs.sieve.Sieve.sift_line.Goals as goal

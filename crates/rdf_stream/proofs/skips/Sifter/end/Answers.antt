@@ -1,7 +1,4 @@
-use Rattle.std.proofs.Common.{[], arith, inl, inr, subst}
-use Rattle.std.proofs.lemmas.List.{append-nil}
-use Rattle.rdf_stream.specs.Sieves.{HasRoom}
-use Rattle.std.proofs.KnownBytes.{Keeps-refl}
+use Rattle.rdf_stream.proofs.Prelude.{[], arith, inl, inr, subst, append-nil, HasRoom, Keeps-refl}
 use Rattle.rdf_stream.proofs.SkipLemmas.{flush_halts, held_few, held_room, held_start, rest_halts, skip_ends}
 use Rattle.rdf_stream.proofs.skips.Sifter.end.Goals as goal
 

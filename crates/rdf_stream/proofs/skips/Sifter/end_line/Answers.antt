@@ -1,5 +1,4 @@
-use Rattle.std.proofs.Common.{[], refl, subst, sym, ◌∙◌}
-use Rattle.rdf_stream.specs.Sieves.{HasRoom}
+use Rattle.rdf_stream.proofs.Prelude.{[], refl, subst, sym, ◌∙◌, HasRoom}
 use Rattle.rdf_stream.proofs.SieveLemmas.{sifted_none}
 use Rattle.rdf_stream.proofs.skips.Sifter.end_line.Goals as goal
 

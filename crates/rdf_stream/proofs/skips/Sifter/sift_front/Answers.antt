@@ -1,7 +1,4 @@
-use Rattle.std.proofs.Common.{refl, ap, length, subst, sym, ◌∙◌, arith, length-take}
-use Rattle.std.proofs.lemmas.Bool.{eqb-true}
-use Rattle.rdf_lines.specs.SplitLines.{split_lines}
-use Rattle.rdf_stream.specs.Sieves.{HasSifted, SiftFails, start_of}
+use Rattle.rdf_stream.proofs.Prelude.{refl, ap, length, subst, sym, ◌∙◌, arith, length-take, eqb-true, split_lines, HasSifted, SiftFails, start_of}
 use Rattle.rdf_stream.proofs.PiecesLemmas.{if_err, if_ok}
 use Rattle.rdf_stream.proofs.SieveLemmas.{some_bytes}
 use Rattle.rdf_stream.proofs.SkipLemmas.{both_fails, both_sifted, direct_fails, front_direct, front_none, line_stops, no_bytes, room_behind}

@@ -1,5 +1,4 @@
-use Rattle.std.proofs.Common.{subst, sym}
-use Rattle.rdf_stream.specs.Sieves.{HasRoom}
+use Rattle.rdf_stream.proofs.Prelude.{subst, sym, HasRoom}
 use Rattle.rdf_stream.proofs.skips.Sifter.sift_rest.Goals as goal
 
 pub sift-requires-clause-room : goal.sift-requires-clause-room

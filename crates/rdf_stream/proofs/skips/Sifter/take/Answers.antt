@@ -1,6 +1,4 @@
-use Rattle.std.proofs.Common.{ap, arith, drop, length-take, subst, sym, take, ◌++◌}
-use Rattle.std.proofs.lemmas.List.{take-append-drop}
-use Rattle.rdf_stream.specs.Sieves.{HasRoom}
+use Rattle.rdf_stream.proofs.Prelude.{ap, arith, drop, length-take, subst, sym, take, ◌++◌, take-append-drop, HasRoom}
 use Rattle.rdf_stream.proofs.PiecesLemmas.{if_err, on_ok}
 use Rattle.rdf_stream.proofs.SkipLemmas.{count_halts, front_halts, held_few, held_room, held_start, hold_halts, piece_taken}
 use Rattle.rdf_stream.proofs.WithoutCrsLemmas.{slice_rest}

@@ -1,6 +1,5 @@
 -- A token is put but where it is the end, and what its put answers is what is answered.
-use Rattle.std.proofs.Common.{sym, ap, ◌∙◌, Err}
-use Rattle.rdf_tokens.specs.Scans.{token_of}
+use Rattle.rdf_stream.proofs.Prelude.{sym, ap, ◌∙◌, Err, token_of}
 use Rattle.rdf_stream.proofs.TokenWordsLemmas.{gives_up, not_failed, takes_end, takes_token}
 use Rattle.rdf_stream.proofs.token_grammar.TokenGrammarAcceptsLineOut.accept.Goals as goal
 

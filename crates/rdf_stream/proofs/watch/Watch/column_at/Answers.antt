@@ -1,6 +1,5 @@
 -- The column at a byte that is kept.
-use Rattle.std.proofs.Common.{◌≡◌, ◌∙◌, take, ap, rules}
-use Rattle.rdf_stream.specs.Places.{column_after}
+use Rattle.rdf_stream.proofs.Prelude.{◌≡◌, ◌∙◌, take, ap, rules, column_after}
 use Rattle.rdf_stream.proofs.WatchLemmas.{column_kept}
 use Rattle.rdf_stream.proofs.watch.Watch.column_at.Goals as goal
 

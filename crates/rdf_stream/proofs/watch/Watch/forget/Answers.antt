@@ -1,8 +1,5 @@
 -- The bytes that go are those behind which the column stands.
-use Rattle.std.proofs.Common.{◌≡◌, ◌∙◌, ◌≤◌, ◌-◌, ◌++◌, ℕ, List, length, take, drop, sym, ap, subst, arith, rules, append_assoc, length-append, length-take}
-use Rattle.std.proofs.lemmas.List.{take-append-drop}
-use Rattle.std.specs.List.{copy_within}
-use Rattle.rdf_stream.specs.Places.{column_after}
+use Rattle.rdf_stream.proofs.Prelude.{◌≡◌, ◌∙◌, ◌≤◌, ◌-◌, ◌++◌, ℕ, List, length, take, drop, sym, ap, subst, arith, rules, append_assoc, length-append, length-take, take-append-drop, copy_within, column_after}
 use Rattle.rdf_stream.specs.Kept.{Watches}
 use Rattle.rdf_stream.proofs.WatchLemmas.{column_append, column_few, moved_front}
 use Rattle.rdf_stream.proofs.watch.Watch.forget.Goals as goal

@@ -1,8 +1,5 @@
 -- The line in front of the place, by the last line feed there; or enough of it, where there is none.
-use Rattle.std.proofs.Common.{◌≡◌, ◌∙◌, ◌+◌, [], ◌++◌, take, drop, sym, ap, ⊎_elim, arith, rules}
-use Rattle.std.proofs.lemmas.Bool.{false_from_ne_true}
-use Rattle.std.proofs.lemmas.List.{nil_from_length, take_rest}
-use Rattle.rdf_stream.specs.Places.{last_of, line_after, reach}
+use Rattle.rdf_stream.proofs.Prelude.{◌≡◌, ◌∙◌, ◌+◌, [], ◌++◌, take, drop, sym, ap, ⊎_elim, arith, rules, false_from_ne_true, nil_from_length, take_rest, last_of, line_after, reach}
 use Rattle.rdf_stream.proofs.WatchLemmas.{last_part, line_of_all, line_of_last}
 use Rattle.rdf_stream.proofs.watch.Watch.line_before.Goals as goal
 

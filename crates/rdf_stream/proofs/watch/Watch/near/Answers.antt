@@ -1,7 +1,5 @@
 -- The place is among the bytes that are kept.
-use Rattle.std.proofs.Common.{◌≡◌, ◌∙◌, [], length, take, drop, sym, ap, subst, arith, rules, length-append}
-use Rattle.std.proofs.lemmas.List.{take_rest}
-use Rattle.rdf_stream.specs.Places.{column_after, last_of, line_after, line_rest, reach}
+use Rattle.rdf_stream.proofs.Prelude.{◌≡◌, ◌∙◌, [], length, take, drop, sym, ap, subst, arith, rules, length-append, take_rest, column_after, last_of, line_after, line_rest, reach}
 use Rattle.rdf_diagnostics.specs.Sights.{IsSight}
 use Rattle.rdf_stream.proofs.WatchLemmas.{column_kept, front_kept, rest_kept, told_open}
 use Rattle.rdf_stream.proofs.watch.Watch.near.Goals as goal

@@ -1,5 +1,4 @@
-use Rattle.std.proofs.Common.{subst}
-use Rattle.rdf_terms.specs.Terms.{IsIri}
+use Rattle.rdf_terms.proofs.Prelude.{subst, IsIri}
 use Rattle.rdf_terms.proofs.TermsLemmas.{IsIri-had}
 use Rattle.rdf_terms.proofs.iris.Iri.as_str.Goals as goal
 

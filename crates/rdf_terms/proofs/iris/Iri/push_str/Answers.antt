@@ -1,10 +1,5 @@
 -- The text is the old one with the new characters, or the old one.
-use Rattle.std.proofs.Common.{◌≡◌, ◌++◌, ◌∙◌, ℕ, List, cond, ap, sym, subst}
-use Rattle.std.specs.Prelude.{Result, Ok, Err, OnOk, is_ok}
-use Rattle.std.specs.Str.{chars, IsUtf8}
-use Rattle.std.specs.String.{string_bytes}
-use Rattle.std.proofs.lemmas.Str.{chars-append, IsUtf8-string_bytes}
-use Rattle.rdf_terms.specs.Terms.{IsIri}
+use Rattle.rdf_terms.proofs.Prelude.{◌≡◌, ◌++◌, ◌∙◌, ℕ, List, cond, ap, sym, subst, Result, Ok, Err, OnOk, is_ok, chars, IsUtf8, string_bytes, chars-append, IsUtf8-string_bytes, IsIri}
 use Rattle.rdf_terms.proofs.iris.Iri.push_str.Goals as goal
 
 -- what a push leaves is an IRI

@@ -1,5 +1,4 @@
-use Rattle.std.proofs.Common.{subst}
-use Rattle.rdf_terms.specs.Terms.{IsLabel}
+use Rattle.rdf_terms.proofs.Prelude.{subst, IsLabel}
 use Rattle.rdf_terms.proofs.TermsLemmas.{IsLabel-had}
 use Rattle.rdf_terms.proofs.labels.Label.as_str.Goals as goal
 

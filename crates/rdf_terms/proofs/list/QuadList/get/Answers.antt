@@ -1,5 +1,4 @@
-use Rattle.std.proofs.Common.{sym}
-use Rattle.std.proofs.lemmas.Bool.{ltb-true, ltb-false}
+use Rattle.rdf_terms.proofs.Prelude.{sym, ltb-true, ltb-false}
 use Rattle.rdf_terms.specs.Owned.{owned_quad}
 use Rattle.rdf_terms.proofs.ViewLemmas.{seen_here, seen_past}
 use Rattle.rdf_terms.proofs.list.QuadList.get.Goals as goal

@@ -1,4 +1,4 @@
-use Rattle.std.proofs.Common.{refl}
+use Rattle.rdf_terms.proofs.Prelude.{refl}
 use Rattle.rdf_terms.proofs.list.QuadListQuadSink.failed.Goals as goal
 
 pub returns : goal.returns

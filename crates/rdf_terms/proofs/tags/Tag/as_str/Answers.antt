@@ -1,5 +1,4 @@
-use Rattle.std.proofs.Common.{subst}
-use Rattle.rdf_terms.specs.Terms.{IsTag}
+use Rattle.rdf_terms.proofs.Prelude.{subst, IsTag}
 use Rattle.rdf_terms.proofs.TermsLemmas.{IsTag-had}
 use Rattle.rdf_terms.proofs.tags.Tag.as_str.Goals as goal
 

@@ -1,4 +1,4 @@
-use Rattle.std.proofs.Common.{ap, sym}
+use Rattle.rdf_terms.proofs.Prelude.{ap, sym}
 use Rattle.rdf_terms.specs.Owned.{owned_node}
 use Rattle.rdf_terms.proofs.terms.Node.view.Goals as goal
 

@@ -1,5 +1,4 @@
-use Rattle.std.proofs.Common.{IsUtf8, take, sym, subst}
-use Rattle.std.proofs.lemmas.Str.{IsUtf8-had}
+use Rattle.rdf_terms.proofs.Prelude.{IsUtf8, take, sym, subst, IsUtf8-had}
 use Rattle.rdf_terms.proofs.text.TextBuffer.as_bytes.Goals as goal
 
 pub returns-clause-utf8 : goal.returns-clause-utf8

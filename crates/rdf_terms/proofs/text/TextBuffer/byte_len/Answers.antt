@@ -1,6 +1,4 @@
-use Rattle.std.proofs.Common.{rules, length, take, sym, ap, subst, ℕ, List, ◌≡◌, ◌∙◌, encode_utf8_all}
-use Rattle.std.specs.Str.{chars}
-use Rattle.std.proofs.lemmas.Str.{IsUtf8-had, encodes-chars}
+use Rattle.rdf_terms.proofs.Prelude.{rules, length, take, sym, ap, subst, ℕ, List, ◌≡◌, ◌∙◌, encode_utf8_all, chars, IsUtf8-had, encodes-chars}
 use Rattle.rdf_terms.proofs.text.TextBuffer.byte_len.Goals as goal
 
 pub returns : goal.returns

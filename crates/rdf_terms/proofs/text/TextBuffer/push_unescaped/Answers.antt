@@ -1,5 +1,4 @@
-use Rattle.std.proofs.Common.{ℕ, IsUtf8, List, sym, subst, take}
-use Rattle.std.proofs.lemmas.Str.{IsUtf8-had}
+use Rattle.rdf_terms.proofs.Prelude.{ℕ, IsUtf8, List, sym, subst, take, IsUtf8-had}
 use Rattle.rdf_terms.proofs.Places.{IsUtf8-filled}
 use Rattle.rdf_terms.proofs.text.TextBuffer.push_unescaped.Goals as goal
 

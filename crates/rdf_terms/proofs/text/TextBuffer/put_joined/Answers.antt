@@ -1,4 +1,4 @@
-use Rattle.std.proofs.Common.{rules, ℕ, ◌≡◌, ◌≤◌, List, length, take, drop, IsUtf8, sym, subst, take_at}
+use Rattle.rdf_terms.proofs.Prelude.{rules, ℕ, ◌≡◌, ◌≤◌, List, length, take, drop, IsUtf8, sym, subst, take_at}
 use Rattle.rdf_terms.proofs.text.TextBuffer.put_joined.Goals as goal
 
 -- the slice that was filled is all that the buffer has

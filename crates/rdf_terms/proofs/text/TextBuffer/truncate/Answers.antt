@@ -1,6 +1,4 @@
-use Rattle.std.proofs.Common.{◌≤◌, List, ℕ, IsUtf8, take, take-take, length-take-le, sym, subst, arith}
-use Rattle.std.specs.Str.{IsCharBoundary}
-use Rattle.std.proofs.lemmas.Str.{IsUtf8-had, IsUtf8-take}
+use Rattle.rdf_terms.proofs.Prelude.{◌≤◌, List, ℕ, IsUtf8, take, take-take, length-take-le, sym, subst, arith, IsCharBoundary, IsUtf8-had, IsUtf8-take}
 use Rattle.rdf_terms.proofs.text.TextBuffer.truncate.Goals as goal
 
 -- a front of the text that ends between two characters is a text

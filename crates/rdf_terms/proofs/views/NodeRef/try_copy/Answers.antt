@@ -1,5 +1,4 @@
-use Rattle.std.proofs.Common.{ap, sym}
-use Rattle.std.specs.Str.{chars}
+use Rattle.rdf_terms.proofs.Prelude.{ap, sym, chars}
 use Rattle.rdf_terms.specs.Views.{node_by}
 use Rattle.rdf_terms.proofs.views.NodeRef.try_copy.Goals as goal
 

@@ -1,6 +1,4 @@
-use Rattle.std.proofs.Common.{ℕ, List, ap, sym, subst, ◌∙◌}
-use Rattle.std.specs.Str.{chars}
-use Rattle.rdf_terms.specs.Terms.{IsTag}
+use Rattle.rdf_terms.proofs.Prelude.{ℕ, List, ap, sym, subst, ◌∙◌, chars, IsTag}
 use Rattle.rdf_terms.proofs.views.TagView.try_copy.Goals as goal
 
 pub invariant_of-result : goal.invariant_of-result

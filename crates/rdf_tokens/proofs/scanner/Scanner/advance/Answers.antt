@@ -1,9 +1,5 @@
 -- To move over bytes without a token: the place, the count of lines and the scanner's fields stay right.
-use Rattle.std.proofs.Common.{rules, ◌≡◌, ◌+◌, ◌≤◌, ◌-◌, ◌==◌, count_by, drop, take, length, sym, ap, ◌∙◌, subst}
-use Rattle.std.proofs.lemmas.Str.{IsUtf8-string_bytes}
-use Rattle.std.specs.Str.{chars}
-use Rattle.std.specs.String.{string_bytes}
-use Rattle.rdf_tokens.specs.Front.{bytes_of}
+use Rattle.rdf_tokens.proofs.Prelude.{rules, ◌≡◌, ◌+◌, ◌≤◌, ◌-◌, ◌==◌, count_by, drop, take, length, sym, ap, ◌∙◌, subst, IsUtf8-string_bytes, chars, string_bytes, bytes_of}
 use Rattle.rdf_tokens.proofs.MoveLemmas.{moved-none}
 use Rattle.rdf_tokens.proofs.HeldLemmas.{feeds_advanced, advance_within}
 use Rattle.rdf_tokens.proofs.scanner.Scanner.advance.Goals as goal

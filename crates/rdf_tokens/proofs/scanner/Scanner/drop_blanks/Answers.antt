@@ -1,9 +1,4 @@
-use Rattle.std.proofs.Common.{[], sym, ap, ◌∙◌, subst, ◌==◌, false, true, take, count_by}
-use Rattle.std.specs.Str.{chars}
-use Rattle.rdf_tokens.specs.Blank.{comment_after}
-use Rattle.rdf_tokens.specs.Front.{bytes_of}
-use Rattle.rdf_tokens.specs.Moves.{Moves, Stands}
-use Rattle.rdf_tokens.specs.Tokens.{blank}
+use Rattle.rdf_tokens.proofs.Prelude.{[], sym, ap, ◌∙◌, subst, ◌==◌, false, true, take, count_by, chars, comment_after, bytes_of, Moves, Stands, blank}
 use Rattle.rdf_tokens.proofs.MoveLemmas.{bared, bared_is, one_bared, moves_bared, stands_bared}
 use Rattle.rdf_tokens.proofs.scanner.Scanner.drop_blanks.Goals as goal
 

@@ -1,5 +1,4 @@
-use Rattle.std.proofs.Common.{sym, subst}
-use Rattle.rdf_tokens.specs.Scans.{HasScanned}
+use Rattle.rdf_tokens.proofs.Prelude.{sym, subst, HasScanned}
 use Rattle.rdf_tokens.proofs.ReadLemmas.{read_last}
 use Rattle.rdf_tokens.proofs.scanner.Scanner.end.Goals as goal
 

@@ -1,16 +1,5 @@
 -- To give a token and move over it: its bytes are in the text, end between characters, and the place moves with its line feeds.
-use Rattle.std.proofs.Common.{rules, arith, refl, false, ◌≡◌, ◌+◌, ◌≤◌, ℕ, List, ◌-◌, ◌==◌, count_by, drop, take, length, sym, ap, ◌∙◌, subst}
-use Rattle.std.proofs.lemmas.Str.{IsUtf8-drop, IsUtf8-string_bytes, encodes-chars}
-use Rattle.std.specs.Prelude.{encode_utf8_all}
-use Rattle.std.specs.Str.{chars, IsCharBoundary, IsUtf8}
-use Rattle.std.specs.String.{string_bytes}
-use Rattle.rdf_terms.specs.declared.kind.Kind.{Kind}
-use Rattle.rdf_tokens.specs.Tokens.{Place, Token, past}
-use Rattle.rdf_tokens.specs.Unread.{Unread}
-use Rattle.rdf_tokens.specs.Walk.{Walked}
-use Rattle.rdf_tokens.specs.Moves.{moved, IsGiven, GivesBytes}
-use Rattle.rdf_tokens.specs.Scans.{KnowsColon}
-use Rattle.rdf_tokens.specs.Front.{bytes_of}
+use Rattle.rdf_tokens.proofs.Prelude.{rules, arith, refl, false, ◌≡◌, ◌+◌, ◌≤◌, ℕ, List, ◌-◌, ◌==◌, count_by, drop, take, length, sym, ap, ◌∙◌, subst, IsUtf8-drop, IsUtf8-string_bytes, encodes-chars, encode_utf8_all, chars, IsCharBoundary, IsUtf8, string_bytes, Kind, Place, Token, past, Unread, Walked, moved, IsGiven, GivesBytes, KnowsColon, bytes_of}
 use Rattle.rdf_tokens.proofs.Inside.{unread_of}
 use Rattle.rdf_tokens.proofs.HeldLemmas.{boundary_advanced, front_advanced, held_advanced, place_advanced, text_advanced, advance_within, feeds_advanced}
 use Rattle.rdf_tokens.proofs.NoNamesLemmas.{none_advanced}

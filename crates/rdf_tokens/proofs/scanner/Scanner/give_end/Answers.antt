@@ -1,8 +1,4 @@
-use Rattle.std.proofs.Common.{[], refl, ap, true, ◌∙◌}
-use Rattle.std.proofs.lemmas.Str.{chars-nil}
-use Rattle.rdf_terms.specs.declared.kind.Kind.TheVariants.{End}
-use Rattle.rdf_tokens.specs.Tokens.{Token}
-use Rattle.rdf_tokens.specs.Unread.{Unread}
+use Rattle.rdf_tokens.proofs.Prelude.{[], refl, ap, true, ◌∙◌, chars-nil, End, Token, Unread}
 use Rattle.rdf_tokens.proofs.scanner.Scanner.give_end.Goals as goal
 
 pub returns : goal.returns

@@ -1,5 +1,4 @@
-use Rattle.std.proofs.Common.{sym, ap, ◌∙◌}
-use Rattle.rdf_tokens.specs.Tokens.{is_empty}
+use Rattle.rdf_tokens.proofs.Prelude.{sym, ap, ◌∙◌, is_empty}
 use Rattle.rdf_tokens.proofs.CutLemmas.{chars-empty}
 use Rattle.rdf_tokens.proofs.scanner.Scanner.has_no_text.Goals as goal
 

@@ -1,5 +1,4 @@
-use Rattle.std.proofs.Common.{◌≡◌, ◌||◌, true, false, not, sym, ap, ◌∙◌}
-use Rattle.rdf_tokens.specs.Tokens.{is_empty}
+use Rattle.rdf_tokens.proofs.Prelude.{◌≡◌, ◌||◌, true, false, not, sym, ap, ◌∙◌, is_empty}
 use Rattle.rdf_tokens.proofs.CutLemmas.{chars-empty}
 use Rattle.rdf_tokens.proofs.scanner.Scanner.is_settled.Goals as goal
 

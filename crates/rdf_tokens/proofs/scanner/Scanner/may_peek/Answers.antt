@@ -1,7 +1,5 @@
 -- The text is short enough by its bytes.
-use Rattle.std.proofs.Common.{◌≤◌, length, sym, ◌∙◌, subst}
-use Rattle.std.proofs.lemmas.Bool.{leb-true}
-use Rattle.rdf_tokens.specs.Moves.{BeginsChar}
+use Rattle.rdf_tokens.proofs.Prelude.{◌≤◌, length, sym, ◌∙◌, subst, leb-true, BeginsChar}
 use Rattle.rdf_tokens.proofs.PeekLemmas.{may_see}
 use Rattle.rdf_tokens.proofs.scanner.Scanner.may_peek.Goals as goal
 

@@ -1,13 +1,5 @@
 -- To move over characters of which it is known how many line feeds they are: the place and the scanner's fields stay right.
-use Rattle.std.proofs.Common.{rules, arith, ◌≡◌, ◌+◌, ℕ, List, ◌-◌, ◌==◌, count_by, drop, take, sym, ap, ◌∙◌, subst}
-use Rattle.std.proofs.lemmas.Str.{IsUtf8-string_bytes}
-use Rattle.std.specs.Str.{chars}
-use Rattle.std.specs.String.{string_bytes}
-use Rattle.rdf_tokens.specs.Tokens.{Place, past}
-use Rattle.rdf_tokens.specs.Unread.{Unread}
-use Rattle.rdf_tokens.specs.Walk.{Walked}
-use Rattle.rdf_tokens.specs.Moves.{moved}
-use Rattle.rdf_tokens.specs.Front.{bytes_of}
+use Rattle.rdf_tokens.proofs.Prelude.{rules, arith, ◌≡◌, ◌+◌, ℕ, List, ◌-◌, ◌==◌, count_by, drop, take, sym, ap, ◌∙◌, subst, IsUtf8-string_bytes, chars, string_bytes, Place, past, Unread, Walked, moved, bytes_of}
 use Rattle.rdf_tokens.proofs.Inside.{unread_of}
 use Rattle.rdf_tokens.proofs.HeldLemmas.{feeds_advanced, held_advanced, place_advanced, text_advanced, advance_within}
 use Rattle.rdf_tokens.proofs.NoNamesLemmas.{none_advanced}

@@ -1,9 +1,4 @@
-use Rattle.std.proofs.Common.{refl, length, sym, subst, ap, arith}
-use Rattle.std.specs.Prelude.{encode_utf8_all}
-use Rattle.std.specs.Str.{IsCharBoundary, chars}
-use Rattle.std.proofs.lemmas.Str.{chars-nil}
-use Rattle.rdf_tokens.specs.Held.{Held}
-use Rattle.rdf_tokens.specs.Moves.{BeginsChar}
+use Rattle.rdf_tokens.proofs.Prelude.{refl, length, sym, subst, ap, arith, encode_utf8_all, IsCharBoundary, chars, chars-nil, Held, BeginsChar}
 use Rattle.rdf_tokens.proofs.ReadLemmas.{begins_nil, read_new}
 use Rattle.rdf_tokens.proofs.scanner.Scanner.new.Goals as goal
 

@@ -1,6 +1,5 @@
 -- Each answer of `next`: more bytes decide, the end, an error or a token, as the definition's step says.
-use Rattle.std.proofs.Common.{◌≡◌, [], false, refl, sym, ap, ◌∙◌, subst}
-use Rattle.rdf_tokens.specs.Moves.{BeginsChar, Moves, Stands}
+use Rattle.rdf_tokens.proofs.Prelude.{◌≡◌, [], false, refl, sym, ap, ◌∙◌, subst, BeginsChar, Moves, Stands}
 use Rattle.rdf_tokens.proofs.FlatLemmas.{flat_text}
 use Rattle.rdf_tokens.proofs.MoveLemmas.{moves_both}
 use Rattle.rdf_tokens.proofs.NextLemmas.{dry, waits, ends_at, gives_look, stops_at}

@@ -1,4 +1,4 @@
-use Rattle.std.proofs.Common.{rules}
+use Rattle.rdf_tokens.proofs.Prelude.{rules}
 use Rattle.rdf_tokens.proofs.scanner.Scanner.pass.Goals as goal
 
 pub returns : goal.returns

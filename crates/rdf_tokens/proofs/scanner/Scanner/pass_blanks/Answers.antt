@@ -1,5 +1,5 @@
 -- What is passed is the white space before the next token.
-use Rattle.std.proofs.Common.{ap, not, rules}
+use Rattle.rdf_tokens.proofs.Prelude.{ap, not, rules}
 use Rattle.rdf_tokens.proofs.PeekLemmas.{blanks_bared, blanks_again, blanks_less, passes_bared}
 use Rattle.rdf_tokens.proofs.scanner.Scanner.pass_blanks.Goals as goal
 

@@ -1,10 +1,5 @@
 -- The line feed and what comes after it are the white space before the next token.
-use Rattle.std.proofs.Common.{◌==◌, ◌∙◌, sym, subst, ap, take, count_by, false}
-use Rattle.std.specs.Str.{chars}
-use Rattle.rdf_terms.specs.declared.kind.Dialect.TheVariants.{Turtle}
-use Rattle.rdf_tokens.specs.Front.{bytes_of}
-use Rattle.rdf_tokens.specs.Peek.{MayPeek}
-use Rattle.rdf_tokens.specs.Tokens.{blank}
+use Rattle.rdf_tokens.proofs.Prelude.{◌==◌, ◌∙◌, sym, subst, ap, take, count_by, false, chars, Turtle, bytes_of, MayPeek, blank}
 use Rattle.rdf_tokens.proofs.PeekLemmas.{may_bared, one_passed, passes_bared}
 use Rattle.rdf_tokens.proofs.scanner.Scanner.pass_indentation.Goals as goal
 

@@ -1,7 +1,5 @@
 -- The line feed is the white space before the next token.
-use Rattle.std.proofs.Common.{sym, subst, rules}
-use Rattle.std.specs.Str.{chars}
-use Rattle.rdf_tokens.specs.Peek.{MayPeek}
+use Rattle.rdf_tokens.proofs.Prelude.{sym, subst, rules, chars, MayPeek}
 use Rattle.rdf_tokens.proofs.PeekLemmas.{may_bared, one_passed, passes_bared}
 use Rattle.rdf_tokens.proofs.scanner.Scanner.pass_line_feed.Goals as goal
 

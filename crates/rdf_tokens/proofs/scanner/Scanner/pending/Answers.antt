@@ -1,7 +1,4 @@
-use Rattle.std.proofs.Common.{rules, ◌+◌, ◌-◌, ◌≡◌, ◌≤◌, length, ap, ◌∙◌, subst, arith}
-use Rattle.std.proofs.lemmas.Str.{IsUtf8-string_bytes}
-use Rattle.std.specs.String.{string_bytes}
-use Rattle.rdf_tokens.specs.Scans.{unread_bytes, most_unread}
+use Rattle.rdf_tokens.proofs.Prelude.{rules, ◌+◌, ◌-◌, ◌≡◌, ◌≤◌, length, ap, ◌∙◌, subst, arith, IsUtf8-string_bytes, string_bytes, unread_bytes, most_unread}
 use Rattle.rdf_tokens.proofs.HeldLemmas.{size_of_rest}
 use Rattle.rdf_tokens.proofs.scanner.Scanner.pending.Goals as goal
 

@@ -1,10 +1,5 @@
-use Rattle.std.proofs.Common.{◌≡◌, ◌<◌, ◌≤◌, ◌+◌, false, min, length, take, ap, sym, ◌∙◌, subst, ⊎_elim, arith}
+use Rattle.rdf_tokens.proofs.Prelude.{◌≡◌, ◌<◌, ◌≤◌, ◌+◌, false, min, length, take, ap, sym, ◌∙◌, subst, ⊎_elim, arith, eqb-true, cases_lt, length-take-le, IsUtf8-string_bytes, string_bytes, most_bytes, most_unread, unread_bytes, fitting, at_once}
 use Rattle.std.proofs.Math.Nat.{min-le_left}
-use Rattle.std.proofs.lemmas.Bool.{eqb-true, cases_lt}
-use Rattle.std.proofs.lemmas.List.{length-take-le}
-use Rattle.std.proofs.lemmas.Str.{IsUtf8-string_bytes}
-use Rattle.std.specs.String.{string_bytes}
-use Rattle.rdf_tokens.specs.Scans.{most_bytes, most_unread, unread_bytes, fitting, at_once}
 use Rattle.rdf_tokens.proofs.Inside.{unread_of}
 use Rattle.rdf_tokens.proofs.HeldLemmas.{unread_size}
 use Rattle.rdf_tokens.proofs.ReadLemmas.{takes_bytes}

@@ -1,7 +1,4 @@
-use Rattle.std.proofs.Common.{◌≡◌, ◌-◌, min, ap, ap₂, sym, ◌∙◌, arith}
-use Rattle.std.proofs.lemmas.Str.{IsUtf8-string_bytes}
-use Rattle.std.specs.String.{string_bytes}
-use Rattle.rdf_tokens.specs.Scans.{most_bytes, unread_bytes, fitting}
+use Rattle.rdf_tokens.proofs.Prelude.{◌≡◌, ◌-◌, min, ap, ap₂, sym, ◌∙◌, arith, IsUtf8-string_bytes, string_bytes, most_bytes, unread_bytes, fitting}
 use Rattle.rdf_tokens.proofs.Inside.{unread_of}
 use Rattle.rdf_tokens.proofs.HeldLemmas.{unread_size}
 use Rattle.rdf_tokens.proofs.RoomLemmas.{room-fits, room-same}

@@ -1,10 +1,6 @@
 -- What is left of the text is what is not read yet.
-use Rattle.std.proofs.Common.{◌≡◌, ◌≤◌, ℕ, List, length, length-drop, drop, ap, ◌∙◌, subst, arith}
+use Rattle.rdf_tokens.proofs.Prelude.{◌≡◌, ◌≤◌, ℕ, List, length, length-drop, drop, ap, ◌∙◌, subst, arith, chars, string_bytes, all_bytes, Unread}
 use Rattle.std.proofs.lemmas.Grind.{common_steps}
-use Rattle.std.specs.Str.{chars}
-use Rattle.std.specs.String.{string_bytes}
-use Rattle.rdf_tokens.specs.Held.{all_bytes}
-use Rattle.rdf_tokens.specs.Unread.{Unread}
 use Rattle.rdf_tokens.proofs.Inside.{unread_of}
 use Rattle.rdf_tokens.proofs.scanner.Scanner.shrink.Goals as goal
 

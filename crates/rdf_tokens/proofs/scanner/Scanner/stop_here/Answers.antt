@@ -1,11 +1,5 @@
-use Rattle.std.proofs.Common.{◌≡◌, ℕ, ◌+◌, ◌==◌, List, count_by, drop, length, refl, sym, ap, ◌∙◌}
-use Rattle.std.proofs.lemmas.Str.{IsUtf8-string_bytes}
-use Rattle.std.specs.String.{string_bytes}
-use Rattle.rdf_terms.specs.declared.reason.Reason.{Reason}
-use Rattle.rdf_terms.specs.declared.reason.Reason.TheVariants.{BadUtf8}
-use Rattle.rdf_tokens.specs.Tokens.{Place}
+use Rattle.rdf_tokens.proofs.Prelude.{◌≡◌, ℕ, ◌+◌, ◌==◌, List, count_by, drop, length, refl, sym, ap, ◌∙◌, IsUtf8-string_bytes, string_bytes, Reason, BadUtf8, Place, fault_place, beyond}
 use Rattle.rdf_tokens.specs.Scans.{place_of}
-use Rattle.rdf_tokens.specs.Moves.{fault_place, beyond}
 use Rattle.rdf_tokens.proofs.Inside.{unread_of}
 use Rattle.rdf_tokens.proofs.HeldLemmas.{place_after}
 use Rattle.rdf_tokens.proofs.scanner.Scanner.stop_here.Goals.{in-BadUtf8, in_default}

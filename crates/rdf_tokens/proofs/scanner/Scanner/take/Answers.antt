@@ -1,6 +1,5 @@
 -- The white space before the token is moved over, and the token is given.
-use Rattle.std.proofs.Common.{false, refl, sym}
-use Rattle.rdf_tokens.specs.Tokens.{blank}
+use Rattle.rdf_tokens.proofs.Prelude.{false, refl, sym, blank}
 use Rattle.rdf_tokens.proofs.FlatLemmas.{flat_text}
 use Rattle.rdf_tokens.proofs.PeekLemmas.{colon_peeked, look_peeked, takes_seen}
 use Rattle.rdf_tokens.proofs.scanner.Scanner.take.Goals as goal

@@ -1,12 +1,5 @@
-use Rattle.std.proofs.Common.{◌≡◌, ℕ, ◌+◌, ◌-◌, ◌++◌, drop, length, sym, ap, ◌∙◌, subst, ◌≤◌, List, [], Bool, cond, arith}
-use Rattle.std.proofs.lemmas.Bool.{cond-true, cond-false}
-use Rattle.std.proofs.lemmas.Str.{IsUtf8-string_bytes}
-use Rattle.std.specs.String.{string_bytes}
-use Rattle.rdf_tokens.specs.Tokens.{Place}
-use Rattle.rdf_tokens.specs.Unread.{Unread}
-use Rattle.rdf_tokens.specs.Moves.{good_bytes, rest_of_bytes, is_broken, grown, counted, lengthened}
-use Rattle.rdf_tokens.specs.Held.{Held, Holds, all_bytes}
-use Rattle.rdf_tokens.specs.Scans.{most_bytes, most_unread, unread_bytes}
+use Rattle.rdf_tokens.proofs.Prelude.{◌≡◌, ℕ, ◌+◌, ◌-◌, ◌++◌, drop, length, sym, ap, ◌∙◌, subst, ◌≤◌, List, [], Bool, cond, arith, cond-true, cond-false, IsUtf8-string_bytes, string_bytes, Place, Unread, good_bytes, rest_of_bytes, is_broken, grown, lengthened, Held, Holds, all_bytes, most_bytes, most_unread, unread_bytes}
+use Rattle.rdf_tokens.specs.Moves.{counted}
 use Rattle.rdf_tokens.specs.declared.scanner.Scanner.TheInside.{Inside}
 use Rattle.rdf_tokens.proofs.Inside.{unread_at, unread_of}
 use Rattle.rdf_tokens.proofs.HeldLemmas.{held_counted, held_grown, bounded_grown, text_grown, size_of_rest}

@@ -1,7 +1,4 @@
-use Rattle.std.proofs.Common.{◌∙◌, ap}
-use Rattle.rdf_terms.specs.Shapes.{fixed}
-use Rattle.rdf_tokens.specs.Fixed.{rows_of}
-use Rattle.rdf_tokens.specs.Front.{front_by}
+use Rattle.rdf_tokens.proofs.Prelude.{◌∙◌, ap, fixed, rows_of, front_by}
 use Rattle.rdf_tokens.proofs.SpellingLemmas.{front_by-at}
 use Rattle.rdf_tokens.proofs.states.fixed.fixed_front.Goals as goal
 

@@ -1,6 +1,4 @@
-use Rattle.std.proofs.Common.{◌≡◌, map, drop}
-use Rattle.rdf_tokens.specs.Front.{front_by, longer_front}
-use Rattle.rdf_tokens.specs.Spellings.{row_of}
+use Rattle.rdf_tokens.proofs.Prelude.{◌≡◌, map, drop, front_by, longer_front, row_of}
 use Rattle.rdf_tokens.proofs.states.fixed.front_among.Given as goal
 
 abbrev pub invariant-loop-row : goal.invariant-loop-row

@@ -1,5 +1,4 @@
-use Rattle.std.proofs.Common.{sym, ap, ◌∙◌, arith}
-use Rattle.rdf_tokens.specs.Fixed.{is_begun}
+use Rattle.rdf_tokens.proofs.Prelude.{sym, ap, ◌∙◌, arith, is_begun}
 use Rattle.rdf_tokens.proofs.SpellingLemmas.{left_whole, left_begun}
 use Rattle.rdf_tokens.proofs.states.fixed.is_beginning.Goals as goal
 

@@ -1,4 +1,4 @@
-use Rattle.std.proofs.Common.{◌≡◌, drop}
+use Rattle.rdf_tokens.proofs.Prelude.{◌≡◌, drop}
 use Rattle.rdf_tokens.specs.Fixed.{left}
 use Rattle.rdf_tokens.proofs.states.fixed.is_beginning.Given as goal
 

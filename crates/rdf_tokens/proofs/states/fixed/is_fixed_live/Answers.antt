@@ -1,7 +1,5 @@
 -- Only the spellings that begin with the first byte are looked at.
-use Rattle.std.proofs.Common.{◌∙◌, ap}
-use Rattle.rdf_terms.specs.Shapes.{fixed}
-use Rattle.rdf_tokens.specs.Fixed.{rows_of, live_by}
+use Rattle.rdf_tokens.proofs.Prelude.{◌∙◌, ap, fixed, rows_of, live_by}
 use Rattle.rdf_tokens.proofs.SpellingLemmas.{live_by-at}
 use Rattle.rdf_tokens.proofs.states.fixed.is_fixed_live.Goals as goal
 

@@ -1,4 +1,4 @@
-use Rattle.std.proofs.Common.{sym, arith}
+use Rattle.rdf_tokens.proofs.Prelude.{sym, arith}
 use Rattle.rdf_tokens.proofs.SpellingLemmas.{short}
 use Rattle.rdf_tokens.proofs.states.fixed.is_front.Goals as goal
 

@@ -1,5 +1,4 @@
-use Rattle.std.proofs.Common.{◌≡◌, drop}
-use Rattle.rdf_tokens.specs.Front.{begins}
+use Rattle.rdf_tokens.proofs.Prelude.{◌≡◌, drop, begins}
 use Rattle.rdf_tokens.proofs.states.fixed.is_front.Given as goal
 
 abbrev pub invariant-loop-i : goal.invariant-loop-i

@@ -1,6 +1,4 @@
-use Rattle.std.proofs.Common.{◌≡◌, map, drop}
-use Rattle.rdf_tokens.specs.Over.{fixed_over}
-use Rattle.rdf_tokens.specs.Spellings.{row_of}
+use Rattle.rdf_tokens.proofs.Prelude.{◌≡◌, map, drop, fixed_over, row_of}
 use Rattle.rdf_tokens.proofs.states.fixed.is_over_among.Given as goal
 
 abbrev pub invariant-loop-row : goal.invariant-loop-row

@@ -1,8 +1,5 @@
-use Rattle.std.proofs.Common.{◌≡◌, true, ◌&&◌, false, cond, sym, ap, ◌∙◌, arith}
-use Rattle.std.proofs.lemmas.Bool.Decides.{nat_tests}
-use Rattle.rdf_terms.specs.Classes.{has, scalar, is_base}
-use Rattle.rdf_tokens.specs.declared.states.wide.Wide.TheVariants.{Letter, Mark, Other}
-use Rattle.rdf_tokens.specs.Sorts.{wide_of, is_mark}
+use Rattle.rdf_tokens.proofs.Prelude.{◌≡◌, true, ◌&&◌, false, cond, sym, ap, ◌∙◌, arith, nat_tests, has, is_base, Letter, Mark, Other, wide_of, is_mark}
+use Rattle.rdf_terms.specs.Classes.{scalar}
 use Rattle.rdf_tokens.proofs.states.wide.width.Goals as goal
 
 pub returns-else-is_name_mark : goal.returns-else-is_name_mark

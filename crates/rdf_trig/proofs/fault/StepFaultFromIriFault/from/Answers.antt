@@ -1,5 +1,4 @@
-use Rattle.std.proofs.Common.{ap, sym}
-use Rattle.rdf_trig.specs.Scopes.{step_fault}
+use Rattle.rdf_trig.proofs.Prelude.{ap, sym, step_fault}
 use Rattle.rdf_trig.proofs.fault.StepFaultFromIriFault.from.Goals as goal
 
 pub returns-in-Unbound : goal.returns-in-Unbound

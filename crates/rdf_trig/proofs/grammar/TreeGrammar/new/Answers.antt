@@ -1,9 +1,5 @@
-use Rattle.std.proofs.Common.{ℕ, ◌∙◌, sym, ap, ap₂, arith}
-use Rattle.rdf_iri.specs.Limits.{Sizes}
-use Rattle.rdf_iri.specs.Scope.{InForce, bytes_held}
-use Rattle.rdf_trig.specs.declared.form.DocForm.{DocForm}
-use Rattle.rdf_trig.specs.Machine.{State, at_start}
-use Rattle.rdf_trig.specs.Accepting.{TreeAt}
+use Rattle.rdf_trig.proofs.Prelude.{ℕ, ◌∙◌, sym, ap, ap₂, arith, Sizes, InForce, bytes_held, DocForm, at_start, TreeAt}
+use Rattle.rdf_trig.specs.Machine.{State}
 use Rattle.rdf_trig.proofs.grammar.TreeGrammar.new.Goals as goal
 
 abbrev stands : DocForm → Sizes → State → ℕ → TreeAt

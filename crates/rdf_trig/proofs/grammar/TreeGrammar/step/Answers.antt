@@ -1,11 +1,5 @@
 -- What the step knows of its state holds of the grammar that is seen of it.
-use Rattle.std.proofs.Common.{refl, subst}
-use Rattle.std.specs.Prelude.{is_some}
-use Rattle.rdf_driver.specs.Words.{KnowsNext}
-use Rattle.rdf_trig.specs.Documents.{trees}
-use Rattle.rdf_trig.specs.Steps.{state_of}
-use Rattle.rdf_trig.specs.Holding.{grammar_bytes}
-use Rattle.rdf_trig.specs.Accepting.{TreeAt, StepsFrom, tree_words}
+use Rattle.rdf_trig.proofs.Prelude.{refl, subst, is_some, KnowsNext, trees, state_of, grammar_bytes, TreeAt, StepsFrom, tree_words}
 use Rattle.rdf_trig.proofs.code.NextKinds.{decides_goes, knows_next}
 use Rattle.rdf_trig.proofs.grammar.TreeGrammar.step.Goals as goal
 

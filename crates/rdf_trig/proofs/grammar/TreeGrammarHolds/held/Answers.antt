@@ -1,9 +1,5 @@
 -- What the state and the scope hold together is within the limits, and so fits.
-use Rattle.std.proofs.Common.{◌≤◌, ◌+◌, sym, subst, arith}
-use Rattle.rdf_iri.specs.Limits.{Sizes}
-use Rattle.rdf_iri.specs.Scope.{most_bytes_held}
-use Rattle.rdf_trig.specs.Owed.{most_kept}
-use Rattle.rdf_trig.specs.Accepting.{TreeAt}
+use Rattle.rdf_trig.proofs.Prelude.{◌≤◌, ◌+◌, sym, subst, arith, Sizes, most_bytes_held, most_kept, TreeAt}
 use Rattle.rdf_trig.proofs.code.HoldingLemmas.{kept_within, kept_fits}
 use Rattle.rdf_trig.proofs.grammar.TreeGrammarHolds.held.Given.{Over}
 use Rattle.rdf_trig.proofs.grammar.TreeGrammarHolds.held.Goals as goal

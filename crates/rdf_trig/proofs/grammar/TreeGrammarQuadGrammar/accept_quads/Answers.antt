@@ -1,14 +1,6 @@
 -- What a step of the reader did is what the machine does, so the driver may use the grammar.
-use Rattle.std.proofs.Common.{ℕ, arith, subst, sym, ap, ap₂, refl, ◌∙◌}
-use Rattle.rdf_iri.specs.Scope.{InForce}
-use Rattle.rdf_tokens.specs.Scans.{token_of}
-use Rattle.rdf_driver.specs.Words.{Takes, Misses, KeepsLimits}
-use Rattle.rdf_trig.specs.declared.form.DocForm.{DocForm}
+use Rattle.rdf_trig.proofs.Prelude.{ℕ, arith, subst, sym, ap, ap₂, refl, ◌∙◌, InForce, token_of, Takes, Misses, KeepsLimits, DocForm, reason_of, state_of, most_kept, grammar_bytes, TreeAt, tree_words}
 use Rattle.rdf_trig.specs.declared.state.State.{State}
-use Rattle.rdf_trig.specs.Steps.{reason_of, state_of}
-use Rattle.rdf_trig.specs.Owed.{most_kept}
-use Rattle.rdf_trig.specs.Holding.{grammar_bytes}
-use Rattle.rdf_trig.specs.Accepting.{TreeAt, tree_words}
 use Rattle.rdf_trig.proofs.code.AnswersOfSteps.{same_scope}
 use Rattle.rdf_trig.proofs.code.OpenLists.{open_within}
 use Rattle.rdf_trig.proofs.code.LawfulGrammar.{takes_token, misses_token}

@@ -1,7 +1,4 @@
-use Rattle.std.proofs.Common.{◌≡◌, is_some, true, Some, sym, ◌∙◌, subst}
-use Rattle.std.specs.Str.{chars}
-use Rattle.rdf_terms.specs.Terms.{IsIri}
-use Rattle.rdf_terms.proofs.TermsLemmas.{IsIri-had}
+use Rattle.rdf_trig.proofs.Prelude.{◌≡◌, is_some, true, Some, sym, ◌∙◌, subst, chars, IsIri, IsIri-had}
 use Rattle.rdf_trig.proofs.code.TextLemmas.{emptied, emptied_holds, named_there, held_there}
 use Rattle.rdf_trig.proofs.names.Name.give.Goals as goal
 

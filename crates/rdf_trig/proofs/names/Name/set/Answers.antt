@@ -1,4 +1,4 @@
-use Rattle.rdf_terms.specs.Terms.{IsIri}
+use Rattle.rdf_trig.proofs.Prelude.{IsIri}
 use Rattle.rdf_trig.proofs.code.TextLemmas.{emptied_holds}
 use Rattle.rdf_trig.proofs.names.Name.set.Goals as goal
 

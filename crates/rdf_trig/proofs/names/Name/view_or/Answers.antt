@@ -1,6 +1,4 @@
-use Rattle.std.proofs.Common.{ap, ◌∙◌, unwrap_or, arith}
-use Rattle.std.specs.Str.{chars}
-use Rattle.rdf_terms.specs.Known.{known_chars}
+use Rattle.rdf_trig.proofs.Prelude.{ap, ◌∙◌, unwrap_or, arith, chars, known_chars}
 use Rattle.rdf_trig.proofs.code.TextLemmas.{none_named}
 use Rattle.rdf_trig.proofs.names.Name.view_or.Goals as goal
 

@@ -1,5 +1,4 @@
-use Rattle.std.proofs.Common.{ap}
-use Rattle.rdf_trig.specs.Language.{Chosen}
+use Rattle.rdf_trig.proofs.Prelude.{ap, Chosen}
 use Rattle.rdf_trig.proofs.reader.Options.with_bindings.Goals as goal
 
 pub returns : goal.returns

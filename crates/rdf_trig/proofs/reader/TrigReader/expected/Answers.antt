@@ -1,9 +1,5 @@
-use Rattle.std.proofs.Common.{subst}
-use Rattle.rdf_terms.specs.declared.kind.Kind.{Kind}
+use Rattle.rdf_trig.proofs.Prelude.{subst, Kind, KnowsNext, trees, tree_words}
 use Rattle.rdf_driver.specs.Kinds.{has}
-use Rattle.rdf_driver.specs.Words.{KnowsNext}
-use Rattle.rdf_trig.specs.Documents.{trees}
-use Rattle.rdf_trig.specs.Accepting.{tree_words}
 use Rattle.rdf_trig.proofs.reader.TrigReader.expected.Goals as goal
 
 pub returns : goal.returns

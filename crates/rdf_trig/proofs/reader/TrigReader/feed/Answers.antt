@@ -1,12 +1,5 @@
-use Rattle.std.proofs.Common.{ℕ, List, ◌++◌, subst}
-use Rattle.std.specs.Prelude.{IfErr}
-use Rattle.rdf_terms.specs.Terms.{Quad}
+use Rattle.rdf_trig.proofs.Prelude.{ℕ, List, ◌++◌, subst, IfErr, Quad, GoesOn, in_words, HasRead, SameLimits, Exactly, IsPlaced, Chosen, TrigRead, tree_words}
 use Rattle.rdf_tokens.specs.Scans.{place_of}
-use Rattle.rdf_tokens.specs.Grammars.{GoesOn}
-use Rattle.rdf_driver.specs.Words.{in_words}
-use Rattle.rdf_driver.specs.Readers.{HasRead, SameLimits, Exactly, IsPlaced}
-use Rattle.rdf_trig.specs.Language.{Chosen}
-use Rattle.rdf_trig.specs.Accepting.{TrigRead, tree_words}
 use Rattle.rdf_trig.proofs.reader.TrigReader.feed.Goals as goal
 
 pub returns-clause-exact : goal.returns-clause-exact

@@ -1,14 +1,6 @@
-use Rattle.std.proofs.Common.{◌≡◌, ◌+◌, ◌≤◌, ℕ, false, List, subst, length}
-use Rattle.rdf_terms.specs.Terms.{Quad}
-use Rattle.rdf_tokens.specs.Good.{tokens_of}
-use Rattle.rdf_tokens.specs.Scans.{unread_bytes}
+use Rattle.rdf_trig.proofs.Prelude.{◌≡◌, ◌+◌, ◌≤◌, ℕ, false, List, subst, length, Quad, tokens_of, unread_bytes, bytes_held, HasRead, Chosen, Owed, OwedInAll, TrigRead, tree_words}
 use Rattle.rdf_tokens.specs.Laws.{open_bytes}
-use Rattle.rdf_iri.specs.Scope.{bytes_held}
-use Rattle.rdf_driver.specs.Readers.{HasRead}
 use Rattle.rdf_driver.specs.Readers as R
-use Rattle.rdf_trig.specs.Language.{Chosen}
-use Rattle.rdf_trig.specs.Owed.{Owed, OwedInAll}
-use Rattle.rdf_trig.specs.Accepting.{TrigRead, tree_words}
 use Rattle.rdf_trig.specs.Texts.{all_bytes}
 use Rattle.rdf_trig.proofs.code.OwedHeld.{owed_held, all_owed_held}
 use Rattle.rdf_trig.proofs.reader.TrigReader.held.Goals as goal

@@ -1,7 +1,4 @@
-use Rattle.std.proofs.Common.{subst}
-use Rattle.rdf_driver.specs.Words.{KnowsNext}
-use Rattle.rdf_trig.specs.Documents.{trees}
-use Rattle.rdf_trig.specs.Accepting.{tree_words}
+use Rattle.rdf_trig.proofs.Prelude.{subst, KnowsNext, trees, tree_words}
 use Rattle.rdf_trig.proofs.reader.TrigReader.may_come.Goals as goal
 
 pub returns : goal.returns

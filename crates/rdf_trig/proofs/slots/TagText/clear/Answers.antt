@@ -1,4 +1,4 @@
-use Rattle.rdf_terms.specs.Terms.{IsTag}
+use Rattle.rdf_trig.proofs.Prelude.{IsTag}
 use Rattle.rdf_trig.proofs.code.TextLemmas.{emptied, emptied_holds}
 use Rattle.rdf_trig.proofs.slots.TagText.clear.Goals as goal
 

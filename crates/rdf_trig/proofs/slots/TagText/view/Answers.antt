@@ -1,8 +1,4 @@
-use Rattle.std.proofs.Common.{sym, subst, arith}
-use Rattle.std.specs.Str.{chars}
-use Rattle.std.specs.String.{string_bytes}
-use Rattle.rdf_terms.specs.Terms.{IsTag}
-use Rattle.rdf_terms.proofs.TermsLemmas.{IsTag-had}
+use Rattle.rdf_trig.proofs.Prelude.{sym, subst, arith, chars, string_bytes, IsTag, IsTag-had}
 use Rattle.rdf_trig.proofs.code.TextLemmas.{none_named, some_named, held_there}
 use Rattle.rdf_trig.proofs.slots.TagText.view.Goals as goal
 

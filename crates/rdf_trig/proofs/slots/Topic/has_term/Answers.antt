@@ -1,7 +1,4 @@
-use Rattle.std.proofs.Common.{◌≡◌, true, subst}
-use Rattle.std.specs.Prelude.{is_some}
-use Rattle.std.specs.Str.{chars}
-use Rattle.rdf_trig.specs.Machine.{Topic}
+use Rattle.rdf_trig.proofs.Prelude.{◌≡◌, true, subst, is_some, chars, Topic}
 use Rattle.rdf_trig.proofs.code.TurnsLemmas.{has_term}
 use Rattle.rdf_trig.proofs.slots.Topic.has_term.Goals as goal
 

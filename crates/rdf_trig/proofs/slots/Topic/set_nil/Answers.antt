@@ -1,8 +1,5 @@
-use Rattle.std.proofs.Common.{ap, ◌∙◌}
-use Rattle.std.specs.Str.{chars}
-use Rattle.std.proofs.lemmas.Str.{chars-nil}
+use Rattle.rdf_trig.proofs.Prelude.{ap, ◌∙◌, chars, chars-nil, topic_at}
 use Rattle.rdf_trig.specs.declared.slots.SubjectKind.TheVariants as kind
-use Rattle.rdf_trig.specs.Slots.{topic_at}
 use Rattle.rdf_trig.proofs.slots.Topic.set_nil.Goals as goal
 
 pub returns : goal.returns

@@ -1,8 +1,4 @@
-use Rattle.std.proofs.Common.{sym, subst}
-use Rattle.std.specs.Str.{chars}
-use Rattle.rdf_terms.specs.Terms.{IsIri, IsLabel}
-use Rattle.rdf_terms.proofs.TermsLemmas.{IsIri-had, IsLabel-had}
-use Rattle.rdf_trig.specs.Slots.{IsOfKind}
+use Rattle.rdf_trig.proofs.Prelude.{sym, subst, chars, IsIri, IsLabel, IsIri-had, IsLabel-had, IsOfKind}
 use Rattle.rdf_trig.proofs.slots.Topic.view.Goals as goal
 
 pub of_bytes-requires-clause-text : goal.of_bytes-requires-clause-text

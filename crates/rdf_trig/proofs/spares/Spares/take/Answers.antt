@@ -1,7 +1,4 @@
-use Rattle.std.proofs.Common.{ap, sym, ◌∙◌}
-use Rattle.std.specs.List.{sum_by}
-use Rattle.std.proofs.lemmas.List.Sums.{sum_by_push}
-use Rattle.rdf_trig.specs.Holding.{frame_bytes}
+use Rattle.rdf_trig.proofs.Prelude.{ap, sym, ◌∙◌, sum_by, sum_by_push, frame_bytes}
 use Rattle.rdf_trig.proofs.spares.Spares.take.Goals as goal
 
 -- what the frame that is taken has, and the others, all had

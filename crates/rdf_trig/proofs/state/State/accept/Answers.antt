@@ -1,13 +1,7 @@
 -- Each way through a step: a look-up or a put that failed, memory that was short at the end, and a token that was accepted.
-use Rattle.std.proofs.Common.{◌≡◌, ◌≤◌, ◌∙◌, sym, ap, subst, refl, length, arith}
-use Rattle.rdf_terms.specs.Sinks.{Appends}
+use Rattle.rdf_trig.proofs.Prelude.{◌≡◌, ◌≤◌, ◌∙◌, sym, ap, subst, refl, length, arith, Appends, leaf, moved, mode_in, use_in, scope_in, DepthMoves, state_of, given, GaveUp, DepthMay, FindsNone, most_text, Fits, turned, frames_after}
 use Rattle.rdf_trig.specs.Machine as M
 use Rattle.rdf_trig.proofs.machine.AcceptedTokens.{accepted}
-use Rattle.rdf_trig.specs.States.{leaf, moved, mode_in, use_in, scope_in, DepthMoves}
-use Rattle.rdf_trig.specs.Steps.{state_of, given, GaveUp, DepthMay}
-use Rattle.rdf_trig.specs.Scopes.{FindsNone}
-use Rattle.rdf_trig.specs.Holding.{most_text, Fits}
-use Rattle.rdf_trig.specs.Turns.{turned, frames_after}
 use Rattle.rdf_trig.proofs.code.HoldingLemmas.{token_within, name_within, named_fits}
 use Rattle.rdf_trig.proofs.code.PutsInRow.{told_stops}
 use Rattle.rdf_trig.proofs.code.TurnsLemmas.{turned_named}

@@ -1,6 +1,5 @@
-use Rattle.std.proofs.Common.{None, sym, ap, ◌∙◌}
+use Rattle.rdf_trig.proofs.Prelude.{None, sym, ap, ◌∙◌, setting, graph_of, level_of}
 use Rattle.rdf_trig.specs.Machine as M
-use Rattle.rdf_trig.specs.States.{setting, graph_of, level_of}
 use Rattle.rdf_trig.proofs.machine.Fallbacks.{label-else}
 use Rattle.rdf_trig.proofs.code.TurnsLemmas.{means_at}
 use Rattle.rdf_trig.proofs.state.State.after_label.Goals as goal

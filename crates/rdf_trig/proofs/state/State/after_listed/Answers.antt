@@ -1,6 +1,5 @@
-use Rattle.std.proofs.Common.{ap, ◌∙◌}
+use Rattle.rdf_trig.proofs.Prelude.{ap, ◌∙◌, level_of, place_at, spelt_of, around_in, up_in, setting_in}
 use Rattle.rdf_trig.specs.Machine as M
-use Rattle.rdf_trig.specs.States.{level_of, place_at, spelt_of, around_in, up_in, setting_in}
 use Rattle.rdf_trig.proofs.machine.Fallbacks.{listed-else}
 use Rattle.rdf_trig.proofs.code.TurnsLemmas.{means_at}
 use Rattle.rdf_trig.proofs.state.State.after_listed.Goals as goal

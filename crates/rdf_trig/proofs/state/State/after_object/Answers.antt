@@ -1,6 +1,6 @@
-use Rattle.std.proofs.Common.{◌∙◌, ap, sym}
+use Rattle.rdf_trig.proofs.Prelude.{◌∙◌, ap, sym, level_of, place_at, first_of, up_in, setting_in}
 use Rattle.rdf_trig.specs.Machine as M
-use Rattle.rdf_trig.specs.States.{level_of, place_at, first_of, cell_of, up_in, setting_in}
+use Rattle.rdf_trig.specs.States.{cell_of}
 use Rattle.rdf_trig.proofs.code.TurnsLemmas.{means_at}
 use Rattle.rdf_trig.proofs.state.State.after_object.Goals as goal
 

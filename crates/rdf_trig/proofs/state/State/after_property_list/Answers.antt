@@ -1,7 +1,5 @@
-use Rattle.std.proofs.Common.{None, ap, ◌∙◌}
+use Rattle.rdf_trig.proofs.Prelude.{None, ap, ◌∙◌, verb_by, use_at, level_of, setting_in}
 use Rattle.rdf_trig.specs.Machine as M
-use Rattle.rdf_trig.specs.Turns.{verb_by}
-use Rattle.rdf_trig.specs.States.{use_at, level_of, setting_in}
 use Rattle.rdf_trig.proofs.machine.Fallbacks.{after_property_list-verb, after_property_list-else}
 use Rattle.rdf_trig.proofs.code.TurnsLemmas.{means_at}
 use Rattle.rdf_trig.proofs.state.State.after_property_list.Goals as goal

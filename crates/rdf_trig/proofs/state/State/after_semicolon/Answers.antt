@@ -1,6 +1,5 @@
-use Rattle.std.proofs.Common.{ap}
+use Rattle.rdf_trig.proofs.Prelude.{ap, level_of, place_at, after_semicolon_at, up_in, setting_in}
 use Rattle.rdf_trig.specs.Machine as M
-use Rattle.rdf_trig.specs.States.{level_of, place_at, after_semicolon_at, up_in, setting_in}
 use Rattle.rdf_trig.proofs.code.TurnsLemmas.{means_at}
 use Rattle.rdf_trig.proofs.state.State.after_semicolon.Goals as goal
 

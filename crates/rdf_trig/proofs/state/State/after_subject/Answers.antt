@@ -1,4 +1,4 @@
-use Rattle.rdf_trig.specs.States.{setting_in}
+use Rattle.rdf_trig.proofs.Prelude.{setting_in}
 use Rattle.rdf_trig.proofs.code.TurnsLemmas.{means_at, block_verb, turtle_verb, label_or_verb}
 use Rattle.rdf_trig.proofs.state.State.after_subject.Goals as goal
 

@@ -1,10 +1,5 @@
-use Rattle.std.proofs.Common.{◌≡◌, ◌⊎◌, ℕ, List, None, ⊎_elim, refl}
-use Rattle.rdf_terms.specs.declared.kind.Kind.{Kind}
-use Rattle.rdf_terms.specs.declared.kind.Kind.TheVariants.{LangTag, AtBase, AtPrefix}
-use Rattle.rdf_tokens.specs.Leaves.{Leaf}
+use Rattle.rdf_trig.proofs.Prelude.{◌≡◌, ◌⊎◌, ℕ, List, None, ⊎_elim, refl, Kind, LangTag, AtBase, AtPrefix, Leaf, Setting, tag_of, tagged_literal, text_in, place_in, setting_in, use_at}
 use Rattle.rdf_trig.specs.Machine as M
-use Rattle.rdf_trig.specs.Quads.{Setting, tag_of, tagged_literal}
-use Rattle.rdf_trig.specs.States.{text_in, place_in, setting_in, use_at}
 use Rattle.rdf_trig.proofs.machine.Fallbacks.{text-else}
 use Rattle.rdf_trig.proofs.code.TurnsLemmas.{means_at}
 use Rattle.rdf_trig.proofs.state.State.after_text.Goals as goal

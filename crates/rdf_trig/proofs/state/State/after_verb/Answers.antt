@@ -1,7 +1,5 @@
-use Rattle.std.proofs.Common.{None, ap, ◌∙◌}
+use Rattle.rdf_trig.proofs.Prelude.{None, ap, ◌∙◌, verb_by, use_at, around_in, setting_in}
 use Rattle.rdf_trig.specs.Machine as M
-use Rattle.rdf_trig.specs.Turns.{verb_by}
-use Rattle.rdf_trig.specs.States.{use_at, around_in, setting_in}
 use Rattle.rdf_trig.proofs.machine.Fallbacks.{after_semicolon-verb, after_semicolon-else}
 use Rattle.rdf_trig.proofs.code.TurnsLemmas.{means_at}
 use Rattle.rdf_trig.proofs.state.State.after_verb.Goals as goal

@@ -1,10 +1,5 @@
-use Rattle.std.proofs.Common.{◌≡◌, false, true, [], None, sym, subst, ◌∙◌, ◌&&◌}
-use Rattle.std.specs.Prelude.{nat_le}
-use Rattle.rdf_iri.specs.Scope.{InForce}
-use Rattle.rdf_tokens.specs.Leaves.{Leaf}
+use Rattle.rdf_trig.proofs.Prelude.{◌≡◌, false, true, [], None, sym, subst, ◌∙◌, ◌&&◌, nat_le, InForce, Leaf, mode_in, state_of}
 use Rattle.rdf_trig.specs.Machine as M
-use Rattle.rdf_trig.specs.States.{mode_in}
-use Rattle.rdf_trig.specs.Steps.{state_of}
 use Rattle.rdf_trig.proofs.code.AnswersOfSteps.{deep_refused, no_reply, may_count}
 use Rattle.rdf_trig.proofs.code.TurnsLemmas.{turn_goes}
 use Rattle.rdf_trig.proofs.state.State.check.Goals as goal

@@ -1,5 +1,4 @@
-use Rattle.std.proofs.Common.{◌∙◌, None, ap}
-use Rattle.rdf_trig.specs.States.{up_in}
+use Rattle.rdf_trig.proofs.Prelude.{◌∙◌, None, ap, up_in}
 use Rattle.rdf_trig.specs.Machine as M
 use Rattle.rdf_trig.specs.declared.slots.SubjectKind.TheVariants as kind
 use Rattle.rdf_trig.specs.declared.state.Ready.TheVariants as ready

@@ -1,9 +1,7 @@
-use Rattle.std.proofs.Common.{◌≡◌, ◌∙◌, None, ap, subst}
+use Rattle.rdf_trig.proofs.Prelude.{◌≡◌, ◌∙◌, None, ap, subst, Go, graph_of, cells_quad, setting_in, up_in, moved}
 use Rattle.rdf_trig.specs.declared.slots.SubjectKind.TheVariants as kind
 use Rattle.rdf_trig.specs.declared.state.Ready.TheVariants as ready
 use Rattle.rdf_trig.specs.Machine as M
-use Rattle.rdf_trig.specs.Machine.{Go}
-use Rattle.rdf_trig.specs.States.{graph_of, cells_quad, setting_in, up_in, moved}
 use Rattle.rdf_trig.proofs.code.HoldingLemmas.{empty_fits}
 use Rattle.rdf_trig.proofs.code.TurnsLemmas.{ended_at}
 use Rattle.rdf_trig.proofs.state.State.end_collection.Goals as goal

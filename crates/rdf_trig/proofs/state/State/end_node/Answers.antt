@@ -1,4 +1,4 @@
-use Rattle.std.proofs.Common.{None}
+use Rattle.rdf_trig.proofs.Prelude.{None}
 use Rattle.rdf_trig.specs.declared.slots.SubjectKind.TheVariants as kind
 use Rattle.rdf_trig.specs.declared.state.Ready.TheVariants as ready
 use Rattle.rdf_trig.proofs.code.HoldingLemmas.{stands_fits, empty_fits}

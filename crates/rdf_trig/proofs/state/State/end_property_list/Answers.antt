@@ -1,4 +1,4 @@
-use Rattle.std.proofs.Common.{None}
+use Rattle.rdf_trig.proofs.Prelude.{None}
 use Rattle.rdf_trig.specs.declared.state.Ready.TheVariants as ready
 use Rattle.rdf_trig.proofs.code.HoldingLemmas.{stands_fits}
 use Rattle.rdf_trig.proofs.code.TurnsLemmas.{stands_at}

@@ -1,7 +1,5 @@
-use Rattle.std.proofs.Common.{◌≡◌, subst}
+use Rattle.rdf_trig.proofs.Prelude.{◌≡◌, subst, leaf, graph_of, rest_of, setting_in, up_in, moved, begun}
 use Rattle.rdf_trig.specs.Machine as M
-use Rattle.rdf_trig.specs.States.{leaf, graph_of, rest_of, setting_in, up_in, moved}
-use Rattle.rdf_trig.specs.Turns.{begun}
 use Rattle.rdf_trig.proofs.code.TurnsLemmas.{on_ok}
 use Rattle.rdf_trig.proofs.state.State.first_item.Goals as goal
 

@@ -1,8 +1,5 @@
-use Rattle.std.proofs.Common.{◌≡◌, None, subst}
+use Rattle.rdf_trig.proofs.Prelude.{◌≡◌, None, subst, Go, setting_in, up_in, moved, verb_by}
 use Rattle.rdf_trig.specs.Machine as M
-use Rattle.rdf_trig.specs.Machine.{Go}
-use Rattle.rdf_trig.specs.States.{setting_in, up_in, moved}
-use Rattle.rdf_trig.specs.Turns.{verb_by}
 use Rattle.rdf_trig.specs.declared.slots.SubjectKind.TheVariants as kind
 use Rattle.rdf_trig.proofs.code.HoldingLemmas.{empty_fits}
 use Rattle.rdf_trig.proofs.state.State.first_verb.Goals as goal

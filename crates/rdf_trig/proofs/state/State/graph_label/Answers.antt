@@ -1,4 +1,4 @@
-use Rattle.rdf_trig.specs.States.{leaf}
+use Rattle.rdf_trig.proofs.Prelude.{leaf}
 use Rattle.rdf_trig.proofs.code.HoldingLemmas.{label_fits}
 use Rattle.rdf_trig.proofs.state.State.graph_label.Goals as goal
 

@@ -1,6 +1,4 @@
-use Rattle.std.proofs.Common.{ap, ◌∙◌, arith}
-use Rattle.std.specs.List.{sum_by}
-use Rattle.rdf_trig.specs.Holding.{frame_bytes}
+use Rattle.rdf_trig.proofs.Prelude.{ap, ◌∙◌, arith, sum_by, frame_bytes}
 use Rattle.rdf_trig.proofs.state.State.held.Goals as goal
 
 pub returns : goal.returns

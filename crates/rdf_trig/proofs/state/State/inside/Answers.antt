@@ -1,4 +1,4 @@
-use Rattle.rdf_trig.specs.States.{setting, block_graph}
+use Rattle.rdf_trig.proofs.Prelude.{setting, block_graph}
 use Rattle.rdf_trig.proofs.machine.Fallbacks.{inside-else}
 use Rattle.rdf_trig.proofs.code.TurnsLemmas.{means_at}
 use Rattle.rdf_trig.proofs.state.State.inside.Goals as goal

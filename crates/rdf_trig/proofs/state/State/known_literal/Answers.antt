@@ -1,6 +1,4 @@
-use Rattle.std.proofs.Common.{◌≤◌, ◌*◌, length, ap, sym, subst, arith}
-use Rattle.std.specs.Str.{chars}
-use Rattle.rdf_trig.specs.Holding.{text_bytes}
+use Rattle.rdf_trig.proofs.Prelude.{◌≤◌, ◌*◌, length, ap, sym, subst, arith, chars, text_bytes}
 use Rattle.rdf_trig.proofs.code.HoldingLemmas.{spelled_fits}
 use Rattle.rdf_trig.proofs.state.State.known_literal.Goals as goal
 

@@ -1,5 +1,5 @@
 -- A look-up is that of the machine in the mode of the state.
-use Rattle.rdf_trig.specs.States.{leaf}
+use Rattle.rdf_trig.proofs.Prelude.{leaf}
 use Rattle.rdf_trig.proofs.code.AgreeingScopes.{mode_looks, mode_none}
 use Rattle.rdf_trig.proofs.state.State.look_up.Goals as goal
 

@@ -1,4 +1,4 @@
-use Rattle.std.proofs.Common.{refl}
+use Rattle.rdf_trig.proofs.Prelude.{refl}
 use Rattle.rdf_trig.proofs.state.State.look_up_name.Goals as goal
 
 pub returns-clause-ok : goal.returns-clause-ok

@@ -1,9 +1,6 @@
 -- Outside of statements a look-up is that of the machine: in the two modes that wait for an IRIREF it changes the scope.
-use Rattle.std.proofs.Common.{refl, sym, subst}
+use Rattle.rdf_trig.proofs.Prelude.{refl, sym, subst, leaf, text_in, spelling_of, LooksUp, NameFits}
 use Rattle.rdf_trig.specs.Machine as M
-use Rattle.rdf_trig.specs.States.{leaf, text_in, spelling_of}
-use Rattle.rdf_trig.specs.Scopes.{LooksUp}
-use Rattle.rdf_trig.specs.Holding.{NameFits}
 use Rattle.rdf_trig.proofs.code.AgreeingScopes.{outer_looks, outer_none}
 use Rattle.rdf_trig.proofs.code.TurnsLemmas.{on_ok, if_err}
 use Rattle.rdf_trig.proofs.state.State.look_up_outer.Goals as goal

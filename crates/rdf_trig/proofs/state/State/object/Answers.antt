@@ -1,9 +1,7 @@
-use Rattle.std.proofs.Common.{ap, length, arith}
-use Rattle.rdf_trig.specs.States.{leaf}
+use Rattle.rdf_trig.proofs.Prelude.{ap, length, arith, leaf, XsdBoolean}
 use Rattle.rdf_trig.specs.declared.slots.SubjectKind.TheVariants as kind
 use Rattle.rdf_trig.specs.declared.state.Ready.TheVariants as ready
 use Rattle.rdf_trig.specs.declared.state.Mode.TheVariants as mode
-use Rattle.rdf_terms.specs.declared.constants.Known.TheVariants.{XsdBoolean}
 use Rattle.rdf_trig.proofs.code.HoldingLemmas.{stands_fits, ready_fits, label_fits, empty_fits}
 use Rattle.rdf_trig.proofs.code.SpelledLemmas.{true_length, false_length}
 use Rattle.rdf_trig.proofs.state.State.object.Goals as goal

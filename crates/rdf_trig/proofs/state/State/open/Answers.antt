@@ -1,4 +1,4 @@
-use Rattle.std.proofs.Common.{rules}
+use Rattle.rdf_trig.proofs.Prelude.{rules}
 use Rattle.rdf_trig.proofs.code.FrameStack.{stack_steps}
 use Rattle.rdf_trig.proofs.state.State.open.Goals as goal
 

@@ -1,6 +1,5 @@
 -- Each turn is that of its method.
-use Rattle.std.proofs.Common.{subst}
-use Rattle.rdf_trig.specs.States.{leaf}
+use Rattle.rdf_trig.proofs.Prelude.{subst, leaf}
 use Rattle.rdf_trig.specs.Turns.{Begins}
 use Rattle.rdf_trig.proofs.state.State.take.Goals as goal
 

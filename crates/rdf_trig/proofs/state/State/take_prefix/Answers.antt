@@ -1,4 +1,4 @@
-use Rattle.std.proofs.Common.{arith}
+use Rattle.rdf_trig.proofs.Prelude.{arith}
 use Rattle.rdf_trig.specs.declared.slots.SubjectKind.TheVariants as kind
 use Rattle.rdf_trig.proofs.code.HoldingLemmas.{empty_fits}
 use Rattle.rdf_trig.proofs.state.State.take_prefix.Goals as goal

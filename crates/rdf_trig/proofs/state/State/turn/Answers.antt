@@ -1,5 +1,5 @@
 -- A token in each mode, as it stands in the state.
-use Rattle.rdf_trig.specs.States.{place_in}
+use Rattle.rdf_trig.proofs.Prelude.{place_in}
 use Rattle.rdf_trig.proofs.code.TurnsLemmas.{decides_at, subject_decides, subject_suits, semicolon_decides, semicolon_suits}
 use Rattle.rdf_trig.proofs.state.State.turn.Goals as goal
 

@@ -1,4 +1,4 @@
-use Rattle.std.proofs.Common.{rules}
+use Rattle.rdf_trig.proofs.Prelude.{rules}
 use Rattle.rdf_trig.proofs.state.State.verb.Goals as goal
 
 pub returns-clause-takes : goal.returns-clause-takes

@@ -1,5 +1,4 @@
-use Rattle.std.proofs.Common.{sym, subst}
-use Rattle.rdf_tokens.specs.Front.{Rests}
+use Rattle.rdf_tokens.proofs.Prelude.{sym, subst, Rests}
 use Rattle.rdf_tokens.specs.declared.states.machine.State.TheVariants as state
 use Rattle.rdf_tokens.proofs.RestStates.{rests_label}
 use Rattle.rdf_tokens.proofs.states.label.LabelShape.rest_end.Goals as goal

@@ -1,5 +1,4 @@
-use Rattle.std.proofs.Common.{sym, subst, ⊎_elim}
-use Rattle.rdf_tokens.specs.Front.{Rests}
+use Rattle.rdf_tokens.proofs.Prelude.{sym, subst, ⊎_elim, Rests}
 use Rattle.rdf_tokens.specs.declared.states.machine.State.TheVariants as state
 use Rattle.rdf_tokens.proofs.RestStates.{rests_prefix, rests_local}
 use Rattle.rdf_tokens.proofs.states.name.NameShape.rest_end.Goals as goal

@@ -1,4 +1,4 @@
-use Rattle.std.proofs.Common.{rules}
+use Rattle.rdf_tokens.proofs.Prelude.{rules}
 use Rattle.rdf_tokens.proofs.states.number.Number.after.Goals as goal
 
 pub returns-in_default-3 : goal.returns-in_default-3

@@ -1,7 +1,4 @@
-use Rattle.std.proofs.Common.{sym, subst}
-use Rattle.rdf_tokens.specs.Front.{Rests}
-use Rattle.rdf_tokens.specs.Quick.{RestsInLong}
-use Rattle.rdf_tokens.specs.Strings.{RestsInQuotes}
+use Rattle.rdf_tokens.proofs.Prelude.{sym, subst, Rests, RestsInLong, RestsInQuotes}
 use Rattle.rdf_tokens.specs.declared.states.machine.State.TheVariants as state
 use Rattle.rdf_tokens.proofs.states.text.TextShape.rest_end.Goals as goal
 
