@@ -93,10 +93,6 @@ few End = omega arith
 abbrev pub AskedTo : (Kind → Bool → Type 0) → ℕ → ℕ → Type 0
 AskedTo P n kinds = (k : Kind) → (number k < n → P k (has kinds k)) × (n ≤ number k → has kinds k ≡ false)
 
--- no kind was asked
-pub asked_none : (P : Kind → Bool → Type 0) (kinds : ℕ) → ((k : Kind) → has kinds k ≡ false) → AskedTo P 0 kinds
-asked_none P kinds none k = (λ l. absurd (omega (arith, l)), λ l. none k)
-
 -- one kind more was asked
 pub asked_one : (P : Kind → Bool → Type 0) (n : ℕ) (old new : ℕ) (kind : Kind) → number kind ≡ n → P kind (has new kind) →
     ((k : Kind) → k ≢ kind → has new k ≡ has old k) → AskedTo P n old → AskedTo P (n + 1) new

@@ -165,11 +165,6 @@ pub none_said : (text : List ℕ) → (SaysNothing (chars text) → ⊥) → ((p
 none_said text m n None s = m s.1
 none_said text m n (Some e) s = n e.0 e.1 s
 
--- what says something is UTF-8
-pub said_utf8 : (text : List ℕ) (entry : Entry) → TextSays text entry → IsUtf8 text
-said_utf8 text None s = s.0
-said_utf8 text (Some e) s = s.utf8
-
 -- a scope that begins with what is handed in keeps the limits
 pub starting_keeps : (base : Option (List ℕ)) (limits : Sizes) (b : BindingMap) → BaseFits base limits → KeepsSizes b → b.limits ≡ limits →
     KeepsLimits (record { base = base; bindings = b.bindings; limits = limits })

@@ -180,37 +180,6 @@ HaveSlots-pushed slots row key q iri e have next = λ place g l.
 pub Names-once : (slot mark place : ℕ) → mark % 65536 ≡ 0 → Names slot mark place → (slot % 65536 ≡ place) × (slot - slot % 65536 ≡ mark)
 Names-once slot mark place w n = let s = n.small in let v = n.value in (omega (arith, w, s, v), omega (arith, w, s, v))
 
--- a free slot is given, and no other is lost
-pub KeepsSlots-given : (slots : List ℕ) (first slot value : ℕ) → IsFree slots first slot → KeepsSlots slots (set slots slot value)
-KeepsSlots-given slots first slot value free = λ key place p h.
-    let at = first_slot (hash_of 0 key) + h.way in
-    let v = h.names.value in
-    let z = free.free in
-    let other : at ≢ slot = λ (e : at ≡ slot). let y : slice_index slots at ≡ 0 = ap (slice_index slots) e ∙ z in absurd (omega (arith, p, v, y)) in
-    record {
-      way = h.way;
-      near = h.near;
-      sized = length-set slots slot value ∙ h.sized;
-      names = record { small = h.names.small; value = get_or-set_other slots slot at value 0 other ∙ v };
-    }
-
-pub HasSlot-given : (slots key : List ℕ) (first slot value place : ℕ) → length slots ≡ 131072 → first ≡ first_slot (hash_of 0 key) →
-    first + 4 ≤ 131072 → IsFree slots first slot →
-    value ≡ mark_of (hash_of 0 key) + place → place < 65536 → HasSlot (set slots slot value) key place
-HasSlot-given slots key first slot value place n f w free v s =
-    let at : slot ≡ first_slot (hash_of 0 key) + free.way = free.there ∙ ap (λ (j : ℕ). j + free.way) f in
-    let near = free.near in
-    let there = free.there in
-    record {
-      way = free.way;
-      near = free.near;
-      sized = length-set slots slot value ∙ n;
-      names = record {
-        small = s;
-        value = ap (slice_index (set slots slot value)) (sym at) ∙ (get_or-set_same slots slot value 0 (omega (arith, near, there, n, w)) ∙ v);
-      };
-    }
-
 -- what is sought by its slots, and then among the first, is sought in the whole row
 pub first_or_none : {Z : Type 0} (slots : List ℕ) (row : List (String Z × List ℕ)) (q : List ℕ) → IsUtf8 q → HaveSlots slots row →
     ((i : ℕ) → HasSlot slots q i → IsKeyAt row q i → ⊥) →

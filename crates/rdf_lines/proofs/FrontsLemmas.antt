@@ -323,10 +323,6 @@ module _ (ending : LineEnding) where
           let few = length-le-encodes (ended_line ending q) in
           omega (arith, few, l, ap length all, length-append (encode_utf8_all (ended_line ending q)) h, length-append (statement_text q) (end_text ending))
 
-  -- lines, one after another
-  pub lines_none : (form : LineForm) (token iri : ℕ) (a : List ℕ) → LinesStand ending form token iri 0 0 a a
-  lines_none form token iri a = record { given = []; each = tt; quad_count = refl; token_count = refl; stands = refl }
-
   -- the tokens of two lists of lines are counted together
   count-append : (qs rs : List Quad) → count ending (qs ++ rs) ≡ count ending qs + count ending rs
   count-append [] rs = omega arith
@@ -418,17 +414,3 @@ module _ (ending : LineEnding) where
       let s = ap length h.stands ∙ length-append (encode_utf8_all (ended_line ending h.quad)) b in
       let x = h.count in
       (omega (arith, quad_long h.quad, k, s, x), omega (arith, x))
-
-  -- the bytes before the rest
-  pub lines_front : (form : LineForm) (token iri n m : ℕ) (a b : List ℕ) → LinesStand ending form token iri n m a b →
-      AreLines ending form token iri n m (take (length a - length b) a)
-  lines_front form token iri n m a b h =
-      let w = encode_utf8_all (ended_lines ending h.given) in
-      let s = ap length h.stands ∙ length-append w b in
-      let size : length a - length b ≡ length w = omega (arith, s) in
-      record {
-        given = h.given;
-        canonical = record { is = ap (λ k. take k a) size ∙ (ap (take (length w)) h.stands ∙ take-append_seam w b); each = h.each };
-        quad_count = h.quad_count;
-        token_count = h.token_count;
-      }

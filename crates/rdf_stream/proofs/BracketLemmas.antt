@@ -23,17 +23,6 @@ noted_token v w kept new t p d limit bytes g e n h = record {
   brackets = n ∙ (ap (open_with kept) e ∙ (ap (λ o. open_with o (placed t)) h.brackets ∙ sym (from_more [] h.tokens t)));
 }
 
--- none is given
-pub noted_none : (v w : Unread) (kept : List TokenPlace) (d : Dialect) (limit : ℕ) (bytes : List ℕ) → Waits v w →
-    IsNoted v kept d limit bytes → IsNoted w kept d limit bytes
-noted_none v w kept d limit bytes g h = record {
-  dialect = g.same.dialect ∙ h.dialect;
-  limit = g.same.limit ∙ h.limit;
-  tokens = h.tokens;
-  scanned = (g.read bytes h.tokens h.scanned).0;
-  brackets = h.brackets;
-}
-
 -- bytes are taken
 pub noted_bytes : (v w : Unread) (kept : List TokenPlace) (piece : List ℕ) (n : ℕ) (d : Dialect) (limit : ℕ) (bytes : List ℕ) → TakesBytes v piece n w →
     IsNoted v kept d limit bytes → IsNoted w kept d limit (bytes ++ take n piece)
@@ -89,16 +78,3 @@ pub whole_piece : (bytes piece front rest : List ℕ) (n : ℕ) → piece ≡ fr
 whole_piece bytes piece front rest n e =
     append_assoc (bytes ++ front) (take n rest) (drop n rest)
     ∙ (ap (λ r. (bytes ++ front) ++ r) (take-append-drop n rest) ∙ (append_assoc bytes front rest ∙ ap (λ p. bytes ++ p) (sym e)))
-
--- the innermost of the brackets
-pub open_there : (reading : Reading) (until : ℕ) (kept : List TokenPlace) (result : Option TokenPlace) → result ≡ innermost kept → ComesTo reading until kept →
-    IfSome result (IsOpenBefore reading until)
-open_there reading until kept None e h = tt
-open_there reading until kept (Some bracket) e h = record {
-  ahead = h.ahead;
-  token = h.token;
-  after = h.after;
-  tokens = h.tokens;
-  place = h.place;
-  last = ap innermost (sym h.brackets) ∙ sym e;
-}

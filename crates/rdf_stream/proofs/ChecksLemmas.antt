@@ -18,14 +18,6 @@ module _ {G X : Type 0} (w : Words G X Quad) (first old : Driven G) (bytes : Lis
   at_limit P h = subst P i.limit h
 
   module _ (piece : List ℕ) where
-    -- a piece more
-    pub piece_read : (new : Driven G) (before after : NoQuads) → Feeds w TakesNone old before piece new after → IsChecking w first (bytes ++ piece) new
-    piece_read new before after f = record {
-      begun = i.begun;
-      limit = f.limit ∙ i.limit;
-      read = λ x b. let (quads, h) = i.read x b in (quads ++ f.more, f.read x bytes quads h);
-    }
-
     -- an error in a piece
     pub piece_halts : (new : Driven G) (before after : NoQuads) (why : Reason) (n k : ℕ) →
         FeedFails w TakesNone TakesNone (λ _. false) why (record { offset = n; line = k }) old before piece new after →

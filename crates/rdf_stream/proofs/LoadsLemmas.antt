@@ -45,12 +45,6 @@ binds_not (Bad f) sizes known left bytes h r = (bytes, h, r)
 binds_not Read sizes known left bytes h r = absurd r
 binds_not Memory sizes known left bytes h r = all_given known left bytes h
 
--- the source did not give all its bytes
-pub reads_not : (fault : LoadFault) (sizes : Sizes) (known : Option (List ℕ)) (left : Reading) → ReadsNot fault known left → LoadStops fault sizes known left
-reads_not (Bad f) sizes known left r = absurd r
-reads_not Read sizes known left r = r
-reads_not Memory sizes known left r = r
-
 module _ (known : Option (List ℕ)) (left left' : Reading) (bytes : List ℕ) (room : ℕ) (i : IsGiving known left bytes room) where
   -- the source failed
   pub source_failed : Keeps left.remaining left'.remaining → left'.has_failed ≡ true → left'.has_ended ≡ false → ReadsNot Read known left'

@@ -63,10 +63,6 @@ without-append [] us = refl
 without-append (t ∷ ts) us =
     ap (λ vs. cond (is_end t.kind) vs (t ∷ vs)) (without-append ts us) ∙ append_step (is_end t.kind) t (without_end ts) (without_end us)
 
--- what is due after some tokens is these tokens but the end
-pub due_tokens : (d : Dialect) (ts is : List Token) → Due ((token_words d).documents tt) ts is → is ≡ without_end ts
-due_tokens d ts is (more, all, document, e) = sym e ∙ (ap (items_below (length ts)) document ∙ due_all ts more)
-
 -- and the other way round, as the reader's promise asks it
 pub tokens_due : (d : Dialect) (ts is : List Token) → is ≡ without_end ts → Due ((token_words d).documents tt) ts is
 tokens_due d ts is e = ([], marked_from 0 (ts ++ []), refl, due_all ts [] ∙ sym e)

@@ -71,17 +71,6 @@ begun bs at letter room h =
     let q = and_parts (get_or bs at 0 == 92) _ p.1 in
     (leb-true (at + room) (length bs) p.0, eqb-true (get_or bs at 0) 92 q.0, eqb-true (get_or bs (at + 1) 0) letter q.1)
 
--- no UCHAR of a kind stands where it doesn't begin,
-pub none_begun : (letter count : ℕ) (bs : List ℕ) (at : ℕ) → begins bs at letter (2 + count) ≡ false → (end : ℕ) → IsUcharOf letter count bs at end → ⊥
-none_begun letter count bs at h end u =
-    let room : at + (2 + count) ≤ length bs = omega (arith, u.digits.ends, u.digits.within) in
-    false≢true (sym h ∙ and_from _ _ (le-leb _ _ room) (and_from _ _ (eq-eqb _ _ u.slash) (eq-eqb _ _ u.letter)))
-
--- nor where some four of its digits are none
-pub none_four : (letter count : ℕ) (bs : List ℕ) (at from : ℕ) → at + 2 ≤ from → from + 4 ≤ at + 2 + count →
-    (PassBetween (has hex_digit) bs from (from + 4) → ⊥) → (end : ℕ) → IsUcharOf letter count bs at end → ⊥
-none_four letter count bs at from f t h end u = let e = u.digits.ends in h (λ k x y. u.digits.hexes k (omega arith) (omega arith))
-
 -- a character of std is one
 our_scalar : (c : ℕ) → IsScalar c → scalar c ≡ true
 our_scalar c h = grind (arith, nat_tests)

@@ -249,20 +249,3 @@ module _ (bs : List ℕ) (end : ℕ) (z : stands_at 10 bs 0 ≡ true) (r : IsRun
     where
       flat : (c : ℕ) → is_space_byte c ≡ true → (c == 10) ≡ false
       flat c e = grind (arith, nat_tests)
-
--- a line feed before such white space is one byte and one line feed more
-pub feed_before : (bs : List ℕ) (n feeds : ℕ) → stands_at 10 bs 0 ≡ true → 0 < n → IsIndentation (drop 1 bs) n feeds → IsIndentation bs (n + 1) (feeds + 1)
-feed_before [] n feeds z some i = absurd (false≢true z)
-feed_before (c ∷ w) n feeds z some i = λ more.
-    let e : c ≡ 10 = eqb-true c 10 (and_parts (nat_lt 0 (length (c ∷ w))) (c == 10) z).1 in
-    let g = white_on Turtle c w (ap (is_space Turtle) e) in
-    let len = g.len in
-    let r = i some in
-    let rest = r.0 in
-    let feeds_after = r.2 in
-    let all = feeds-append (c ∷ []) (take n w) in
-    let one : count_by (λ b. b == 10) (c ∷ []) ≡ 1 = ap (λ b. 0 + cond (b == 10) 1 0) e in
-    let past : n + 1 ≡ suc n = omega arith in
-    let cut : take (n + 1) (c ∷ w) ≡ c ∷ take n w = ap (λ k. take k (c ∷ w)) past in
-    let same = ap (count_by (λ b. b == 10)) cut in
-    (omega (arith, len, rest), g.comment ∙ r.1, omega (arith, same, all, one, feeds_after))

@@ -239,13 +239,6 @@ walked-kept d bs old n len kind (Some s) u h e f g = ⊎_elim
           front = f;
         }
 
--- it is right where a token goes on at a place
-pub walked-to : (d : Dialect) (bs : List ℕ) (old : Option Walk) (s : State) (at : ℕ) (fit : Option Quote) → IsUtf8 bs → Walked d bs old →
-    counted_bytes old ≤ at → 3 ≤ at →
-    Reached d bs at s None → IsFitFor d bs at fit →
-    IsWalk d bs (record { state = s; at = at; counted = counted_bytes old; count = counted_chars old; len = 0; kind = None; fit = fit })
-walked-to d bs old s at fit u h c l r f = record { enough = l; reached = r; within = c; counted = counted-walk d bs old u h; fit = f }
-
 -- what is kept or what was there, as a test says
 pub walked_if : (d : Dialect) (bs : List ℕ) (b : Bool) (new old : Option Walk) → Walked d bs new → Walked d bs old → Walked d bs (cond b new old)
 walked_if d bs true new old n o = n

@@ -97,11 +97,6 @@ name_within here sizes (Some i) e h =
     let k : byte_len i ≤ sizes.iri = subst (λ (z : Sizes). byte_len i ≤ z.iri) e h in
     omega (arith, k, m)
 
--- the bytes of a name that fits are within the same bound
-pub name_size : (n : ℕ) (i : Option (List ℕ)) → NameFits n i → iri_size i ≤ n
-name_size n None h = omega arith
-name_size n (Some i) h = h
-
 -- texts fit whatever the name is
 pub named_fits : {A : Type 0} (n : ℕ) (r : State A) (i : Option (List ℕ)) → Fits n r → Fits n (record r { name = i })
 named_fits n r i f = record { graph = f.graph; object = f.object; tail = f.tail; frame = f.frame; frames = f.frames; spares = f.spares }

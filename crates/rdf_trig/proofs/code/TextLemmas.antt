@@ -7,16 +7,6 @@ pub iri_there : (w : List ℕ) → IsIri w → Some w ≡ text_at w
 iri_there [] i = absurd (false≢true i.scheme)
 iri_there (c ∷ w) i = refl
 
--- so is a tag
-pub tag_there : (w : List ℕ) → IsTag w → Some w ≡ text_at w
-tag_there [] t = absurd (false≢true ((tag_goes_on-IsTag false [] refl).1 t))
-tag_there (c ∷ w) t = refl
-
--- the bytes of a text are those of what is there
-pub size_there : (w : List ℕ) → byte_len w ≡ iri_size (text_at w)
-size_there [] = refl
-size_there (c ∷ w) = refl
-
 -- an emptied text is not there, and holds to whatever a text that is there holds to
 pub emptied : (t : List ℕ) → t ≡ [] → text_at (chars t) ≡ None
 emptied t e = ap (λ b. text_at (chars b)) e ∙ ap text_at chars-nil
@@ -49,7 +39,3 @@ none_named w x e h = none_there w (let s = ap iri_size e in omega (arith, h, s))
 -- what holds of a text that is there
 pub held_there : (P : List ℕ → Type 0) (w : List ℕ) → IfSome (text_at w) P → Some w ≡ text_at w → P w
 held_there P w h e = subst (λ o. IfSome o P) (sym e) h
-
-pub holds_there : (P : List ℕ → Type 0) (w : List ℕ) → P w → IfSome (text_at w) P
-holds_there P [] h = tt
-holds_there P (c ∷ w) h = h
