@@ -1,5 +1,5 @@
 -- Bytes that a reader passes are read.
-use Rattle.rdf_driver.proofs.Prelude.{◌≡◌, ◌&&◌, ℕ, ◌+◌, ◌*◌, ◌≤◌, Bool, true, false, not, nat_le, List, ◌++◌, length, refl, sym, ap, ◌∙◌, subst, arith, length-append, le_prop, ∥∥₁_elim, ∥∥₁_prop, and_parts, leb-true, tokens_of, IsWaiting, most_bytes, counted_undecided, given_few, Summary, Words, Lawful, Driven, HasRead, IsLive}
+use Rattle.rdf_driver.proofs.Prelude.{◌≡◌, ◌&&◌, ℕ, ◌+◌, ◌*◌, ◌≤◌, Bool, true, false, not, nat_le, List, ◌++◌, length, refl, sym, ap, ◌∙◌, subst, arith, length-append, le_prop, ∥∥₁_elim, ∥∥₁_prop, and_parts, leb-true, tokens_of, most_bytes, counted_undecided, given_few, Summary, Words, Lawful, Driven, HasRead, IsLive}
 use Rattle.std.specs.Str.{chars}
 use Rattle.rdf_tokens.specs.Scans as Scan
 use Rattle.rdf_tokens.specs.Passing as Pass

@@ -1,5 +1,5 @@
 -- A line that is taken or refused by the scope that it is bound in.
-use Rattle.rdf_iri.proofs.Prelude.{◌≡◌, ℕ, ◌+◌, ◌*◌, ◌<◌, ◌≤◌, Bool, true, false, cond, List, [], ◌∷◌, ◌++◌, length, Option, Some, None, refl, sym, ap, ◌∙◌, subst, ⊎_elim, arith, is_some, cases_Bool, cond-true, cond-false, false≢true, length-append, chars, IsUtf8, has_scheme, IsIri, Sizes, byte_len, equal, Resolves, InForce, bound_to, Binds, HasRoom, IsFull, IsBound, NotBound, BaseFits, KeepsLimits, IsBinding, SaysNothing, Entry, TextSays, bindings_of, BindingMap, KeepsSizes}
+use Rattle.rdf_iri.proofs.Prelude.{◌≡◌, ℕ, ◌+◌, ◌*◌, ◌<◌, ◌≤◌, Bool, true, false, cond, List, [], ◌∷◌, ◌++◌, length, Option, Some, None, refl, sym, ap, ◌∙◌, subst, ⊎_elim, arith, is_some, cases_Bool, cond-true, cond-false, false≢true, length-append, chars, has_scheme, IsIri, Sizes, byte_len, equal, Resolves, InForce, bound_to, Binds, HasRoom, IsFull, IsBound, NotBound, BaseFits, KeepsLimits, IsBinding, SaysNothing, Entry, TextSays, bindings_of, BindingMap, KeepsSizes}
 use Rattle.rdf_iri.specs.declared.fault.IriFault.TheVariants as fault
 use Rattle.rdf_iri.proofs.TextsLemmas.{equal-true, equal-from}
 

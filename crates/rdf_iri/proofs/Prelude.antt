@@ -17,7 +17,7 @@ pub use Rattle.rdf_iri.specs.Roots.{front_text, HasRoot, HasOwnPath}
 pub use Rattle.rdf_iri.specs.Scope.{InForce, bound_to, Binds, HasRoom, IsFull, IsBound, NotBound, BaseFits, KeepsLimits, base_bytes, binding_bytes, most_bytes_held, Expands, ExpandsHere, NotExpanded, UnresolvedHere, IsBased}
 pub use Rattle.rdf_iri.specs.Seen.{text_of, part_chars, parts_chars, slices}
 pub use Rattle.rdf_iri.specs.Steps.{path_in, tail_in, onward, IsDirectory, path_at, written_onward, Leads, Passes, front_at, IsMove}
-pub use Rattle.rdf_iri.specs.Table.{hash_of, first_slot, mark_of, Names, HasSlot, IsFree, keys_of, IsKeyAt, HaveSlots, KeepsSlots, Kept, IsNext}
+pub use Rattle.rdf_iri.specs.Table.{hash_of, Names, HasSlot, keys_of, IsKeyAt, HaveSlots, KeepsSlots, Kept, IsNext}
 pub use Rattle.rdf_iri.specs.Texts.{Lacks, BeginsWith, before, after, equal, byte_len, from, begins, IsIriText}
 pub use Rattle.rdf_iri.specs.declared.fault.BindingReason.TheVariants.{BadBinding, TokenTooLong}
 pub use Rattle.rdf_terms.proofs.CharsLemmas.{before_last, no_chars, few_bytes}
@@ -31,7 +31,7 @@ pub use Rattle.std.proofs.Common.{◌≡◌, ℕ, true, false, List, ◌++◌, S
 pub use Rattle.std.proofs.Math.ListN.{drop_of_length-le, set}
 pub use Rattle.std.proofs.Math.Seq.{drop-cons, take-append_seam, drop-append_seam, take-suc, take-append-add, get_or-append_seam, drop-length, drop-append-add}
 pub use Rattle.std.proofs.lemmas.Bool.{cases_Bool, cond-true, cond-false, eqb-true, eqb-false, and_parts, and_from, cases_lt, false≢true, lt-ltb, ltb-true, or_cases, ne_eqb, or_from, or_parts, false_from_ne_true, or_left, or_right, lt-leb, and_right, ltb-false, eq-eqb, and_left, not-true}
-pub use Rattle.std.proofs.lemmas.List.{length-append, append-nil, append_cancel_left, length-take-le, take-append-drop, take_all, append_cancel_right, take_more, length-drop, take-set-le, drop-set, drop-drop, take-take, length-take, take-append-le, drop_more, get_or_append_left, get_or_push, get_or-set_same, get_or-set_other, length-set}
+pub use Rattle.std.proofs.lemmas.List.{length-append, append-nil, append_cancel_left, length-take-le, take-append-drop, take_all, append_cancel_right, take_more, length-drop, take-set-le, drop-set, drop-drop, take-take, length-take, take-append-le, drop_more, get_or_append_left, get_or_push, length-set}
 pub use Rattle.std.proofs.lemmas.List.Sums.{sum_by-cons, sum_by-le, sum_by-append, sum_by-drop_more}
 pub use Rattle.std.proofs.lemmas.Result.{err_from_is_err_and, on_ok_weaker}
 pub use Rattle.std.proofs.lemmas.Slice.{between_to_end}

@@ -1,5 +1,5 @@
 -- A row of many prefixes: where one stands by its bytes, and that each has its slot.
-use Rattle.rdf_iri.proofs.Prelude.{◌≡◌, ◌≢◌, ◌≤◌, ◌<◌, ◌+◌, ◌-◌, ◌%◌, ℕ, zero, suc, true, false, List, [], ◌∷◌, ◌++◌, length, take, drop, get_or, slice_index, Option, Some, None, refl, sym, ap, ◌∙◌, subst, append_assoc, ⊎_elim, arith, length-append, set, String, is_some, MatchOption, string_bytes, chars, IsUtf8, cases_Bool, cases_lt, cond-true, cond-false, take-append-drop, get_or_append_left, get_or_push, get_or-set_same, get_or-set_other, length-set, IsUtf8-string_bytes, bytes_eq-Decides, equal, bound_to, entries_of, KeptApart, StandsAt, hash_of, first_slot, mark_of, Names, HasSlot, IsFree, keys_of, IsKeyAt, HaveSlots, KeepsSlots, Kept}
+use Rattle.rdf_iri.proofs.Prelude.{◌≡◌, ◌≤◌, ◌<◌, ◌-◌, ◌%◌, ℕ, zero, suc, true, false, List, [], ◌∷◌, ◌++◌, length, take, drop, get_or, Option, Some, None, refl, sym, ap, ◌∙◌, subst, append_assoc, ⊎_elim, arith, length-append, set, String, is_some, MatchOption, string_bytes, chars, IsUtf8, cases_Bool, cases_lt, cond-true, cond-false, take-append-drop, get_or_append_left, get_or_push, length-set, IsUtf8-string_bytes, bytes_eq-Decides, equal, bound_to, entries_of, KeptApart, StandsAt, Names, HasSlot, keys_of, IsKeyAt, HaveSlots, KeepsSlots, Kept}
 use Rattle.rdf_iri.proofs.TextsLemmas.{equal-true, equal-from}
 use Rattle.rdf_iri.proofs.ScopeLemmas.{some_not, same_text}
 use Rattle.rdf_iri.proofs.PrefixLemmas.{parted, bound_to-there, entries_of-append}

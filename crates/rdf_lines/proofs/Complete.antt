@@ -1,5 +1,5 @@
 -- The machine accepts exactly the documents, and gives out their quads.
-use Rattle.rdf_lines.proofs.Prelude.{◌≡◌, ℕ, Bool, true, List, [], ◌∷◌, ◌++◌, refl, ap, ◌∙◌, append_assoc, Option, Some, None, option_map, cond-true, IriRef, Dot, LineEnd, End, Token, Typed, Subject, Term, Literal, xsd_string, LineForm, NTriples, NQuads, Leaf, iri_of, Name, Ref, Lab, Object, Named, WithType, WithTag, Statement, Line, Document, last, next, name_tokens, object_tokens, graph_tokens, statement_tokens, line_tokens, document_tokens, string_of, subject_of, term_of, graph_fits, name_bound, object_bound, graph_bound, GoodStatement, GoodDocument, Mode, Begin, AfterSubject, AfterPredicate, AfterString, AfterObject, AfterDot, Finished, goes, refuses, iri_refused, absolute, quad, Run, ran, with_quad, go_on, run}
+use Rattle.rdf_lines.proofs.Prelude.{◌≡◌, ℕ, Bool, true, List, [], ◌∷◌, ◌++◌, refl, ap, ◌∙◌, append_assoc, Option, Some, None, option_map, cond-true, IriRef, Dot, LineEnd, End, Token, Typed, Subject, Term, Literal, xsd_string, LineForm, NTriples, NQuads, Leaf, iri_of, Name, Ref, Lab, Object, Named, WithType, WithTag, Statement, Document, last, next, name_tokens, object_tokens, graph_tokens, statement_tokens, document_tokens, string_of, subject_of, term_of, graph_fits, name_bound, object_bound, graph_bound, GoodStatement, GoodDocument, Mode, Begin, AfterSubject, AfterPredicate, AfterString, AfterObject, AfterDot, Finished, goes, refuses, iri_refused, absolute, quad, Run, ran, with_quad, go_on, run}
 use Rattle.rdf_tokens.specs.Leaves.{token}
 use Rattle.rdf_lines.specs.Lines.{Plain, quad_of}
 use Rattle.rdf_lines.proofs.PlainQuads.{plain_quads}

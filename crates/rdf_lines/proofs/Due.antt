@@ -1,5 +1,5 @@
 -- What a run over some tokens gives out is due: in each document that begins with them, the quads whose mark is below their number.
-use Rattle.rdf_lines.proofs.Prelude.{◌≡◌, ℕ, zero, suc, ◌+◌, ◌-◌, ◌<◌, ◌≤◌, List, [], ◌∷◌, ◌++◌, refl, sym, ap, ◌∙◌, ⊎_elim, append_assoc, length, take, arith, length-append, zero-add, Option, Some, None, cond-true, cond-false, cases_lt, lt-ltb, le-ltb, take-append-le, take-append-add, take-nil, take-append_seam, nat_lt, IriRef, Dot, LineEnd, End, Token, Marked, items_below, Due, Rises, Quad, has_scheme, LineForm, Name, Ref, Lab, Object, Named, WithType, WithTag, Statement, Line, Document, last, next, name_tokens, object_tokens, graph_tokens, head_tokens, statement_tokens, line_tokens, document_tokens, line_quads, document_quads, documents, MarksNeverFall, Mode, Begin, ran, run}
+use Rattle.rdf_lines.proofs.Prelude.{◌≡◌, ℕ, zero, suc, ◌+◌, ◌-◌, ◌<◌, ◌≤◌, List, [], ◌∷◌, ◌++◌, refl, sym, ap, ◌∙◌, ⊎_elim, append_assoc, length, take, arith, length-append, zero-add, Option, Some, None, cond-true, cond-false, cases_lt, lt-ltb, le-ltb, take-append-le, take-append-add, take-nil, take-append_seam, nat_lt, IriRef, Dot, LineEnd, End, Token, Marked, items_below, Due, Rises, Quad, has_scheme, LineForm, Name, Ref, Lab, Object, Named, WithType, WithTag, Statement, Document, last, next, name_tokens, object_tokens, graph_tokens, head_tokens, statement_tokens, line_tokens, document_tokens, document_quads, documents, MarksNeverFall, Mode, Begin, ran, run}
 use Rattle.rdf_tokens.proofs.GrammarsLemmas.{rises_from}
 use Rattle.rdf_tokens.specs.Leaves.{token}
 use Rattle.rdf_lines.specs.Lines.{Plain, quad_of}

@@ -1,5 +1,5 @@
 -- What stands at the front of some bytes, put together from its parts.
-use Rattle.rdf_lines.proofs.Prelude.{◌≡◌, ℕ, ◌+◌, ◌-◌, ◌<◌, ◌≤◌, ◌⊎◌, Bool, true, false, List, [], ◌∷◌, ◌++◌, refl, sym, ap, ◌∙◌, subst, ⊎_elim, length, take, get_or, append_assoc, Option, Some, None, arith, length-append, flat_map, IfSome, bytes_eq, encode_utf8_all, chars, IsUtf8, AllByRecursion, take-append_seam, append-nil, length-take-le, get_or-take, flat_map-append, and_parts, and_from, eq-eqb, nat_tests, bytes_eq-Decides, IsUtf8-take, encodes-append, encodes-chars, length-le-encodes, scalars-chars, scalars, iri_char, Label, Lang, Typed, Subject, Blank, Term, Resource, Literal, Quad, xsd_string, all_have, has_scheme, IsIri, IsLabel, IsTag, LineForm, NTriples, NQuads, LineEnding, Lf, CrLf, end_text, end_count, statement_text, ended_line, ended_lines, type_count, term_count, graph_count, quad_count, count, LabelFits, IsTaken, Stands, IriStands, LabelStands, TagStands, StringStands, SubjectStands, PredicateStands, TailStands, ObjectStands, GraphStands, LineStands, LinesStand, AreLines, CharactersStand, EscapeStands, TermShort, TailShort, GraphShort, TokensWithin, written, escaped, iri_text, subject_text, string_text, type_text, tail_text, term_text, space, graph_text, iri_byte, is_short_byte, IsRun}
+use Rattle.rdf_lines.proofs.Prelude.{◌≡◌, ℕ, ◌+◌, ◌<◌, ◌≤◌, ◌⊎◌, Bool, true, false, List, [], ◌∷◌, ◌++◌, refl, sym, ap, ◌∙◌, subst, ⊎_elim, length, take, get_or, append_assoc, Option, Some, None, arith, length-append, flat_map, IfSome, bytes_eq, encode_utf8_all, chars, IsUtf8, AllByRecursion, append-nil, length-take-le, get_or-take, flat_map-append, and_parts, and_from, eq-eqb, nat_tests, bytes_eq-Decides, IsUtf8-take, encodes-append, encodes-chars, length-le-encodes, scalars-chars, scalars, iri_char, Label, Lang, Typed, Subject, Blank, Term, Resource, Literal, Quad, xsd_string, all_have, has_scheme, IsIri, IsLabel, IsTag, LineForm, NTriples, NQuads, LineEnding, Lf, CrLf, end_text, end_count, statement_text, ended_line, ended_lines, type_count, term_count, graph_count, quad_count, count, LabelFits, IsTaken, Stands, IriStands, LabelStands, TagStands, StringStands, SubjectStands, PredicateStands, TailStands, ObjectStands, GraphStands, LineStands, LinesStand, CharactersStand, EscapeStands, TermShort, TailShort, GraphShort, TokensWithin, written, escaped, iri_text, subject_text, string_text, type_text, tail_text, term_text, space, graph_text, iri_byte, is_short_byte, IsRun}
 use Rattle.std.proofs.Math.Utf8 as Utf8
 use Rattle.rdf_terms.specs.Classes.{has, scalar}
 use Rattle.rdf_terms.specs.Terms.{Tail, Iri}

@@ -1,7 +1,7 @@
 -- A tree of the form is one whose tokens have IRIs that pass the test, and whose quads have graphs where the form has them.
 use Rattle.rdf_lines.proofs.Prelude.{◌≡◌, ℕ, ◌+◌, Bool, List, [], ◌∷◌, ◌++◌, length, Option, Some, None, option_map, refl, ap, AllByRecursion, Kind, IriRef, LabelNode, ShortString, LangTag, Carets, Dot, LineEnd, End, Token, Marked, Leaf, LineForm, NTriples, NQuads, Name, Ref, Lab, Object, Named, WithType, WithTag, Statement, Document, last, next, name_tokens, object_tokens, graph_tokens, head_tokens, statement_tokens, line_tokens, document_tokens, document_quads, subject_of, iri_passes, graph_fits, name_bound, object_bound, graph_bound, GoodStatement, GoodDocument}
 use Rattle.rdf_tokens.specs.Leaves.{token}
-use Rattle.rdf_lines.specs.Lines.{Plain, quad_of}
+use Rattle.rdf_lines.specs.Lines.{Plain}
 use Rattle.rdf_lines.specs.Lines as L
 
 -- the elements of two lists, one after the other

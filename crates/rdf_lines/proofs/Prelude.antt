@@ -58,7 +58,7 @@ pub use Rattle.rdf_tokens.proofs.GoodLemmas.{good_front, encode_two, encode_thre
 pub use Rattle.rdf_tokens.proofs.TokensLemmas.{shorter, at_stop, at_token, step-more, step_token, rest_more, more_token, none_longer, tokens-step}
 pub use Rattle.rdf_tokens.specs.Good.{first_place, good, tail_of, mark, has_byte_order_mark, most_bytes}
 unfoldable pub use Rattle.rdf_tokens.specs.Good.{tokens_of}
-pub use Rattle.rdf_tokens.specs.Grammars.{reading_of, IsReadToItsEnd, Marked, unmarked, counted, Viable, PassesNone, items_below, Due, Rises, IsDocumentOf, IsWithin, GoesOn, Refused, Shaped, Language, CompletedWith, IsWhole}
+pub use Rattle.rdf_tokens.specs.Grammars.{reading_of, IsReadToItsEnd, Marked, unmarked, counted, Viable, PassesNone, items_below, Due, Rises, IsDocumentOf, IsWithin, GoesOn, Refused, Language, CompletedWith, IsWhole}
 pub use Rattle.rdf_tokens.specs.Leaves.{iri_of, leaf_of, Leaf}
 pub use Rattle.rdf_tokens.specs.Scans.{is_end, IsToken, token_of, unread_bytes}
 pub use Rattle.rdf_tokens.specs.Tokens.{Token, Place, past, with_tokens, Outcome, Reading, Step, rest_of, place_of, end_tokens, is_line_end, is_space, longest, over, is_empty, chosen, decided, by_tail, with_token, with_length}

@@ -1,5 +1,5 @@
 -- What the machine does under different tests of an IRI: why a token is refused, and what a narrower test accepts.
-use Rattle.rdf_lines.proofs.Prelude.{◌≡◌, ◌≢◌, ℕ, ◌<◌, Bool, true, false, not, nat_lt, ◌&&◌, List, [], ◌∷◌, ◌++◌, ◌⊎◌, inl, inr, refl, sym, ap, ◌∙◌, subst, ⊎_elim, Some, None, drop, cases_Bool, cases_lt, lt-ltb, le-ltb, cond-true, cond-false, Kind, IriRef, LabelNode, ShortString, LangTag, Carets, Dot, LineEnd, End, Reason, Unexpected, RelativeIri, IriTooLong, Token, Viable, Shaped, PassesNone, Subject, Term, Resource, Literal, Lang, Typed, Quad, xsd_string, has_scheme, byte_len, LineForm, NQuads, Leaf, leaf_of, iri_of, string_of, any_iri, documents, trees, Passes, Mode, Begin, AfterSubject, AfterPredicate, AfterString, AfterCarets, AfterObject, AfterGraph, AfterDot, Finished, Answer, goes, gives, refuses, is_taken, iri_refused, absolute, quad, object_then, accept, Run, ran, refused, with_quad, go_on, run}
+use Rattle.rdf_lines.proofs.Prelude.{◌≡◌, ◌≢◌, ℕ, ◌<◌, Bool, true, false, not, nat_lt, ◌&&◌, List, [], ◌∷◌, ◌++◌, ◌⊎◌, inl, inr, refl, sym, ap, ◌∙◌, subst, ⊎_elim, Some, None, drop, cases_Bool, cases_lt, lt-ltb, le-ltb, cond-true, cond-false, Kind, IriRef, LabelNode, ShortString, LangTag, Carets, Dot, LineEnd, End, Reason, Unexpected, RelativeIri, IriTooLong, Token, Viable, PassesNone, Subject, Term, Resource, Literal, Lang, Typed, Quad, xsd_string, has_scheme, byte_len, LineForm, NQuads, Leaf, leaf_of, iri_of, string_of, any_iri, documents, trees, Passes, Mode, Begin, AfterSubject, AfterPredicate, AfterString, AfterCarets, AfterObject, AfterGraph, AfterDot, Finished, Answer, goes, gives, refuses, is_taken, iri_refused, absolute, quad, object_then, accept, Run, ran, refused, with_quad, go_on, run}
 use Rattle.rdf_terms.specs.Terms.{Iri}
 use Rattle.rdf_lines.specs.Machine.{blank}
 use Rattle.rdf_lines.proofs.Sound.{quad_first}
@@ -169,7 +169,7 @@ module _ (n : ℕ) (f : LineForm) (ts : List Token) (t : Token) (m : Mode) (qs :
   one test = accept test f m t.kind (leaf_of t)
 
   -- The first token that the machine refuses as unexpected begins no tree, so no document.
-  pub unexpected : one (is_taken n) ≡ refuses Unexpected → Shaped (trees f) (ts ++ t ∷ []) → ⊥
+  pub unexpected : one (is_taken n) ≡ refuses Unexpected → Viable (trees f) (ts ++ t ∷ []) → ⊥
   unexpected a v =
       not_viable any_iri f ts t m qs Unexpected (in_trees n f ts m qs e)
       (unexpected_same t.kind (leaf_of t) one (is_taken n) any_iri (tested f m t.kind (leaf_of t)) a) v
@@ -205,7 +205,7 @@ module _ (n : ℕ) (f : LineForm) (ts : List Token) (t : Token) (m : Mode) (qs :
       (cases_Bool (has_scheme (iri_of (leaf_of t))))
 
   -- A token that is refused as relative is an IRI without a scheme, and some tree has it there, but no document.
-  pub relative : one (is_taken n) ≡ refuses RelativeIri → Shaped (trees f) (ts ++ t ∷ []) × (t.kind ≡ IriRef) × (has_scheme (iri_of (leaf_of t)) ≡ false)
+  pub relative : one (is_taken n) ≡ refuses RelativeIri → Viable (trees f) (ts ++ t ∷ []) × (t.kind ≡ IriRef) × (has_scheme (iri_of (leaf_of t)) ≡ false)
   relative a =
       let x = relative_fell a in
       (viable_ran any_iri f refl (ts ++ t ∷ []) x.mode (qs ++ []) (taken_by any_iri RelativeIri x refl (in_trees n f ts m qs e)), x.is_iri, no_scheme a)

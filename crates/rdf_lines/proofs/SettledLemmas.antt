@@ -1,5 +1,5 @@
 -- The tokens settle the quads of a document and their marks, and so what is due.
-use Rattle.rdf_lines.proofs.Prelude.{◌≡◌, ℕ, ◌+◌, List, [], ◌∷◌, ◌++◌, refl, sym, ap, ◌∙◌, length, append_assoc, Option, Some, None, arith, length-append, Kind, IriRef, Dot, LineEnd, End, Quad, has_scheme, Token, Marked, unmarked, LineForm, Name, Ref, Lab, Object, Named, WithType, WithTag, Statement, Document, last, next, name_tokens, object_tokens, graph_tokens, head_tokens, statement_tokens, line_tokens, document_tokens, document_quads, any_iri, trees, TokensSettleTheQuads, TokensSettleWhatIsDue, DueBeginsTheQuads}
+use Rattle.rdf_lines.proofs.Prelude.{◌≡◌, ℕ, ◌+◌, List, [], ◌∷◌, ◌++◌, refl, sym, ap, ◌∙◌, length, append_assoc, Option, Some, None, arith, length-append, Kind, IriRef, Dot, LineEnd, End, Quad, has_scheme, Token, Marked, unmarked, LineForm, Name, Ref, Lab, Object, Named, WithType, WithTag, Statement, Document, last, next, name_tokens, object_tokens, graph_tokens, head_tokens, statement_tokens, document_tokens, document_quads, any_iri, trees, TokensSettleTheQuads, TokensSettleWhatIsDue, DueBeginsTheQuads}
 use Rattle.rdf_tokens.specs.Leaves.{token}
 use Rattle.rdf_lines.specs.Lines.{Plain}
 use Rattle.rdf_lines.specs.Lines as L

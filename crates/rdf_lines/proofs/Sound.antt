@@ -1,5 +1,5 @@
 -- What the machine accepts has a tree.
-use Rattle.rdf_lines.proofs.Prelude.{◌≡◌, ℕ, Bool, true, List, [], ◌∷◌, ◌++◌, refl, sym, ap, ◌∙◌, subst, ⊎_elim, append_assoc, Some, None, cases_Bool, cond-true, cond-false, append-nil, Kind, IriRef, LabelNode, ShortString, LangTag, Carets, Dot, LineEnd, End, Token, Quad, LineForm, NTriples, NQuads, Leaf, leaf_of, iri_of, Name, Ref, Lab, Object, Named, WithType, WithTag, Statement, Line, Document, last, next, name_tokens, object_tokens, graph_tokens, statement_tokens, line_tokens, document_tokens, string_of, subject_of, term_of, graph_fits, name_bound, object_bound, GoodStatement, GoodLine, Unexpected, Mode, Begin, AfterSubject, AfterPredicate, AfterString, AfterCarets, AfterObject, AfterGraph, AfterDot, Finished, goes, refuses, iri_refused, absolute, accept, Run, ran, refused, with_quad, go_on, run}
+use Rattle.rdf_lines.proofs.Prelude.{◌≡◌, ℕ, Bool, true, List, [], ◌∷◌, ◌++◌, refl, sym, ap, ◌∙◌, subst, ⊎_elim, append_assoc, Some, None, cases_Bool, cond-true, cond-false, append-nil, Kind, IriRef, LabelNode, ShortString, LangTag, Carets, Dot, LineEnd, End, Token, Quad, LineForm, NTriples, NQuads, Leaf, leaf_of, iri_of, Name, Ref, Lab, Object, Named, WithType, WithTag, Statement, Line, last, next, name_tokens, object_tokens, statement_tokens, line_tokens, string_of, subject_of, term_of, graph_fits, name_bound, object_bound, GoodStatement, GoodLine, Unexpected, Mode, Begin, AfterSubject, AfterPredicate, AfterString, AfterCarets, AfterObject, AfterGraph, AfterDot, Finished, goes, refuses, iri_refused, absolute, accept, Run, ran, refused, with_quad, go_on, run}
 use Rattle.rdf_tokens.specs.Leaves.{token}
 use Rattle.rdf_lines.specs.Lines.{Plain, quad_of}
 use Rattle.rdf_lines.proofs.PlainQuads.{plain_line, IsPlain}

@@ -1,5 +1,5 @@
 -- What is written reads back as the same quads.
-use Rattle.rdf_lines.proofs.Prelude.{◌≡◌, ℕ, ◌+◌, ◌≤◌, Bool, true, false, List, [], ◌∷◌, ◌++◌, refl, sym, ap, ◌∙◌, subst, ⊎_elim, append_assoc, Option, Some, None, length, nat_lt, arith, length-append, zero-add, flat_map, option_map, unwrap_or, bytes_eq, AllByRecursion, cond-false, cases_Bool, le-ltb, and_left, append-nil, bytes_eq-Decides, Lines, Matches, Kind, kinds, any_shape, shape, kind_of, is_live, IriRef, LabelNode, ShortString, LangTag, Carets, Dot, LineEnd, End, is_fit, iri_value, string_value, Place, past, Token, tokens, step, over, with_tokens, ended, complete, stop, Label, Anon, Cell, Lang, Typed, Subject, Blank, Term, Resource, Literal, Quad, xsd_string, has_scheme, all_have, IsIri, IsLabel, IsTag, IsSubject, IsTerm, IsGraph, IsQuad, Leaf, iri_of, Name, Ref, Lab, Object, Named, WithType, WithTag, Statement, Line, Document, last, next, name_tokens, object_tokens, graph_tokens, statement_tokens, line_tokens, document_tokens, string_of, subject_of, term_of, name_bound, object_bound, graph_bound, GoodStatement, GoodDocument, NQuads, Escapes, Kept, CanWrite, written, escaped, iri_text, node_text, subject_text, string_text, type_text, term_text, space, graph_text, quad_text, CanWriteSubject, CanWriteTerm, CanWriteGraph, TermShort, GraphShort, TokensWithin, at_stop, uses, live-matches}
+use Rattle.rdf_lines.proofs.Prelude.{◌≡◌, ℕ, ◌+◌, ◌≤◌, Bool, true, false, List, [], ◌∷◌, ◌++◌, refl, sym, ap, ◌∙◌, subst, ⊎_elim, append_assoc, Option, Some, None, length, nat_lt, arith, length-append, zero-add, flat_map, option_map, unwrap_or, bytes_eq, AllByRecursion, cond-false, cases_Bool, le-ltb, and_left, append-nil, bytes_eq-Decides, Lines, Matches, Kind, kinds, any_shape, shape, kind_of, is_live, IriRef, LabelNode, ShortString, LangTag, Carets, Dot, LineEnd, End, is_fit, iri_value, string_value, Place, past, Token, tokens, step, over, with_tokens, ended, complete, stop, Label, Anon, Cell, Lang, Typed, Subject, Blank, Term, Resource, Literal, Quad, xsd_string, has_scheme, all_have, IsIri, IsLabel, IsTag, IsSubject, IsTerm, IsGraph, IsQuad, Leaf, iri_of, Name, Ref, Lab, Object, Named, WithType, WithTag, Statement, Document, last, next, name_tokens, object_tokens, graph_tokens, statement_tokens, document_tokens, string_of, subject_of, term_of, name_bound, object_bound, graph_bound, GoodStatement, GoodDocument, NQuads, Escapes, Kept, CanWrite, written, escaped, iri_text, node_text, subject_text, string_text, type_text, term_text, space, graph_text, quad_text, CanWriteSubject, CanWriteTerm, CanWriteGraph, TermShort, GraphShort, TokensWithin, at_stop, uses, live-matches}
 use Rattle.rdf_terms.specs.Classes.{has, scalar}
 use Rattle.rdf_tokens.specs.Tokens.{Tail as Behind, blank}
 use Rattle.rdf_terms.specs.Terms.{Iri}

@@ -1,5 +1,5 @@
 -- The written bytes are good text.
-use Rattle.rdf_lines.proofs.Prelude.{◌≡◌, ℕ, Bool, true, false, cond, List, [], ◌∷◌, ◌++◌, ◌==◌, refl, ap, ◌∙◌, ⊎_elim, length, take, drop, Option, Some, None, arith, flat_map, encode_utf8_all, bytes_eq, AllByRecursion, chars, utf8_valid_len, encodes, scalars, cases_Bool, cond-true, cond-false, and_parts, and_from, or_cases, false≢true, eq-eqb, nat_tests, take_all, utf8_valid_len-IsUtf8, chars-encodes, Class, Lines, iri_char, Regex, Matches, nothing, many, label_name, tag_name, good, tail_of, mark, has_byte_order_mark, tokens_of, first_place, past, tokens, ended, Label, Anon, Cell, Lang, Typed, Subject, Blank, Term, Resource, Literal, Quad, xsd_string, all_have, IsIri, IsSubject, IsTerm, IsGraph, IsQuad, Escapes, Kept, uchar, written, escaped, CanWrite, iri_text, subject_text, string_text, type_text, term_text, space, graph_text, quad_text, CanWriteSubject, CanWriteTerm, CanWriteGraph, uses, all_used}
+use Rattle.rdf_lines.proofs.Prelude.{◌≡◌, ℕ, Bool, true, false, cond, List, [], ◌∷◌, ◌++◌, ◌==◌, refl, ap, ◌∙◌, ⊎_elim, length, take, drop, Option, Some, None, arith, flat_map, encode_utf8_all, bytes_eq, AllByRecursion, chars, utf8_valid_len, scalars, cases_Bool, cond-true, cond-false, and_parts, and_from, or_cases, false≢true, eq-eqb, nat_tests, take_all, utf8_valid_len-IsUtf8, chars-encodes, Class, Lines, iri_char, Regex, Matches, nothing, many, label_name, tag_name, good, tail_of, mark, has_byte_order_mark, tokens_of, first_place, past, tokens, ended, Label, Anon, Cell, Lang, Typed, Subject, Blank, Term, Resource, Literal, Quad, xsd_string, all_have, IsIri, IsSubject, IsTerm, IsGraph, IsQuad, Escapes, Kept, uchar, written, escaped, CanWrite, iri_text, subject_text, string_text, type_text, term_text, space, graph_text, quad_text, CanWriteSubject, CanWriteTerm, CanWriteGraph, uses, all_used}
 use Rattle.std.proofs.Math.Utf8.{scalar as utf8_scalar}
 use Rattle.rdf_terms.specs.declared.kind.Dialect.{Dialect}
 use Rattle.rdf_terms.specs.Classes.{has, scalar}

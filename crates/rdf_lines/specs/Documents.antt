@@ -6,7 +6,7 @@ use Rattle.rdf_terms.specs.declared.reason.Reason.{Reason}
 use Rattle.rdf_terms.specs.declared.reason.Reason.TheVariants.{Unexpected, RelativeIri, IriTooLong}
 use Rattle.rdf_terms.specs.Terms.{has_scheme}
 use Rattle.rdf_tokens.specs.Tokens.{Token}
-use Rattle.rdf_tokens.specs.Grammars.{Language, Viable, Shaped}
+use Rattle.rdf_tokens.specs.Grammars.{Language, Viable}
 use Rattle.rdf_iri.specs.Limits.{Sizes}
 use Rattle.rdf_iri.specs.Texts.{byte_len}
 use Rattle.rdf_lines.specs.declared.form.LineForm.{LineForm}
@@ -17,18 +17,12 @@ use Rattle.rdf_lines.specs.Lines.{documents, trees}
 abbrev pub Passes : ℕ → List Token → Token → Type 0
 Passes iri ahead t = (t.kind ≡ IriRef) × (iri < byte_len (iri_of (leaf_of t)))
 
--- no tree begins with the tokens
-abbrev pub IsUnexpected : LineForm → List Token → Token → Type 0
-IsUnexpected form ahead t = Shaped (trees form) (ahead ++ t ∷ []) → ⊥
-
--- some tree begins with the tokens, but the last is an IRI without a scheme
-abbrev pub IsRelative : LineForm → List Token → Token → Type 0
-IsRelative form ahead t = Shaped (trees form) (ahead ++ t ∷ []) × (t.kind ≡ IriRef) × (has_scheme (iri_of (leaf_of t)) ≡ false)
-
--- Why a token is refused after these tokens: no document begins so, or one does but the token passes the limit.
+-- Why a token is refused after these tokens. No document begins so: it is unexpected where no tree does, and a relative IRI where some tree does and it
+-- is an IRIREF without a scheme. Or a document begins so, but the token passes the limit.
 abbrev pub Blamed : LineForm → ℕ → Reason → List Token → Token → Type 0
-Blamed form iri Unexpected ahead t = (Viable (documents form) (ahead ++ t ∷ []) → ⊥) × IsUnexpected form ahead t
-Blamed form iri RelativeIri ahead t = (Viable (documents form) (ahead ++ t ∷ []) → ⊥) × IsRelative form ahead t
+Blamed form iri Unexpected ahead t = (Viable (documents form) (ahead ++ t ∷ []) → ⊥) × (Viable (trees form) (ahead ++ t ∷ []) → ⊥)
+Blamed form iri RelativeIri ahead t =
+    (Viable (documents form) (ahead ++ t ∷ []) → ⊥) × (Viable (trees form) (ahead ++ t ∷ []) × (t.kind ≡ IriRef) × (has_scheme (iri_of (leaf_of t)) ≡ false))
 Blamed form iri IriTooLong ahead t = Viable (documents form) (ahead ++ t ∷ []) × Passes iri ahead t
 Blamed form iri reason ahead t = ⊥
 

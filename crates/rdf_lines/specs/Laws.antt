@@ -6,7 +6,7 @@ use Rattle.rdf_terms.specs.declared.kind.Kind.TheVariants.{IriRef, Dot, End}
 use Rattle.rdf_terms.specs.declared.reason.Reason.{Reason}
 use Rattle.rdf_terms.specs.Terms.{Node, IsNode, Tail, Lang, Typed, Subject, Iri, Blank, Term, Resource, Literal, Quad}
 use Rattle.rdf_tokens.specs.Tokens.{Place, Token}
-use Rattle.rdf_tokens.specs.Grammars.{Marked, unmarked, Viable, Shaped, Due, Rises, CompletedWith, reading_of, IsDocumentOf, IsWithin, GoesOn, IsWhole, Refused, IsReadToItsEnd}
+use Rattle.rdf_tokens.specs.Grammars.{Marked, unmarked, Viable, Due, Rises, CompletedWith, reading_of, IsDocumentOf, IsWithin, GoesOn, IsWhole, Refused, IsReadToItsEnd}
 use Rattle.rdf_driver.specs.Readers.{Driven, HasRead}
 use Rattle.rdf_iri.specs.Texts.{byte_len}
 use Rattle.rdf_lines.specs.declared.form.LineForm.{LineForm}
@@ -63,7 +63,7 @@ IsClosing t = closing_text t.kind ≡ Some t.text
 -- Tokens that begin a document are completed to one by such tokens, and tokens that begin a tree, to a tree: a reader is never in a dead end.
 abbrev pub BeginningsAreCompleted : Type 0
 BeginningsAreCompleted = (form : LineForm) (ts : List Token) →
-    (Viable (documents form) ts → CompletedWith IsClosing (documents form) ts) × (Shaped (trees form) ts → CompletedWith IsClosing (trees form) ts)
+    (Viable (documents form) ts → CompletedWith IsClosing (documents form) ts) × (Viable (trees form) ts → CompletedWith IsClosing (trees form) ts)
 
 -- What a reader has read decides tokens that are all in the front, leaves the next one open, and the quads that were put are due after them.
 abbrev pub ReadQuadsAreDue : Type 0

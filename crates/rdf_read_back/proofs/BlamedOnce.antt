@@ -1,5 +1,5 @@
 -- A token is refused for one reason.
-use Rattle.rdf_read_back.proofs.Prelude.{◌≡◌, ◌⊎◌, inl, inr, false, List, [], ◌∷◌, ◌++◌, Some, None, refl, sym, ap, ◌∙◌, subst, ⊎_elim, append_assoc, arith, Kind, IriRef, PnameNs, PnameLn, OpenBracket, OpenParen, Reason, Unexpected, TooDeep, Unbound, NoBase, IriTooLong, TooManyBindings, Token, Shaped, Viable, Leaf, leaf_of, InForce, DocForm, InTree, IsDeep, IsLong, IsOneMore, StandsFor, documents, opens, trees, Use, document_events, event_quads, itself, Reply, No, Go, Start, depth, in_default}
+use Rattle.rdf_read_back.proofs.Prelude.{◌≡◌, ◌⊎◌, inl, inr, false, List, [], ◌∷◌, ◌++◌, Some, None, refl, sym, ap, ◌∙◌, subst, ⊎_elim, append_assoc, arith, Kind, IriRef, PnameNs, PnameLn, OpenBracket, OpenParen, Reason, Unexpected, TooDeep, Unbound, NoBase, IriTooLong, TooManyBindings, Token, Viable, Leaf, leaf_of, InForce, DocForm, InTree, IsDeep, IsLong, IsOneMore, StandsFor, documents, opens, trees, Use, document_events, event_quads, itself, Reply, No, Go, Start, depth, in_default}
 use Rattle.rdf_trig.specs.Events.{tokens}
 use Rattle.rdf_trig.specs.Refusals.{Blamed}
 use Rattle.rdf_trig.specs.Machine.{step}
@@ -41,15 +41,15 @@ module _ (form : DocForm) (start : InForce) (ahead : List Token) (t : Token) whe
   stands_viable u x = let p = x.place in (
     tokens p.rest,
     event_quads 0 (document_events start p.tree),
-    record { tree = p.tree; tokens = append_assoc ahead (t ∷ []) (tokens p.rest) ∙ sym (told u p); bound = x.bound; quads = refl },
+    (p.tree, append_assoc ahead (t ∷ []) (tokens p.rest) ∙ sym (told u p), x.bound, refl),
   )
 
   -- and a tree
-  stands_shaped : (u : Use) → StandsFor form start ahead t u → Shaped (trees form start) (ahead ++ t ∷ [])
+  stands_shaped : (u : Use) → StandsFor form start ahead t u → Viable (trees form start) (ahead ++ t ∷ [])
   stands_shaped u x = let p = x.place in (
     tokens p.rest,
     event_quads 0 (document_events start p.tree),
-    record { tree = p.tree; tokens = append_assoc ahead (t ∷ []) (tokens p.rest) ∙ sym (told u p); quads = refl },
+    (p.tree, append_assoc ahead (t ∷ []) (tokens p.rest) ∙ sym (told u p), refl),
   )
 
   -- a bracket has no long IRI, and binds nothing

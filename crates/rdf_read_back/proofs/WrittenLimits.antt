@@ -97,7 +97,7 @@ module _ (r : Room) where
   -- the quads of a document
   document_fits : (form : DocForm) (start : InForce) (bytes : List ℕ) (qs : List Quad) → r.most ≡ start.limits.token → HasIris start →
       length bytes ≤ most_bytes →
-      (d : IsDocumentOf (language form start) bytes qs) → AllWithin r (document_events start d.2.tree) → AllFit r qs
+      (d : IsDocumentOf (language form start) bytes qs) → AllWithin r (document_events start d.2.0) → AllFit r qs
   document_fits form start bytes qs m h l d w =
       let limit = start.limits.token in
       let ts = (reading_of (language form start) bytes true).tokens in
@@ -105,8 +105,8 @@ module _ (r : Room) where
       let y = each (IsToken turtle) ts (have_shapes turtle limit bytes true) in
       let z = each (StandsIn bytes) ts (places turtle limit bytes true).0 in
       let g = all_good bytes l ts x y z in
-      let tree = d.2.tree in
-      subst (AllFit r) (ap unmarked d.2.quads ∙ d.3) (tree_fits r form start tree h (subst (AllByRecursion (GoodToken r)) d.2.tokens g) w)
+      let tree = d.2.0 in
+      subst (AllFit r) (ap unmarked d.2.3 ∙ d.3) (tree_fits r form start tree h (subst (AllByRecursion (GoodToken r)) d.2.1 g) w)
 
 -- The bytes of all IRIs that tokens stand for: none of them has more.
 abbrev all_bytes : List Event → ℕ
@@ -142,7 +142,7 @@ ample most iri = record {
 -- the law that each document's quads can be written
 pub document_writable : DocumentIsWritable
 document_writable form start bytes qs h l d =
-    let es = document_events start d.2.tree in
+    let es = document_events start d.2.0 in
     let r = ample start.limits.token (all_bytes es) in
     writable r qs (document_fits r form start bytes qs refl h l d (bytes_within r es (omega arith)))
 
@@ -189,9 +189,9 @@ fitting x form start bytes qs h l d w token_then iri_then a b c e f =
       higher = e;
       least_iri = f;
     } in
-    let tree = d.2.tree in
-    let kept = subst (PassesNone (Passes form start)) d.2.tokens w.front.kept in
-    let within = kept_within r form start refl tree d.2.bound kept [] (document_events start tree) refl in
+    let tree = d.2.0 in
+    let kept = subst (PassesNone (Passes form start)) d.2.1 w.front.kept in
+    let within = kept_within r form start refl tree d.2.2 kept [] (document_events start tree) refl in
     let fits = document_fits r form start bytes qs refl h l d within in
     record { writable = writable r qs fits; least = omega arith; shorts = shorts r qs fits; iris = iris r qs fits }
 

@@ -1,5 +1,5 @@
 -- What the machine gives out is well formed, and as it is written none of its tokens is much longer than one that was read.
-use Rattle.rdf_read_back.proofs.Prelude.{◌≡◌, ◌≢◌, ℕ, ◌+◌, ◌*◌, ◌^◌, ◌<◌, ◌≤◌, Bool, true, false, cond, List, [], ◌∷◌, ◌++◌, ◌==◌, nat_le, length, Option, Some, None, option_map, unwrap_or, refl, sym, ap, ◌∙◌, subst, ⊎_elim, arith, lit<, lit≤, length-append, length-drop, codes, flat_map, decimal, IfSome, AllByRecursion, Kind, LabelNode, ShortString, LongString, Integer, Decimal, Double, End, Node, Label, Anon, Cell, Lang, Typed, Blank, Term, Resource, Literal, Quad, all_have, has_scheme, IsIri, IsNode, IsTag, Token, IsToken, byte_len, equal, InForce, bound_to, Leaf, leaf_of, token, iri_of, Escapes, Plain, Ascii, Tagged, string_width, iri_width, uchar, written, escaped, rename_node, node_text, iri_text, string_text, reference_in, name_in, prefix_of, local_of, with_base, with_binding, stated, named, resource, labelled, short_value, long_value, tag_of, typed_literal, Use, itself, stands, binds, HasIris}
+use Rattle.rdf_read_back.proofs.Prelude.{◌≡◌, ◌≢◌, ℕ, ◌+◌, ◌*◌, ◌^◌, ◌<◌, ◌≤◌, Bool, true, false, cond, List, [], ◌∷◌, ◌++◌, ◌==◌, nat_le, length, Option, Some, None, option_map, unwrap_or, refl, sym, ap, ◌∙◌, subst, ⊎_elim, arith, lit<, lit≤, length-append, length-drop, codes, flat_map, decimal, IfSome, AllByRecursion, Kind, LabelNode, ShortString, LongString, Integer, Decimal, Double, End, Node, Anon, Cell, Lang, Typed, Blank, Term, Resource, Literal, Quad, all_have, has_scheme, IsIri, IsNode, IsTag, Token, IsToken, byte_len, equal, InForce, bound_to, Leaf, leaf_of, token, iri_of, Escapes, Plain, Ascii, Tagged, string_width, iri_width, uchar, written, escaped, rename_node, node_text, iri_text, string_text, reference_in, name_in, prefix_of, local_of, with_base, with_binding, stated, named, resource, labelled, value_in, tag_of, typed_literal, Use, itself, stands, binds, HasIris}
 use Rattle.std.proofs.Math.Utf8.{encode}
 use Rattle.std.proofs.lemmas.Fmt.{length-decimal-le}
 use Rattle.std.proofs.lemmas.Bool.{cond-true, cond-false, cond_both, eqb-true, false≢true}
@@ -313,19 +313,19 @@ module _ (r : Room) where
       let t = token_room r.form r.most r.most_then r.twice in
       (label_in turtle l.text (shaped LabelNode l (λ x. let z : LabelNode ≡ End = x in cc) g), omega (arith, s, t, r.least))
 
-  pub short_fits : (l : Leaf) → Good ShortString l → FitWord (short_value l)
+  pub short_fits : (l : Leaf) → Good ShortString l → FitWord (value_in 1 l)
   short_fits l g =
       let m = shaped ShortString l (λ x. let z : ShortString ≡ End = x in cc) g in
-      let w = written_string r.form (short_value l) in
-      let z = string_room r.form (length (short_value l)) (length l.text) r.most r.most_then (string_short 1 l.text) g.0 r.twice r.least in
+      let w = written_string r.form (value_in 1 l) in
+      let z = string_room r.form (length (value_in 1 l)) (length l.text) r.most r.most_then (string_short 1 l.text) g.0 r.twice r.least in
       (string_scalars (shape turtle ShortString) 1 l.text m, omega (arith, w, z))
 
-  pub long_fits : (l : Leaf) → Good LongString l → FitWord (long_value l)
+  pub long_fits : (l : Leaf) → Good LongString l → FitWord (value_in 3 l)
   long_fits l g =
       let m = shaped LongString l (λ x. let z : LongString ≡ End = x in cc) g in
       let s = string_short 3 l.text in
-      let w = written_string r.form (long_value l) in
-      let z = string_room r.form (length (long_value l)) (length l.text) r.most r.most_then (omega arith) g.0 r.twice r.least in
+      let w = written_string r.form (value_in 3 l) in
+      let z = string_room r.form (length (value_in 3 l)) (length l.text) r.most r.most_then (omega arith) g.0 r.twice r.least in
       (string_scalars (shape turtle LongString) 3 l.text m, omega (arith, w, z))
 
   -- a number is written with its quotes alone

@@ -1,11 +1,10 @@
 -- The brackets that are open after tokens that come one by one, in pieces.
-use Rattle.rdf_stream.proofs.Prelude.{◌≡◌, ◌∙◌, ℕ, Bool, false, List, [], ◌∷◌, ◌++◌, take, drop, refl, sym, ap, subst, append_assoc, Option, Some, None, IfSome, take-append-drop, Dialect, Token, tokens_of, GivesToken, Waits, ComesTo, IsNoted}
-use Rattle.rdf_tokens.specs.Tokens.{Reading}
+use Rattle.rdf_stream.proofs.Prelude.{◌≡◌, ◌∙◌, ℕ, Bool, false, List, [], ◌∷◌, ◌++◌, take, drop, refl, sym, ap, subst, append_assoc, take-append-drop, Dialect, Token, tokens_of, GivesToken, ComesTo, IsNoted}
 use Rattle.rdf_tokens.specs.Unread.{Unread}
 use Rattle.rdf_tokens.specs.Scans.{TakesBytes}
 use Rattle.rdf_tokens.proofs.LawLemmas.{given_beginning, lengthens}
 use Rattle.rdf_stream.specs.declared.brackets.TokenPlace.{TokenPlace}
-use Rattle.rdf_stream.specs.Brackets.{IsOpenBefore, innermost, open_from, open_with, placed}
+use Rattle.rdf_stream.specs.Brackets.{open_from, open_with, placed}
 
 -- a token more
 from_more : (kept : List TokenPlace) (ts : List Token) (t : Token) → open_from kept (ts ++ t ∷ []) ≡ open_with (open_from kept ts) (placed t)

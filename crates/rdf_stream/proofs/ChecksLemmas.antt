@@ -1,5 +1,5 @@
 -- A whole check, from what its run has done.
-use Rattle.rdf_stream.proofs.Prelude.{◌≡◌, ◌≤◌, ℕ, ◌+◌, Bool, true, false, List, [], ◌++◌, length, take, Option, IfSome, refl, sym, ap, subst, ⊎_elim, ◌∙◌, arith, length-append, false≢true, Consumes-whole, Reason, Quad, Place, most_bytes, place_of, GoesOn, Language, EndsAtBlame, refused_in_more, Summary, Driven, FeedFails, Feeds, FinishFails, Finishes, HasRead, in_words, StreamFault, CheckStops, IsRefusedFor, IsAccepted, BeginsToRead, CheckEnds, CheckHalts, ChecksNoMore, HasChecked, IsChecking, HasGiven, Stands, IsOfDocument, IsRefusal, fault_by, ReadStops, ReadsAll, SourceFails}
+use Rattle.rdf_stream.proofs.Prelude.{◌≡◌, ◌≤◌, ℕ, ◌+◌, Bool, true, false, List, [], ◌++◌, length, take, Option, IfSome, refl, sym, ap, subst, ⊎_elim, ◌∙◌, arith, length-append, false≢true, Consumes-whole, Reason, Quad, Place, most_bytes, place_of, GoesOn, Language, EndsAtBlame, refused_in_more, Summary, Driven, FeedFails, FinishFails, Finishes, HasRead, in_words, StreamFault, CheckStops, IsRefusedFor, IsAccepted, BeginsToRead, CheckEnds, CheckHalts, ChecksNoMore, HasChecked, IsChecking, HasGiven, Stands, IsOfDocument, IsRefusal, fault_by, ReadStops, ReadsAll, SourceFails}
 use Rattle.rdf_terms.specs.declared.reason.Reason.TheVariants as reason
 use Rattle.rdf_driver.specs.Words.{Words}
 use Rattle.rdf_driver.proofs.PromiseLemmas.{read_goes_on}

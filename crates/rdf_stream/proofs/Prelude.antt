@@ -46,7 +46,7 @@ pub use Rattle.rdf_terms.specs.declared.reason.Reason.{Reason}
 pub use Rattle.rdf_tokens.proofs.LanguageLemmas.{EndsAtBlame, refused_in_more, due_more, document_whole}
 pub use Rattle.rdf_tokens.specs.Good.{tokens_of, end_of, good, has_byte_order_mark, first_place}
 pub use Rattle.rdf_tokens.specs.Grammars.{GoesOn, Language, BeginsDue, Due, LanguageOf, PassesNone, RefusedIn, reading_of, items_below, IsTooLong, counted, MarkedItem, unmarked}
-pub use Rattle.rdf_tokens.specs.Scans.{GivesToken, Waits, most_bytes, place_of, is_end, IsWaiting, left, token_of}
+pub use Rattle.rdf_tokens.specs.Scans.{GivesToken, most_bytes, place_of, is_end, IsWaiting, left, token_of}
 pub use Rattle.rdf_tokens.specs.Tokens.{Token, Place, is_line_end}
 pub use Rattle.rdf_tokens.specs.declared.token.Fault.{Fault}
 pub use Rattle.rdf_trig.specs.Accepting.{tree_words}

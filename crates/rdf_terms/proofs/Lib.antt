@@ -8,7 +8,7 @@ pub mod CharsLemmas
 pub mod TermsLemmas
 pub mod UsedCharacters
 pub mod EscapesLemmas
-pub mod FourDigits
+pub mod CodeTables
 pub mod ValuesLemmas
 pub mod InsideLemmas
 pub mod KnownLemmas

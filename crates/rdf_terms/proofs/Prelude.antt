@@ -20,7 +20,7 @@ pub use Rattle.rdf_terms.specs.declared.kind.Kind.{Kind}
 pub use Rattle.rdf_terms.specs.declared.kind.Kind.TheVariants.{IriRef, LabelNode, ShortString, LongString, LangTag, Carets, Dot, LineEnd, Integer, Decimal, Double, True, False, A, AtPrefix, AtBase, Prefix, Base, Graph, PnameNs, PnameLn, Semicolon, Comma, OpenBracket, CloseBracket, OpenParen, CloseParen, OpenBrace, CloseBrace, End}
 pub use Rattle.std.proofs.Common.{◌≡◌, ◌≤◌, ◌*◌, ℕ, List, [], ◌∷◌, ◌++◌, length, take, encode_utf8, refl, sym, ap, ◌∙◌, subst, arith, length-append, Bool, true, false, ◌&&◌, ◌||◌, ◌==◌, ◌+◌, ◌-◌, ⊎_elim, zero, suc, ◌<◌, Option, Some, None, is_some, option_map, append_assoc, length-drop, get_or, drop, cond, length-take-le, take-take, ◌≢◌, ◌⊎◌, inl, inr, unwrap_or, ◌/◌, ◌%◌, ◌^◌, map, replicate, bit_and, Fits, w8, ◌↔◌, take-add, take_at, drop_at, take_all, take-append-drop, ap₂, String, Result, Ok, Err, OnOk, rules, tests, leb}
 pub use Rattle.std.proofs.Math.Seq.{take-append_seam, take-suc}
-pub use Rattle.std.proofs.lemmas.Bool.{and_parts, or_cases, or_left, or_right, false≢true, not-true, eqb-true, leb-true, agree_below, agree_below_at, and_from, cases_Bool, cases_lt, cond-true, cond-false, ne_eqb, not-false, not_from_false, or_parts, eq-eqb, ltb-true, le-leb, cond_both, ltb-false, eqb-false}
+pub use Rattle.std.proofs.lemmas.Bool.{and_parts, or_cases, or_left, or_right, false≢true, not-true, eqb-true, leb-true, agree_below, agree_below_at, and_from, cases_Bool, cases_lt, cond-true, cond-false, ne_eqb, not-false, not_from_false, or_parts, eq-eqb, ltb-true, cond_both, ltb-false, eqb-false}
 pub use Rattle.std.proofs.lemmas.Bool.Decides.{nat_tests}
 pub use Rattle.std.proofs.lemmas.List.{append-nil, drop_more, drop_all, get_or-drop, drop-take, drop-drop, length-map, get_or-map, ext_get_or, append_cancel_right, length-take, take_rest, map-id}
 pub use Rattle.std.proofs.lemmas.Simd.{zip2_splat, swz_l, SwzOk, SwzOk-from_below, length-swz_l, get_or-swz_l_below, Each1-get_or, map-map, mask_l-mod, zip2_of_maps, run_in_chunk_le, run_in_chunk_fails, run_in_chunk_stops, length-chunk, leading_from_mask_l, trailing_mask_l, take_more_put_chunk, length-put_chunk, zip2_splat_left, chunk-fits, splat_is_map}

@@ -1,5 +1,5 @@
 -- UCHARs in bytes: their digits, the number that these write, and what they mean in a string or an IRI.
-use Rattle.rdf_terms.proofs.Prelude.{◌≡◌, ℕ, zero, suc, ◌+◌, ◌-◌, ◌*◌, ◌^◌, ◌<◌, ◌≤◌, ◌⊎◌, inl, inr, Bool, true, false, ◌==◌, nat_le, List, Option, Some, None, option_map, cond, refl, sym, ap, ◌∙◌, subst, get_or, take, drop, length, length-drop, arith, ⊎_elim, slice_range, IfSome, SomeIff, IsUtf8, and_parts, and_from, cases_Bool, cases_lt, cond-true, cond-false, eqb-true, eq-eqb, leb-true, le-leb, false≢true, nat_tests, drop_more, length-take-le, has, hex_digit, hex_number, PassBetween, allowed_in, begins, may_mean, value_after, IsHexes, IsRead, IsUchar, IsUcharOf, Reads, UcharAt, Inside, of_string, of_iri, outside, slash, Move, leads, means, fails, allowed, digit_move, echar_move, hex_value, move}
+use Rattle.rdf_terms.proofs.Prelude.{◌≡◌, ℕ, zero, suc, ◌+◌, ◌-◌, ◌*◌, ◌^◌, ◌<◌, ◌≤◌, ◌⊎◌, inl, inr, Bool, true, false, ◌==◌, nat_le, List, Option, Some, None, option_map, cond, refl, sym, ap, ◌∙◌, subst, get_or, take, drop, length, length-drop, arith, ⊎_elim, slice_range, IfSome, SomeIff, IsUtf8, and_parts, cases_Bool, cases_lt, cond-true, cond-false, eqb-true, leb-true, false≢true, nat_tests, drop_more, length-take-le, has, hex_digit, hex_number, PassBetween, allowed_in, begins, may_mean, value_after, IsHexes, IsRead, IsUchar, IsUcharOf, Reads, UcharAt, Inside, of_string, of_iri, outside, slash, Move, leads, means, fails, allowed, digit_move, echar_move, hex_value, move}
 use Rattle.std.specs.Char.{IsScalar}
 use Rattle.rdf_terms.specs.Classes.{scalar}
 use Rattle.rdf_terms.proofs.EscapesLemmas.{no_digit, reads_letter, std_scalar, step_byte, step_digit, utf8_byte, utf8_digit}

@@ -1,5 +1,5 @@
 -- White space and comments, a run at a time.
-use Rattle.rdf_tokens.proofs.Prelude.{◌≡◌, ℕ, zero, suc, ◌+◌, ◌-◌, ◌<◌, ◌≤◌, Bool, true, false, cond, List, [], ◌∷◌, ◌&&◌, ◌==◌, not, refl, sym, ap, ◌∙◌, subst, length, get_or, nat_lt, take, drop, count_by, is_some, arith, lt-ltb, ⊎_elim, Option, Some, None, and_parts, cases_lt, eqb-true, false≢true, ltb-true, nat_tests, drop_more, drop_all, Dialect, Lines, Turtle, IsRun, PassBetween, is_comment_byte, is_line_end, is_space, blank, IsIndentation, comment_after, comment_step, is_bare, is_cut, is_hash, stands_at}
+use Rattle.rdf_tokens.proofs.Prelude.{◌≡◌, ℕ, zero, suc, ◌+◌, ◌-◌, ◌<◌, ◌≤◌, Bool, true, false, cond, List, [], ◌∷◌, ◌&&◌, ◌==◌, not, refl, sym, ap, ◌∙◌, subst, length, get_or, nat_lt, take, drop, count_by, is_some, arith, lt-ltb, ⊎_elim, Option, Some, None, and_parts, cases_lt, eqb-true, false≢true, ltb-true, nat_tests, drop_more, drop_all, Dialect, Lines, Turtle, IsRun, PassBetween, is_comment_byte, is_line_end, is_space, blank, comment_after, comment_step, is_bare, is_cut, is_hash, stands_at}
 use Rattle.memchr.specs.Find.{IsFirstByte, is_byte2}
 use Rattle.rdf_terms.specs.Runs.{is_space as is_space_byte}
 use Rattle.rdf_tokens.specs.Blank.{goes_on}

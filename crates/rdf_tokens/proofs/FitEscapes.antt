@@ -1,5 +1,5 @@
 -- Plain bytes and whole escapes of a string or an IRI have a meaning, whatever text comes after them.
-use Rattle.rdf_tokens.proofs.Prelude.{◌≡◌, ◌⊎◌, ℕ, ◌+◌, ◌-◌, ◌<◌, ◌≤◌, ◌==◌, Bool, true, false, not, List, [], ◌∷◌, ◌++◌, Option, Some, None, inl, inr, is_some, get_or, take, drop, refl, sym, ap, ◌∙◌, subst, arith, ⊎_elim, append_assoc, length, length-drop, slice_range, agree_below_at, cases_Bool, cases_lt, eqb-true, false≢true, nat_tests, append-nil, get_or-drop, get_or-take, length-take-le, take-append-add, has, hex_digit, iri_char, Run, IsRun, PassBetween, goes_over, iri_byte, is_unescaped, of_string, of_iri, outside, slash, Move, means, letter_move, go, value, string_value, high_byte_stands, Quote, Single, long_run, short_run, IsEchar, IsEscapeThen, IsIriUchar, FitsIn, FitsInString, FitsInIri}
+use Rattle.rdf_tokens.proofs.Prelude.{◌≡◌, ◌⊎◌, ℕ, ◌+◌, ◌-◌, ◌<◌, ◌≤◌, ◌==◌, Bool, true, false, not, List, [], ◌∷◌, ◌++◌, Option, Some, None, inl, inr, is_some, get_or, take, drop, refl, sym, ap, ◌∙◌, subst, arith, ⊎_elim, append_assoc, length, length-drop, slice_range, agree_below_at, cases_Bool, cases_lt, eqb-true, false≢true, nat_tests, append-nil, get_or-drop, get_or-take, length-take-le, take-append-add, has, hex_digit, escape_letter, iri_char, Run, IsRun, PassBetween, goes_over, iri_byte, is_unescaped, of_string, of_iri, outside, slash, Move, means, letter_move, go, value, string_value, high_byte_stands, Quote, Single, long_run, short_run, IsEchar, IsEscapeThen, IsIriUchar, FitsIn, FitsInString, FitsInIri}
 use Rattle.std.proofs.lemmas.List.Folds.{drop_split}
 use Rattle.rdf_terms.specs.Escapes.{completes, stands, IsUchar, IsUcharOf}
 use Rattle.rdf_terms.specs.Pieces.{IsNumberEscape, MayMean, hex_number}
@@ -8,7 +8,6 @@ use Rattle.rdf_terms.specs.Values.{Inside, move}
 use Rattle.rdf_terms.proofs.EscapesLemmas.{is_some-map, slice_passes, value_stands}
 use Rattle.rdf_terms.proofs.PiecesLemmas.{number_escape-takes}
 use Rattle.rdf_tokens.specs.declared.states.text.Quote.TheVariants.{Double}
-use Rattle.rdf_tokens.specs.Escapes.{is_letter}
 use Rattle.rdf_tokens.proofs.RestEscapes.{letter_below, implied}
 
 -- the bytes between two places, cut at one between them
@@ -100,8 +99,9 @@ is_means (means c) = true
 is_means m = false
 
 -- a letter of ECHAR means a character, and no other byte does, by a test of each byte
-pub letter_tells : (b : ℕ) (o : Option ℕ) → b < 256 → completes o ≡ letter_move b → is_some o ≡ is_letter b
-letter_tells b o l e = some o ∙ (ap is_means e ∙ agree_below_at (λ b. is_means (letter_move b)) is_letter 256 b refl l)
+pub letter_tells : (b : ℕ) (o : Option ℕ) → b < 256 → completes o ≡ letter_move b → is_some o ≡ has escape_letter b
+unfolding has
+letter_tells b o l e = some o ∙ (ap is_means e ∙ agree_below_at (λ b. is_means (letter_move b)) (has escape_letter) 256 b refl l)
   where
     some : (o : Option ℕ) → is_some o ≡ is_means (completes o)
     some None = refl
@@ -113,11 +113,12 @@ meant (means c) e = (c, refl)
 meant m e = absurd (false≢true e)
 
 -- a letter of ECHAR means one after its backslash
-letter_meant : (l : ℕ) → is_letter l ≡ true → (c : ℕ) × (move of_string slash l ≡ means c)
-letter_meant l h = meant (move of_string slash l) (implied is_letter (λ c. is_means (move of_string slash c)) refl l (letter_below l h) h)
+letter_meant : (l : ℕ) → has escape_letter l ≡ true → (c : ℕ) × (move of_string slash l ≡ means c)
+unfolding has
+letter_meant l h = meant (move of_string slash l) (implied (has escape_letter) (λ c. is_means (move of_string slash c)) refl l (letter_below l h) h)
 
 -- so a backslash and the letter do, whatever comes after them
-letter_value : (l : ℕ) (w : List ℕ) → is_letter l ≡ true → is_some (string_value (92 ∷ l ∷ w)) ≡ is_some (string_value w)
+letter_value : (l : ℕ) (w : List ℕ) → has escape_letter l ≡ true → is_some (string_value (92 ∷ l ∷ w)) ≡ is_some (string_value w)
 letter_value l w h =
     let m = letter_meant l h in
     ap (λ m. is_some (go m (λ t. value of_string t w))) m.1 ∙ is_some-map (λ v. m.0 ∷ v) (string_value w)

@@ -1,5 +1,5 @@
 -- The parts of a local part lead to the state within it.
-use Rattle.rdf_tokens.proofs.Prelude.{◌≡◌, ◌+◌, ◌/◌, ◌%◌, ◌<◌, ◌≤◌, ◌⊎◌, ℕ, zero, Bool, true, false, cond, nat_lt, List, [], ◌∷◌, ◌++◌, length, drop, get_or, ◌==◌, not, ◌||◌, ◌&&◌, refl, sym, ap, subst, ◌∙◌, inl, inr, ⊎_elim, arith, Option, None, encode_utf8, IsUtf8, agree_below, agree_below_at, and_from, and_parts, cases_lt, cond-false, cond-true, eqb-true, false≢true, le-ltb, ltb-true, not_from_false, nat_tests, get_or-drop, get_or_append_left, encode_ascii, length-encode, len_utf8, has, is_base, local_escape, IsRun, is_name_byte, Dialect, Lines, Turtle, Kind, PnameLn, State, Letter, Mark, Other, is_hex, Reached, kind_here, BeginsLocal, LeadsIn, RestsInLocal, begins_three, begins_two, is_escape, is_hex_at, is_percent, letter_len, IsPrefix, ends_name, is_colon, is_last, is_name_end, stands_at, is_mark, wide_of, with_length}
+use Rattle.rdf_tokens.proofs.Prelude.{◌≡◌, ◌+◌, ◌/◌, ◌%◌, ◌<◌, ◌≤◌, ◌⊎◌, ℕ, zero, Bool, true, false, cond, nat_lt, List, [], ◌∷◌, ◌++◌, length, drop, get_or, ◌==◌, not, ◌||◌, ◌&&◌, refl, sym, ap, subst, ◌∙◌, inl, inr, ⊎_elim, arith, Option, None, encode_utf8, IsUtf8, agree_below, agree_below_at, and_from, and_parts, cases_lt, cond-false, cond-true, eqb-true, false≢true, le-ltb, ltb-true, not_from_false, nat_tests, get_or-drop, get_or_append_left, encode_ascii, length-encode, len_utf8, has, is_base, local_escape, IsRun, is_name_byte, Dialect, Lines, Turtle, Kind, PnameLn, State, Letter, Mark, Other, Reached, kind_here, BeginsLocal, LeadsIn, RestsInLocal, begins_three, begins_two, is_escape, is_hex_at, is_percent, letter_len, IsPrefix, ends_name, is_colon, is_last, is_name_end, stands_at, is_mark, wide_of, with_length, hex_digit}
 use Rattle.rdf_tokens.specs.declared.states.machine.State.TheVariants.{Name}
 use Rattle.rdf_tokens.specs.declared.states.name.Name.TheVariants as name
 use Rattle.rdf_tokens.specs.declared.states.name.Sort.TheVariants as sort
@@ -10,7 +10,7 @@ use Rattle.rdf_tokens.proofs.ByteLemmas.{ascii_first}
 use Rattle.rdf_tokens.proofs.GoodLemmas.{encode_four, encode_three, encode_two}
 use Rattle.rdf_tokens.proofs.NoNamesLemmas.{implied}
 use Rattle.rdf_tokens.proofs.QuickLemmas.{at_local, local-state, low-name, no_hyphen, other, quick_far}
-use Rattle.rdf_tokens.proofs.RestEscapes.{byte_on}
+use Rattle.rdf_tokens.proofs.RestEscapes.{byte_on, hex_below}
 use Rattle.rdf_tokens.proofs.RestLemmas.{first_char, with_length-again}
 use Rattle.rdf_tokens.proofs.RestStates.{rests_local}
 use Rattle.rdf_tokens.proofs.StateLemmas.{reached-step}
@@ -153,17 +153,18 @@ second-state s e = absurd (false≢true e)
 
 -- each byte of ASCII: a hex digit leads on
 abbrev hex_tests : Dialect → ℕ → Bool
-hex_tests d c = not (is_hex c) || (at_second (step d (Name (name.Hex 1)) c) && at_local (step d (Name (name.Hex 0)) c))
+hex_tests d c = not (has hex_digit c) || (at_second (step d (Name (name.Hex 1)) c) && at_local (step d (Name (name.Hex 0)) c))
 
 hex_all : (d : Dialect) → agree_below (hex_tests d) (λ c. true) 128 ≡ true
+unfolding has
 hex_all Lines = refl
 hex_all Turtle = refl
 
-hex_steps : (d : Dialect) (c : ℕ) → is_hex c ≡ true → (c < 128) × (step d (Name (name.Hex 1)) c ≡ Name (name.Hex 0))
+hex_steps : (d : Dialect) (c : ℕ) → has hex_digit c ≡ true → (c < 128) × (step d (Name (name.Hex 1)) c ≡ Name (name.Hex 0))
     × (step d (Name (name.Hex 0)) c ≡ Name name.Local)
 hex_steps d c e =
-    let low : c < 128 = grind (arith, nat_tests) in
-    let p = and_parts _ _ (implied (is_hex c) _ (agree_below_at (hex_tests d) (λ c. true) 128 c (hex_all d) low) e) in
+    let low = hex_below c e in
+    let p = and_parts _ _ (implied (has hex_digit c) _ (agree_below_at (hex_tests d) (λ c. true) 128 c (hex_all d) low) e) in
     (low, second-state _ p.0, local-state _ p.1)
 
 -- a PERCENT
@@ -175,8 +176,8 @@ percent_in bs at z = (from name.Colon (λ d. refl), from name.Local (λ d. refl)
         let p = and_parts (stands_at 37 bs at) _ z in
         let t = there 37 bs at p.0 in
         let q = and_parts (is_hex_at bs (at + 1)) (is_hex_at bs (at + 2)) p.1 in
-        let one = and_parts (nat_lt (at + 1) (length bs)) (is_hex (get_or bs (at + 1) 0)) q.0 in
-        let two = and_parts (nat_lt (at + 2) (length bs)) (is_hex (get_or bs (at + 2) 0)) q.1 in
+        let one = and_parts (nat_lt (at + 1) (length bs)) (has hex_digit (get_or bs (at + 1) 0)) q.0 in
+        let two = and_parts (nat_lt (at + 2) (length bs)) (has hex_digit (get_or bs (at + 2) 0)) q.1 in
         let i = ltb-true (at + 1) (length bs) one.0 in
         let j = ltb-true (at + 2) (length bs) two.0 in
         let next : at + 1 + 1 ≡ at + 2 = omega arith in

@@ -18,9 +18,9 @@ pub use Rattle.rdf_terms.specs.declared.kind.Kind.TheVariants.{IriRef, LabelNode
 pub use Rattle.rdf_terms.specs.declared.reason.Reason.{Reason}
 pub use Rattle.rdf_terms.specs.declared.reason.Reason.TheVariants.{BadUtf8, NoToken, BadEscape, TokenTooLong, DocumentTooLong, Memory, Ended, Sink}
 pub use Rattle.rdf_terms.specs.declared.runs.Run.{Run}
-pub use Rattle.rdf_tokens.specs.Blank.{comment_step, comment_after, IsIndentation, is_bare, is_cut, is_hash}
+pub use Rattle.rdf_tokens.specs.Blank.{comment_step, comment_after, is_bare, is_cut, is_hash}
 pub use Rattle.rdf_tokens.specs.Count.{is_start}
-pub use Rattle.rdf_tokens.specs.Escapes.{IsEchar, IsEscapeThen, IsIriUchar, FitsIn, FitsInString, FitsInIri, is_hex, RestsInIri}
+pub use Rattle.rdf_tokens.specs.Escapes.{IsEchar, IsEscapeThen, IsIriUchar, FitsIn, FitsInString, FitsInIri, RestsInIri}
 pub use Rattle.rdf_tokens.specs.Fixed.{Row, spellings, rows_of, fits, is_done, is_begun, kind_by, live_by}
 unfoldable pub use Rattle.rdf_tokens.specs.Fixed.{kind_by_table, live_by_table}
 pub use Rattle.rdf_tokens.specs.Front.{bytes_of, IsAt, in_bytes, longest_by, longer_front, Reached, kind_here, state_of, kind_by_states, open_state, begins, front_by, row_front, Rests, Stays, at_first}

@@ -1,5 +1,5 @@
 -- A whole escape leads from the state within a string or an IRI back to it.
-use Rattle.rdf_tokens.proofs.Prelude.{◌≡◌, ℕ, zero, suc, ◌+◌, ◌<◌, ◌≤◌, Bool, true, false, not, ◌||◌, ◌⊎◌, List, ◌++◌, get_or, nat_le, ◌&&◌, ◌==◌, refl, sym, ap, ◌∙◌, subst, arith, ⊎_elim, length, drop, Option, None, chars, agree_below, agree_below_at, and_parts, cases_lt, eqb-true, leb-true, false≢true, nat_tests, drop_more, encode_ascii, len_utf8_ascii, Dialect, Kind, Run, has, hex_digit, PassBetween, State, Quote, Single, Reached, Rests, kind_here, long_run, short_run, sort_by, with_length, only_long, three_quotes, is_hex, IsEchar, IsEscapeThen, RestsInIri}
+use Rattle.rdf_tokens.proofs.Prelude.{◌≡◌, ℕ, zero, suc, ◌+◌, ◌<◌, ◌≤◌, Bool, true, false, not, ◌||◌, ◌⊎◌, List, ◌++◌, get_or, nat_le, ◌&&◌, ◌==◌, refl, sym, ap, ◌∙◌, subst, arith, ⊎_elim, length, drop, Option, None, chars, agree_below, agree_below_at, and_parts, eqb-true, leb-true, false≢true, nat_tests, drop_more, encode_ascii, len_utf8_ascii, Dialect, Kind, Run, has, hex_digit, escape_letter, PassBetween, State, Quote, Single, Reached, Rests, kind_here, long_run, short_run, sort_by, with_length, only_long, three_quotes, IsEchar, IsEscapeThen, RestsInIri}
 use Rattle.rdf_terms.specs.Escapes.{IsUchar, IsUcharOf}
 use Rattle.rdf_tokens.specs.declared.states.machine.State.TheVariants as state
 use Rattle.rdf_tokens.specs.declared.states.iri.Iri.TheVariants as iri_state
@@ -13,7 +13,6 @@ use Rattle.rdf_tokens.specs.declared.states.text.Sort.TheVariants as text_sort
 use Rattle.rdf_tokens.specs.Machine.{step, kind_at}
 use Rattle.rdf_tokens.specs.Iri as iri
 use Rattle.rdf_tokens.specs.Text as text
-use Rattle.rdf_tokens.specs.Escapes.{is_letter}
 use Rattle.rdf_tokens.proofs.NoNamesLemmas.{no_long}
 use Rattle.rdf_tokens.proofs.RestLemmas.{rests-more}
 use Rattle.rdf_tokens.proofs.RestStates.{rests_short, rests_long}
@@ -38,28 +37,25 @@ record Numbers (s e : State) (h : ℕ → State) : Type 0 where
   slash : (d : Dialect) → step d s 92 ≡ e
   small : (d : Dialect) → step d e 117 ≡ h 3
   big : (d : Dialect) → step d e 85 ≡ h 7
-  more : (d : Dialect) (n c : ℕ) → is_hex c ≡ true → step d (h (suc n)) c ≡ h n
-  last : (d : Dialect) (c : ℕ) → is_hex c ≡ true → step d (h 0) c ≡ s
+  more : (d : Dialect) (n c : ℕ) → has hex_digit c ≡ true → step d (h (suc n)) c ≡ h n
+  last : (d : Dialect) (c : ℕ) → has hex_digit c ≡ true → step d (h 0) c ≡ s
   none : kind_at s ≡ None
   none_after : kind_at e ≡ None
   none_yet : (n : ℕ) → kind_at (h n) ≡ None
 
--- what is escaped is ASCII
-pub hex_below : (c : ℕ) → is_hex c ≡ true → c < 128
-hex_below c h = ⊎_elim (λ (l : c < 128). l) (λ l. absurd (let n : is_hex c ≡ false = grind (arith, nat_tests) in false≢true (sym n ∙ h))) (cases_lt c 128)
-
--- a hex digit of the grammar is one
-hex_of : (c : ℕ) → has hex_digit c ≡ true → is_hex c ≡ true
+-- a hex digit is ASCII
+pub hex_below : (c : ℕ) → has hex_digit c ≡ true → c < 128
 unfolding has
-hex_of c h = grind (arith, nat_tests)
+hex_below c h = grind (arith, nat_tests)
 
 -- what follows a backslash is ASCII too
-pub letter_below : (c : ℕ) → is_letter c ≡ true → c < 128
-letter_below c h = ⊎_elim (λ (l : c < 128). l) (λ l. absurd (let n : is_letter c ≡ false = grind (arith, nat_tests) in false≢true (sym n ∙ h))) (cases_lt c 128)
+pub letter_below : (c : ℕ) → has escape_letter c ≡ true → c < 128
+unfolding has
+letter_below c h = grind (arith, nat_tests)
 
 -- over hex digits, to the last one
 hexes_on : (s e : State) (h : ℕ → State) → Numbers s e h → (d : Dialect) (bs : List ℕ) (b : Option (ℕ × Kind)) (n at : ℕ) → at + suc n ≤ length bs →
-    PassBetween is_hex bs at (at + suc n) → Reached d bs at (h n) b → Reached d bs (at + suc n) s b
+    PassBetween (has hex_digit) bs at (at + suc n) → Reached d bs at (h n) b → Reached d bs (at + suc n) s b
 hexes_on s e h f d bs b zero at l p r =
     let x = p at (omega arith) (omega arith) in
     byte_on d bs at (h 0) s b (omega arith) (hex_below (get_or bs at 0) x) (f.last d (get_or bs at 0) x) f.none r
@@ -82,7 +78,7 @@ module _ (s e : State) (h : ℕ → State) (f : Numbers s e h) (o : State) (bs :
       let begun = byte_on d bs (at + 1) e (h n) b (omega arith) (omega (arith, y)) (ap (step d e) y ∙ t) (f.none_yet n) after in
       let two : at + 1 + 1 ≡ at + 2 = omega arith in
       subst (λ k. Reached d bs k s b) (sym z)
-      (hexes_on s e h f d bs b n (at + 2) (omega arith) (λ k x y. hex_of (get_or bs k 0) (u.digits.hexes k x (omega arith)))
+      (hexes_on s e h f d bs b n (at + 2) (omega arith) (λ k x y. u.digits.hexes k x (omega arith))
       (subst (λ k. Reached d bs k (h n) b) two begun))
 
   uchar_on : IsUchar bs at end → Reached d bs at o b → Reached d bs end s b
@@ -113,7 +109,7 @@ rests_uchar s e h f bs at end u =
     rests_by s bs at end f.none (let x = l.0 in omega arith) l.1 (λ d b r. uchar_on s e h f s bs at end d b (f.slash d) u r)
 
 -- over an ECHAR, from such a state
-echar_on : (s e : State) (h : ℕ → State) → Numbers s e h → ((d : Dialect) (c : ℕ) → is_letter c ≡ true → step d e c ≡ s) →
+echar_on : (s e : State) (h : ℕ → State) → Numbers s e h → ((d : Dialect) (c : ℕ) → has escape_letter c ≡ true → step d e c ≡ s) →
     (o : State) (bs : List ℕ) (at end : ℕ) (d : Dialect)
     (b : Option (ℕ × Kind)) → step d o 92 ≡ e → IsEchar bs at end → Reached d bs at o b → Reached d bs end s b
 echar_on s e h f letter o bs at end d b slash u r =
@@ -127,7 +123,7 @@ echar_on s e h f letter o bs at end d b slash u r =
     subst (λ k. Reached d bs k s b) two done
 
 -- so an ECHAR leads back
-rests_echar : (s e : State) (h : ℕ → State) → Numbers s e h → ((d : Dialect) (c : ℕ) → is_letter c ≡ true → step d e c ≡ s) →
+rests_echar : (s e : State) (h : ℕ → State) → Numbers s e h → ((d : Dialect) (c : ℕ) → has escape_letter c ≡ true → step d e c ≡ s) →
     (bs : List ℕ) (at end : ℕ) → IsEchar bs at end → Rests s bs at end
 rests_echar s e h f letter bs at end u =
     rests_by s bs at end f.none (omega (arith, u.ends)) u.within (λ d b r. echar_on s e h f letter s bs at end d b (f.slash d) u r)
@@ -151,12 +147,14 @@ pub implied : (p q : ℕ → Bool) → agree_below (λ c. not (p c) || q c) (λ 
 implied p q all c l h = sym (ap (λ t. not t || q c) h) ∙ agree_below_at (λ c. not (p c) || q c) (λ _. true) 128 c all l
 
 -- a hex digit is of such a sort, by a test of each byte
-text_hex : (c : ℕ) → is_hex c ≡ true → is_hex_sort (sort_by text.ascii text.high c) ≡ true
-text_hex c h = implied is_hex (λ c. is_hex_sort (sort_by text.ascii text.high c)) refl c (hex_below c h) h
+text_hex : (c : ℕ) → has hex_digit c ≡ true → is_hex_sort (sort_by text.ascii text.high c) ≡ true
+unfolding has
+text_hex c h = implied (has hex_digit) (λ c. is_hex_sort (sort_by text.ascii text.high c)) refl c (hex_below c h) h
 
 -- and so is a letter of ECHAR
-text_letter : (c : ℕ) → is_letter c ≡ true → is_letter_sort (sort_by text.ascii text.high c) ≡ true
-text_letter c h = implied is_letter (λ c. is_letter_sort (sort_by text.ascii text.high c)) refl c (letter_below c h) h
+text_letter : (c : ℕ) → has escape_letter c ≡ true → is_letter_sort (sort_by text.ascii text.high c) ≡ true
+unfolding has
+text_letter c h = implied (has escape_letter) (λ c. is_letter_sort (sort_by text.ascii text.high c)) refl c (letter_below c h) h
 
 -- such a sort leads on where a hex digit is to come
 if_hex-hex : (s : Text) (x : TextSort) → is_hex_sort x ≡ true → text.if_hex s x ≡ s
@@ -208,7 +206,7 @@ long_numbers q = record {
     slash Single d = refl
 
 -- a letter of ECHAR leads back into a string with one quote at each end
-short_letter : (q : Quote) (d : Dialect) (c : ℕ) → is_letter c ≡ true → step d (state.Text (text_state.ShortEscape q)) c ≡ state.Text (text_state.Short q)
+short_letter : (q : Quote) (d : Dialect) (c : ℕ) → has escape_letter c ≡ true → step d (state.Text (text_state.ShortEscape q)) c ≡ state.Text (text_state.Short q)
 short_letter q d c h = ap state.Text (escaped-letter (λ n. text_state.ShortHex q n) (text_state.Short q) (sort_by text.ascii text.high c) (text_letter c h))
 
 -- an escape leads back into a string with one quote at each end
@@ -261,7 +259,7 @@ opened_escape d q bs at end b u r =
     slash Single = refl
 
 -- the bytes that are tested are an ECHAR
-pub echar_of : (bs : List ℕ) (at : ℕ) → (nat_le (at + 2) (length bs) && get_or bs at 0 == 92 && is_letter (get_or bs (at + 1) 0)) ≡ true →
+pub echar_of : (bs : List ℕ) (at : ℕ) → (nat_le (at + 2) (length bs) && get_or bs at 0 == 92 && has escape_letter (get_or bs (at + 1) 0)) ≡ true →
     IsEchar bs at (at + 2)
 echar_of bs at e =
     let p = and_parts _ _ e in
@@ -274,8 +272,9 @@ is_hex_in_iri iri_sort.HexDigit = true
 is_hex_in_iri x = false
 
 -- a hex digit is of that sort
-iri_hex : (c : ℕ) → is_hex c ≡ true → is_hex_in_iri (sort_by iri.ascii iri.high c) ≡ true
-iri_hex c h = implied is_hex (λ c. is_hex_in_iri (sort_by iri.ascii iri.high c)) refl c (hex_below c h) h
+iri_hex : (c : ℕ) → has hex_digit c ≡ true → is_hex_in_iri (sort_by iri.ascii iri.high c) ≡ true
+unfolding has
+iri_hex c h = implied (has hex_digit) (λ c. is_hex_in_iri (sort_by iri.ascii iri.high c)) refl c (hex_below c h) h
 
 -- the last one leads back
 iri_last : (x : IriSort) → is_hex_in_iri x ≡ true → iri.move (iri_state.Hex 0) x ≡ iri_state.Inside

@@ -1,6 +1,7 @@
 -- Whole escapes within strings and IRIs.
-use Rattle.std.specs.Prelude.{◌≡◌, ◌⊎◌, ℕ, ◌+◌, ◌≤◌, Bool, true, ◌||◌, List, [], ◌∷◌, ◌++◌, length, get_or, slice_range, is_some}
-use Rattle.rdf_terms.specs.Classes.{is_digit, within, one_of}
+use Rattle.std.specs.Prelude.{◌≡◌, ◌⊎◌, ℕ, ◌+◌, ◌≤◌, true, List, ◌++◌, length, get_or, slice_range, is_some}
+use Rattle.rdf_terms.specs.Classes.{has}
+use Rattle.rdf_terms.specs.Classes.Class.{escape_letter}
 use Rattle.rdf_terms.specs.Escapes.{IsUchar}
 use Rattle.rdf_terms.specs.Pieces.{MayMean, hex_number}
 use Rattle.rdf_terms.specs.declared.runs.Run.{Run}
@@ -10,20 +11,12 @@ use Rattle.rdf_tokens.specs.declared.states.iri.Iri.TheVariants as iri_state
 use Rattle.rdf_tokens.specs.declared.states.machine.State.TheVariants as state
 use Rattle.rdf_tokens.specs.Front.{Rests}
 
--- HEX
-abbrev pub is_hex : ℕ → Bool
-is_hex c = is_digit c || within 65 70 c || within 97 102 c
-
--- the letters of ECHAR: t b n r f " ' \
-abbrev pub is_letter : ℕ → Bool
-is_letter c = one_of (116 ∷ 98 ∷ 110 ∷ 114 ∷ 102 ∷ 34 ∷ 39 ∷ 92 ∷ []) c
-
 -- an ECHAR stands between two places
 pub record IsEchar (bs : List ℕ) (at end : ℕ) : Type 0 where
   pub ends : end ≡ at + 2
   pub within : end ≤ length bs
   pub slash : get_or bs at 0 ≡ 92
-  pub letter : is_letter (get_or bs (at + 1) 0) ≡ true
+  pub letter : has escape_letter (get_or bs (at + 1) 0) ≡ true
 
 -- a UCHAR does, whose character may stand in an IRI
 pub record IsIriUchar (bs : List ℕ) (at end : ℕ) : Type 0 where

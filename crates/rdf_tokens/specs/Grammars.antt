@@ -34,10 +34,6 @@ items_below n (i ∷ is) = cond (nat_lt i.mark n) (i.item ∷ items_below n is) 
 abbrev pub Viable : {I : Type 0} → (List Token → List (MarkedItem I) → Type 0) → List Token → Type 0
 Viable {I} documents ts = (more : List Token) × (qs : List (MarkedItem I)) × documents (ts ++ more) qs
 
--- some tree begins with the tokens, whether its names and references stand for something or not
-abbrev pub Shaped : (List Token → List Marked → Type 0) → List Token → Type 0
-Shaped trees ts = Viable trees ts
-
 -- The items that are due when the tokens have been accepted, in a document that begins with them: of its quads those whose head ends
 -- before the last of the tokens.
 abbrev pub Due : {I : Type 0} → (List Token → List (MarkedItem I) → Type 0) → List Token → List I → Type 0

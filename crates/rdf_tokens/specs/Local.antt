@@ -1,13 +1,12 @@
 -- Local parts of names that go on after a run of letters, digits, '_' and '-'.
 use Rattle.std.specs.Prelude.{ℕ, Bool, cond, not, ◌+◌, ◌<◌, ◌≤◌, ◌&&◌, ◌||◌, ◌==◌, nat_lt, List, length, get_or, Option}
 use Rattle.rdf_terms.specs.Classes.{has, within}
-use Rattle.rdf_terms.specs.Classes.Class.{local_escape}
+use Rattle.rdf_terms.specs.Classes.Class.{hex_digit, local_escape}
 use Rattle.rdf_terms.specs.declared.kind.Dialect.{Dialect}
 use Rattle.rdf_terms.specs.declared.kind.Kind.{Kind}
 use Rattle.rdf_tokens.specs.declared.states.machine.State.{State}
 use Rattle.rdf_tokens.specs.declared.states.machine.State.TheVariants.{Name}
 use Rattle.rdf_tokens.specs.declared.states.name.Name.TheVariants as name
-use Rattle.rdf_tokens.specs.Escapes.{is_hex}
 use Rattle.rdf_tokens.specs.Front.{Reached, Rests, kind_here}
 use Rattle.rdf_tokens.specs.Quick.{stands_at}
 use Rattle.rdf_tokens.specs.Tokens.{with_length}
@@ -28,7 +27,7 @@ letter_len bs at = cond (nat_lt (at + 1) (length bs))
 
 -- a hex digit stands at a place
 abbrev pub is_hex_at : List ℕ → ℕ → Bool
-is_hex_at bs at = nat_lt at (length bs) && is_hex (get_or bs at 0)
+is_hex_at bs at = nat_lt at (length bs) && has hex_digit (get_or bs at 0)
 
 -- PERCENT stands at a place
 abbrev pub is_percent : List ℕ → ℕ → Bool

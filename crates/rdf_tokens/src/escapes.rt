@@ -4,7 +4,9 @@ ghost use Rattle.std.specs.Prelude.{◌≡◌, ◌≤◌, ◌+◌, ◌&&◌, ◌
 ghost use Rattle.std.specs.Prelude.{IfSome};
 ghost use Rattle.rdf_terms.specs.Runs.{IsRun, goes_over};
 ghost use Rattle.rdf_terms.specs.Escapes.{IsUchar};
-ghost use Rattle.rdf_tokens.specs.Escapes.{is_letter, IsEchar, IsEscapeThen, IsIriUchar, FitsInIri, FitsInString, RestsInIri};
+ghost use Rattle.rdf_terms.specs.Classes.{has};
+ghost use Rattle.rdf_terms.specs.Classes.Class.{escape_letter};
+ghost use Rattle.rdf_tokens.specs.Escapes.{IsEchar, IsEscapeThen, IsIriUchar, FitsInIri, FitsInString, RestsInIri};
 ghost use Rattle.rdf_tokens.specs.Quick.{short_run};
 ghost use Rattle.rdf_tokens.specs.Strings.{RestsInQuotes};
 
@@ -125,16 +127,16 @@ fn iri_uchar_end(bytes: &[u8], at: usize) -> Option<usize>
 #[inline(always)]
 pub(crate) fn is_echar(bytes: &[u8], at: usize) -> bool
     requires { at ≤ length bytes.now }
-    ensures { result ≡ (nat_le (at + 2) (length bytes.now) && get_or bytes.now at 0 == 92 && is_letter
+    ensures { result ≡ (nat_le (at + 2) (length bytes.now) && get_or bytes.now at 0 == 92 && has escape_letter
         (get_or bytes.now (at + 1) 0)) }
 {
-    bytes.len() - at >= 2 && bytes[at] == b'\\' && is_letter(bytes[at + 1])
+    bytes.len() - at >= 2 && bytes[at] == b'\\' && is_escape_letter(bytes[at + 1])
 }
 
 /// Whether a byte is a letter of ECHAR.
 #[inline(always)]
-fn is_letter(byte: u8) -> bool
-    ensures { result ≡ is_letter byte }
+fn is_escape_letter(byte: u8) -> bool
+    ensures { result ≡ has escape_letter byte }
 {
     letter_meaning(byte).is_some()
 }

@@ -29,7 +29,7 @@ pub use Rattle.rdf_terms.specs.declared.reason.Reason.{Reason}
 pub use Rattle.rdf_terms.specs.declared.reason.Reason.TheVariants.{DocumentTooLong, Ended, TooManyBindings, Unexpected, TooDeep, Unbound, NoBase, IriTooLong}
 pub use Rattle.rdf_tokens.specs.Good.{most_bytes, first_place}
 unfoldable pub use Rattle.rdf_tokens.specs.Good.{tokens_of}
-pub use Rattle.rdf_tokens.specs.Grammars.{Marked, unmarked, Viable, Due, PassesNone, Shaped, Language, reading_of, IsDocumentOf, IsWhole, RefusedIn, IsWithin, Refused, IsReadToItsEnd, IsFront, Rises, GoesOn, items_below, counted}
+pub use Rattle.rdf_tokens.specs.Grammars.{Marked, unmarked, Viable, Due, PassesNone, Language, reading_of, IsDocumentOf, IsWhole, RefusedIn, IsWithin, Refused, IsReadToItsEnd, IsFront, Rises, GoesOn, items_below, counted}
 pub use Rattle.rdf_tokens.specs.Leaves.{Leaf, iri_of, leaf_of, token}
 pub use Rattle.rdf_tokens.specs.Scans.{IsPlainName, KnowsColon, unread_bytes, token_of, is_end}
 pub use Rattle.rdf_tokens.specs.Tokens.{Token}
@@ -46,7 +46,7 @@ pub use Rattle.rdf_trig.specs.Machine.{Reply, No, Go, kept, by_use, refuses, acc
 pub use Rattle.rdf_trig.specs.Names.{prefix_of, local_of, with_base, with_binding, SameNames, iri_in, scope_after, bind}
 unfoldable pub use Rattle.rdf_trig.specs.Names.{reference_in, name_in, is_full}
 pub use Rattle.rdf_trig.specs.Owed.{iri_size, most_kept, Owed, OwedInAll, scope_size, in_force, document_held, held_after, most_held, verb_size, blank_held, literal_held, object_held, collection_held, items_held, list_held, predicates_held, more_held, objects_held, commas_held, label_held, maybe_held, triples_held, block_held, wrapped_held, body_held, HasToHold}
-pub use Rattle.rdf_trig.specs.Quads.{Setting, stated, in_default, rest_quad, cell_at, node, named, resource, typed_literal, plain_literal, in_graph, anon_at, blank_of, lexical, tagged_literal, literal_of, iri_leaf, string_leaf, literal_leaf, object_leaf, items_of, collection_of, list_of, label_of, labelled, short_value, long_value, tag_of, subject_of}
+pub use Rattle.rdf_trig.specs.Quads.{Setting, stated, in_default, rest_quad, cell_at, node, named, resource, typed_literal, plain_literal, in_graph, anon_at, blank_of, lexical, tagged_literal, literal_of, iri_leaf, string_leaf, literal_leaf, object_leaf, items_of, collection_of, list_of, label_of, labelled, value_in, tag_of, subject_of}
 pub use Rattle.rdf_trig.specs.Refusals.{Blamed, Excluded}
 pub use Rattle.rdf_trig.specs.Scopes.{IsAdmitted, IsDenied, Names, Unnamed, Based, Binding, NotBinding, SameScope, LooksUp, LooksUpNone, StandsForIri, IsPrefixed, MeansLocal, IsReference, step_fault, FindsNone}
 pub use Rattle.rdf_trig.specs.Slots.{topic_at, text_at, IsOfKind}

@@ -11,27 +11,15 @@ use Rattle.rdf_trig.specs.declared.form.DocForm.{DocForm}
 use Rattle.rdf_trig.specs.Trees.{Document}
 use Rattle.rdf_trig.specs.Events.{Use, itself, stands, binds, Event, Took, tokens, event_quads, Bound, document_events}
 
--- The tokens are those of a tree of the form from left to right, each of its names and references stands for an IRI in the scope at its place, and these are its quads.
--- The scope at the start has the base, or none, the bindings that were handed in, and the limits.
-pub record IsDocument (form : DocForm) (start : InForce) (ts : List Token) (qs : List Marked) : Type 0 where
-  pub tree : Document form
-  pub tokens : ts ≡ tokens (document_events start tree)
-  pub bound : Bound (document_events start tree)
-  pub quads : event_quads 0 (document_events start tree) ≡ qs
-
--- the documents of a form as a grammar's relation: tokens, and the quads that they mean, with their marks
+-- The documents of a form: the tokens are those of a tree from left to right, each of its names and references stands for an IRI in the scope at its place,
+-- and these are its quads with their marks. The scope at the start has the base, or none, the bindings that were handed in, and the limits.
 abbrev pub documents : DocForm → InForce → List Token → List Marked → Type 0
-documents form start ts qs = IsDocument form start ts qs
+documents form start ts qs =
+    (d : Document form) × (ts ≡ tokens (document_events start d)) × Bound (document_events start d) × (event_quads 0 (document_events start d) ≡ qs)
 
--- the same whether names and references stand for something or not
-pub record IsTree (form : DocForm) (start : InForce) (ts : List Token) (qs : List Marked) : Type 0 where
-  pub tree : Document form
-  pub tokens : ts ≡ tokens (document_events start tree)
-  pub quads : event_quads 0 (document_events start tree) ≡ qs
-
--- the relation of tokens to quads by the productions alone, by which unbound prefixes and missing bases are told from syntax errors
+-- the same whether names and references stand for something or not, by which unbound prefixes and missing bases are told from syntax errors
 abbrev pub trees : DocForm → InForce → List Token → List Marked → Type 0
-trees form start ts qs = IsTree form start ts qs
+trees form start ts qs = (d : Document form) × (ts ≡ tokens (document_events start d)) × (event_quads 0 (document_events start d) ≡ qs)
 
 -- '[' and '(' that are open after some tokens
 abbrev pub opens : Kind → ℕ
@@ -87,10 +75,6 @@ pub record StandsFor (form : DocForm) (start : InForce) (ahead : List Token) (t 
 abbrev pub IsDeep : InForce → List Token → Token → Type 0
 IsDeep start ahead t = (opens t.kind ≡ 1) × (start.limits.depth < open_in (ahead ++ t ∷ []))
 
--- The token passes a limit: of open brackets, of the bytes of an IRI, or of bound prefixes.
-abbrev pub PassesBy : InForce → List Token → Token → Use → Type 0
-PassesBy start ahead t u = IsDeep start ahead t ⊎ (IsLong start.limits u ⊎ IsOneMore u)
-
--- after these tokens, which begin a document, the token passes a limit
+-- after these tokens, which begin a document, the token passes a limit: of open brackets, of the bytes of an IRI, or of bound prefixes
 abbrev pub Passes : DocForm → InForce → List Token → Token → Type 0
-Passes form start ahead t = (u : Use) × StandsFor form start ahead t u × PassesBy start ahead t u
+Passes form start ahead t = (u : Use) × StandsFor form start ahead t u × (IsDeep start ahead t ⊎ (IsLong start.limits u ⊎ IsOneMore u))

@@ -12,7 +12,7 @@ use Rattle.rdf_iri.specs.Scope.{InForce}
 use Rattle.rdf_tokens.specs.Leaves.{Leaf, token}
 use Rattle.rdf_trig.specs.declared.form.DocForm.{DocForm}
 use Rattle.rdf_trig.specs.declared.form.DocForm.TheVariants.{Turtle, TriG}
-use Rattle.rdf_trig.specs.Trees.{PrefixedName, pname_ln, pname_ns, Iri, iri_ref, prefixed, BlankNode, label, anon, Verb, predicate, type_word, String, short, long, Tag, lang_tag, base_tag, prefix_tag, plain, tagged, typed, integer, decimal, double, true_word, false_word, Literal, rdf, numeric, boolean, Object, iri_object, blank_object, collection_object, list_object, literal_object, Collection, collection, Items, no_items, item, BlankNodePropertyList, property_list, PredicateObjectList, predicate_objects, More, no_more, semicolon, semicolon_objects, ObjectList, objects, Commas, no_commas, comma, Subject, iri_subject, blank_subject, collection_subject, Triples, subject_triples, list_triples, Directive, prefix_id, base, sparql_prefix, sparql_base, LabelOrSubject, iri_label, blank_label, TriplesBlock, last, last_dot, dot, WrappedGraph, wrapped, named_graph, label_triples, list_triples2, collection_triples2, Block, triples_or_graph, default_graph, triples2, graph_word, Body, Document, end, with_directive, with_body}
+use Rattle.rdf_trig.specs.Trees.{pname_ln, pname_ns, Iri, iri_ref, prefixed, BlankNode, label, anon, Verb, predicate, type_word, String, short, long, Tag, lang_tag, base_tag, prefix_tag, plain, tagged, typed, integer, decimal, double, true_word, false_word, Literal, rdf, numeric, boolean, Object, iri_object, blank_object, collection_object, list_object, literal_object, Collection, collection, Items, no_items, item, BlankNodePropertyList, property_list, PredicateObjectList, predicate_objects, More, no_more, semicolon, semicolon_objects, ObjectList, objects, Commas, no_commas, comma, Subject, iri_subject, blank_subject, collection_subject, Triples, subject_triples, list_triples, Directive, prefix_id, base, sparql_prefix, sparql_base, LabelOrSubject, iri_label, blank_label, TriplesBlock, last, last_dot, dot, WrappedGraph, wrapped, named_graph, label_triples, list_triples2, collection_triples2, Block, triples_or_graph, default_graph, triples2, graph_word, Body, Document, end, with_directive, with_body}
 use Rattle.rdf_trig.specs.Names.{prefix_of, reference_in, name_in, scope_after, is_full}
 use Rattle.rdf_trig.specs.Quads.{Setting, in_default, in_graph, stated, node, anon_at, verb_of, object_of, cell_of, items_of, collection_of, list_of, subject_of, label_of, rest_quad}
 
@@ -41,15 +41,11 @@ abbrev pub give : Option Quad → List Event → List Event
 give None rest = rest
 give (Some q) rest = Gave q ∷ rest
 
--- a prefixed name with its IRI in the scope
-abbrev pub prefixed_events : InForce → PrefixedName → List Event → List Event
-prefixed_events s (pname_ln l) rest = name PnameLn l (name_in s l) rest
-prefixed_events s (pname_ns l) rest = name PnameNs l (name_in s l) rest
-
 -- an IRIREF or a prefixed name with its IRI in the scope
 abbrev pub iri_events : InForce → Iri → List Event → List Event
 iri_events s (iri_ref l) rest = name IriRef l (reference_in s l) rest
-iri_events s (prefixed n) rest = prefixed_events s n rest
+iri_events s (prefixed (pname_ln l)) rest = name PnameLn l (name_in s l) rest
+iri_events s (prefixed (pname_ns l)) rest = name PnameNs l (name_in s l) rest
 
 -- a verb with its IRI; `a` stands for no name that has to be looked up
 abbrev pub verb_events : InForce → Verb → List Event → List Event

@@ -5,7 +5,7 @@ use Rattle.rdf_terms.specs.declared.kind.Kind.TheVariants.{IriRef, PnameNs, Dot,
 use Rattle.rdf_terms.specs.declared.reason.Reason.{Reason}
 use Rattle.rdf_terms.specs.Terms.{Quad, has_scheme}
 use Rattle.rdf_tokens.specs.Tokens.{Place, Token}
-use Rattle.rdf_tokens.specs.Grammars.{Marked, unmarked, Viable, Shaped, Due, PassesNone, IsFront, CompletedWith, reading_of, IsDocumentOf, IsWithin, GoesOn, Refused, IsReadToItsEnd, Rises}
+use Rattle.rdf_tokens.specs.Grammars.{Marked, unmarked, Viable, Due, PassesNone, IsFront, CompletedWith, reading_of, IsDocumentOf, IsWithin, GoesOn, Refused, IsReadToItsEnd, Rises}
 use Rattle.rdf_driver.specs.Words.{in_words}
 use Rattle.rdf_driver.specs.Readers.{HasRead}
 use Rattle.rdf_iri.specs.Scope.{InForce, bound_to, Binds, bytes_held}
@@ -101,7 +101,7 @@ CompletedBy documents ts = CompletedWith IsClosing documents ts
 -- So a reader that has accepted some tokens is never in a dead end.
 abbrev pub BeginningsAreCompleted : Type 0
 BeginningsAreCompleted = (form : DocForm) (start : InForce) (ts : List Token) →
-    (Viable (documents form start) ts → CompletedBy (documents form start) ts) × (Shaped (trees form start) ts → CompletedBy (trees form start) ts)
+    (Viable (documents form start) ts → CompletedBy (documents form start) ts) × (Viable (trees form start) ts → CompletedBy (trees form start) ts)
 
 -- A name stands for nothing exactly where its prefix is not bound, and a reference where it has no scheme and there is no base.
 pub record NamelessWhere (s : InForce) (l : Leaf) : Type 0 where

@@ -17,7 +17,7 @@ use Rattle.rdf_trig.specs.declared.form.DocForm.{DocForm}
 use Rattle.rdf_trig.specs.declared.form.DocForm.TheVariants.{Turtle, TriG}
 use Rattle.rdf_trig.specs.Trees.{Verb}
 use Rattle.rdf_trig.specs.Names.{prefix_of, reference_in, name_in, with_base, with_binding, is_full}
-use Rattle.rdf_trig.specs.Quads.{Setting, in_default, in_graph, verb_of, stated, named, node, resource, anon_at, labelled, short_value, long_value, tag_of, plain_literal, tagged_literal, typed_literal, cell_at, rest_quad}
+use Rattle.rdf_trig.specs.Quads.{Setting, in_default, in_graph, verb_of, stated, named, node, resource, anon_at, labelled, value_in, tag_of, plain_literal, tagged_literal, typed_literal, cell_at, rest_quad}
 use Rattle.rdf_trig.specs.Owed.{iri_size, term_size, verb_size}
 use Rattle.rdf_trig.specs.Events.{Use, itself, stands, binds, Event, Took, give}
 
@@ -160,8 +160,8 @@ object_start c p early IriRef l = iri_object_at c p early (reference_in c.scope 
 object_start c p early PnameLn l = iri_object_at c p early (name_in c.scope l)
 object_start c p early PnameNs l = iri_object_at c p early (name_in c.scope l)
 object_start c p early LabelNode l = literal_at c p early (resource (node (labelled l)))
-object_start c p early ShortString l = Go itself early None c (AfterText (short_value l) p)
-object_start c p early LongString l = Go itself early None c (AfterText (long_value l) p)
+object_start c p early ShortString l = Go itself early None c (AfterText (value_in 1 l) p)
+object_start c p early LongString l = Go itself early None c (AfterText (value_in 3 l) p)
 object_start c p early Integer l = literal_at c p early (typed_literal l.text (Some (known_chars XsdInteger)))
 object_start c p early Decimal l = literal_at c p early (typed_literal l.text (Some (known_chars XsdDecimal)))
 object_start c p early Double l = literal_at c p early (typed_literal l.text (Some (known_chars XsdDouble)))

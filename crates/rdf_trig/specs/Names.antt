@@ -6,7 +6,7 @@ use Rattle.rdf_iri.specs.Texts.{before, after, equal}
 use Rattle.rdf_iri.specs.Resolve.{resolved}
 use Rattle.rdf_iri.specs.Scope.{InForce, bound_to}
 use Rattle.rdf_tokens.specs.Leaves.{Leaf, iri_of}
-use Rattle.rdf_trig.specs.Trees.{PrefixedName, pname_ln, pname_ns, Iri, iri_ref, prefixed, Directive, prefix_id, base, sparql_prefix, sparql_base}
+use Rattle.rdf_trig.specs.Trees.{pname_ln, pname_ns, Iri, iri_ref, prefixed, Directive, prefix_id, base, sparql_prefix, sparql_base}
 
 -- an IRIREF: its text with escapes replaced, resolved against the base in force; none where it needs a base and there is none
 unfoldable pub reference_in : InForce → Leaf → Option (List ℕ)
@@ -24,15 +24,11 @@ local_of l = unwrap_or (local_value (unwrap_or (after (code ":") l.text) [])) []
 unfoldable pub name_in : InForce → Leaf → Option (List ℕ)
 name_in s l = option_map (λ front. front ++ local_of l) (bound_to s.bindings (prefix_of l))
 
--- the IRI of a PrefixedName, in the form with a local part or the one without
-abbrev pub prefixed_in : InForce → PrefixedName → Option (List ℕ)
-prefixed_in s (pname_ln l) = name_in s l
-prefixed_in s (pname_ns l) = name_in s l
-
--- the absolute IRI that the production iri stands for in a scope, or none
+-- the absolute IRI that the production iri stands for in a scope, or none; a PrefixedName has a local part or none
 abbrev pub iri_in : InForce → Iri → Option (List ℕ)
 iri_in s (iri_ref l) = reference_in s l
-iri_in s (prefixed n) = prefixed_in s n
+iri_in s (prefixed (pname_ln l)) = name_in s l
+iri_in s (prefixed (pname_ns l)) = name_in s l
 
 -- a prefix has one IRI, that of its last binding
 abbrev pub bind : List (List ℕ × List ℕ) → List ℕ → List ℕ → List (List ℕ × List ℕ)

@@ -61,18 +61,14 @@ abbrev pub verb_of : InForce → Verb → Option (List ℕ)
 verb_of s (predicate i) = iri_in s i
 verb_of s (type_word l) = Some (known_chars RdfType)
 
--- the characters that a string means; they are there, since each token is fit
-abbrev pub short_value : Leaf → List ℕ
-short_value l = unwrap_or (string_value (inside 1 l.text)) []
-
--- the same where the string has three quotes at each end
-abbrev pub long_value : Leaf → List ℕ
-long_value l = unwrap_or (string_value (inside 3 l.text)) []
+-- the characters that a string with so many quotes at each end means; they are there, since each token is fit
+abbrev pub value_in : ℕ → Leaf → List ℕ
+value_in n l = unwrap_or (string_value (inside n l.text)) []
 
 -- the lexical form of an RDFLiteral
 abbrev pub lexical : String → List ℕ
-lexical (short l) = short_value l
-lexical (long l) = long_value l
+lexical (short l) = value_in 1 l
+lexical (long l) = value_in 3 l
 
 -- a language tag without its '@'
 abbrev pub tag_of : Leaf → List ℕ

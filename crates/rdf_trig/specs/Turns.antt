@@ -29,7 +29,7 @@ use Rattle.rdf_trig.specs.declared.turn.Turn.{Turn}
 use Rattle.rdf_trig.specs.declared.turn.Turn.TheVariants as turn
 use Rattle.rdf_trig.specs.Events.{Use}
 use Rattle.rdf_trig.specs.Names.{prefix_of}
-use Rattle.rdf_trig.specs.Quads.{Setting, named, node, resource, anon_at, labelled, short_value, long_value, tag_of, tagged_literal, typed_literal, cell_at, rest_quad}
+use Rattle.rdf_trig.specs.Quads.{Setting, named, node, resource, anon_at, labelled, value_in, tag_of, tagged_literal, typed_literal, cell_at, rest_quad}
 use Rattle.rdf_trig.specs.Machine as M
 use Rattle.rdf_trig.specs.Machine.{Reply, No, Go, nil, quad_at}
 use Rattle.rdf_trig.specs.States.{level_of, graph_of, outer_of, outer_graph, spelling_of, first_of, cell_of, after_semicolon_at, up_in, place_in, around_in, text_in, mode_at, graph_at, setting, setting_in, rest_of}
@@ -53,8 +53,8 @@ verb_by verb.Type i = M.type_verb
 abbrev pub begun : Setting → Use → Option (List ℕ) → M.Place → Option Quad → ObjectStart → Leaf → Reply
 begun c u i p early object.Name l = Go u early (quad_at c p (resource (named i))) c (M.After p)
 begun c u i p early object.Label l = Go u early (quad_at c p (resource (node (labelled l)))) c (M.After p)
-begun c u i p early object.ShortString l = Go u early None c (M.AfterText (short_value l) p)
-begun c u i p early object.LongString l = Go u early None c (M.AfterText (long_value l) p)
+begun c u i p early object.ShortString l = Go u early None c (M.AfterText (value_in 1 l) p)
+begun c u i p early object.LongString l = Go u early None c (M.AfterText (value_in 3 l) p)
 begun c u i p early (object.Number d) l = Go u early (quad_at c p (typed_literal l.text (Some (known_chars d)))) c (M.After p)
 begun c u i p early object.True l = Go u early (quad_at c p (typed_literal (codes "true") (Some (known_chars XsdBoolean)))) c (M.After p)
 begun c u i p early object.False l = Go u early (quad_at c p (typed_literal (codes "false") (Some (known_chars XsdBoolean)))) c (M.After p)

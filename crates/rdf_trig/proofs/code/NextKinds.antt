@@ -1,5 +1,5 @@
 -- Which kinds of tokens can come next in Turtle and TriG: those to which the machine has a reply, whatever their names stand for.
-use Rattle.rdf_trig.proofs.Prelude.{◌≡◌, ◌≢◌, ◌↔◌, ◌⊎◌, inl, inr, Bool, true, false, List, [], ◌∷◌, ◌++◌, Option, Some, None, refl, sym, ap, ◌∙◌, subst, ⊎_elim, is_some, IfErr, IsErrAnd, Result, Ok, Err, Kind, Token, Shaped, Sizes, InForce, Leaf, leaf_of, KnowsNext, DocForm, StepFault, Turn, in_default, trees, Start, Reply, No, Go, graph_at, is_go, mode_at, setting, Decides, reason_of, Keeps, TreeAt, tree_words}
+use Rattle.rdf_trig.proofs.Prelude.{◌≡◌, ◌≢◌, ◌↔◌, ◌⊎◌, inl, inr, Bool, true, false, List, [], ◌∷◌, ◌++◌, Option, Some, None, refl, sym, ap, ◌∙◌, subst, ⊎_elim, is_some, IfErr, IsErrAnd, Result, Ok, Err, Kind, Token, Viable, Sizes, InForce, Leaf, leaf_of, KnowsNext, DocForm, StepFault, Turn, in_default, trees, Start, Reply, No, Go, graph_at, is_go, mode_at, setting, Decides, reason_of, Keeps, TreeAt, tree_words}
 use Rattle.rdf_terms.specs.declared.reason.Reason.TheVariants as reason
 use Rattle.rdf_trig.specs.declared.fault.StepFault.TheVariants as fault
 use Rattle.rdf_trig.specs.declared.state.State.{State as Code}
@@ -17,10 +17,10 @@ decides_goes form r m k (Some t) h s l = sym (turn_goes form r m k t h s l)
 
 -- after tokens that were accepted, those with one more begin a tree exactly if the machine has a reply to it
 one_more : (form : DocForm) (start : InForce) (ts : List Token) (t : Token) (s : Stand) → reach true form (in_default start) Start ts ≡ Some s →
-    (is_go (step form s.setting s.mode t.kind (leaf_of t)) ≡ true) ↔ Shaped (trees form start) (ts ++ t ∷ [])
+    (is_go (step form s.setting s.mode t.kind (leaf_of t)) ≡ true) ↔ Viable (trees form start) (ts ++ t ∷ [])
 one_more form start ts t s e = by (step form s.setting s.mode t.kind (leaf_of t)) refl
   where
-    by : (y : Reply) → step form s.setting s.mode t.kind (leaf_of t) ≡ y → (is_go y ≡ true) ↔ Shaped (trees form start) (ts ++ t ∷ [])
+    by : (y : Reply) → step form s.setting s.mode t.kind (leaf_of t) ≡ y → (is_go y ≡ true) ↔ Viable (trees form start) (ts ++ t ∷ [])
     by No h = (λ z. absurd (let y : false ≡ true = z in cc), λ v. absurd ((unexpected form start ts t s e h).1 v))
     by (Go u early now c m) h = (
       λ z.
@@ -43,7 +43,7 @@ knows_next g kind answer is x ts qs r t k =
     ∙ ap (λ y. is_go (step x.form (record { scope = m.setting.scope; graph = g.state.setting.graph }) y kind l)) (sym r.2.same.mode)
     ∙ ap (λ y. is_go (step x.form (record { scope = m.setting.scope; graph = y }) m.mode kind l)) (sym r.2.same.graph)
     ∙ ap (λ y. is_go (step x.form m.setting m.mode y l)) (sym k) in
-    subst (λ b. (b ≡ true) ↔ Shaped (trees x.form x.start) (ts ++ t ∷ [])) (sym same)
+    subst (λ b. (b ≡ true) ↔ Viable (trees x.form x.start) (ts ++ t ∷ [])) (sym same)
     (one_more x.form x.start ts t (stand m.setting m.mode) (reached_start x.form x.start ts m qs r.2.accepted))
 
 -- A fault that is passed up and is not for an unexpected token says nothing of one.

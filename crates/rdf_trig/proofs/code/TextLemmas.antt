@@ -1,6 +1,5 @@
 -- A text that is used again: where it is empty there is none, and an IRI and a tag are not empty.
-use Rattle.rdf_trig.proofs.Prelude.{◌≡◌, ◌<◌, ◌≤◌, ℕ, List, [], ◌∷◌, Option, Some, None, refl, sym, ap, ◌∙◌, subst, arith, is_some, IfSome, false, true, false≢true, chars, chars-nil, length-le-encodes, IsIri, IsTag, byte_len, iri_size, text_at}
-use Rattle.rdf_terms.proofs.NamesLemmas.{tag_goes_on-IsTag}
+use Rattle.rdf_trig.proofs.Prelude.{◌≡◌, ◌<◌, ◌≤◌, ℕ, List, [], ◌∷◌, Option, Some, None, refl, sym, ap, ◌∙◌, subst, arith, is_some, IfSome, true, false≢true, chars, chars-nil, length-le-encodes, IsIri, iri_size, text_at}
 
 -- an IRI is a text that is there
 pub iri_there : (w : List ℕ) → IsIri w → Some w ≡ text_at w

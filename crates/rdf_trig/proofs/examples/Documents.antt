@@ -65,7 +65,7 @@ nested_quads =
 
 pub nested_is : documents TriG start nested_tokens nested_quads
 unfolding reference_in name_in resolved is_full has
-nested_is = record { tree = nested_tree; tokens = refl; bound = named_bound (document_events start nested_tree) refl; quads = refl }
+nested_is = (nested_tree, refl, named_bound (document_events start nested_tree) refl, refl)
 
 -- Two booleans in a collection: `S P (truefalse) .`, where S is `<http://a/s>` and P is `<http://a/p>` here and below.
 abbrev pub booleans_tokens : List Token
@@ -91,7 +91,7 @@ booleans_quads =
 
 pub booleans_is : documents TriG start booleans_tokens booleans_quads
 unfolding reference_in name_in resolved is_full has
-booleans_is = record { tree = booleans_tree; tokens = refl; bound = named_bound (document_events start booleans_tree) refl; quads = refl }
+booleans_is = (booleans_tree, refl, named_bound (document_events start booleans_tree) refl, refl)
 
 -- A block with a label: `<http://g/> { S P S }`.
 abbrev pub labelled_block_tokens : List Token
@@ -113,7 +113,7 @@ labelled_block_quads =
 
 pub labelled_block_is : documents TriG start labelled_block_tokens labelled_block_quads
 unfolding reference_in name_in resolved is_full has
-labelled_block_is = record { tree = labelled_block_tree; tokens = refl; bound = named_bound (document_events start labelled_block_tree) refl; quads = refl }
+labelled_block_is = (labelled_block_tree, refl, named_bound (document_events start labelled_block_tree) refl, refl)
 
 -- An empty block, and a graph without a name: `{ } GRAPH [] { S P S }`.
 abbrev pub unnamed_graph_tokens : List Token
@@ -137,7 +137,7 @@ unnamed_graph_quads =
 
 pub unnamed_graph_is : documents TriG start unnamed_graph_tokens unnamed_graph_quads
 unfolding reference_in name_in resolved is_full has
-unnamed_graph_is = record { tree = unnamed_graph_tree; tokens = refl; bound = named_bound (document_events start unnamed_graph_tree) refl; quads = refl }
+unnamed_graph_is = (unnamed_graph_tree, refl, named_bound (document_events start unnamed_graph_tree) refl, refl)
 
 -- An empty collection in a collection: `S P ( "a" ( ) ) .`.
 abbrev pub inner_collection_tokens : List Token
@@ -163,12 +163,7 @@ inner_collection_quads =
 
 pub inner_collection_is : documents TriG start inner_collection_tokens inner_collection_quads
 unfolding reference_in name_in resolved is_full has
-inner_collection_is = record {
-  tree = inner_collection_tree;
-  tokens = refl;
-  bound = named_bound (document_events start inner_collection_tree) refl;
-  quads = refl;
-}
+inner_collection_is = (inner_collection_tree, refl, named_bound (document_events start inner_collection_tree) refl, refl)
 
 -- A collection as subject, in Turtle: `( S ) P [] , () .`.
 abbrev pub list_subject_tokens : List Token
@@ -198,7 +193,7 @@ list_subject_quads =
 
 pub list_subject_is : documents Turtle start list_subject_tokens list_subject_quads
 unfolding reference_in name_in resolved is_full has
-list_subject_is = record { tree = list_subject_tree; tokens = refl; bound = named_bound (document_events start list_subject_tree) refl; quads = refl }
+list_subject_is = (list_subject_tree, refl, named_bound (document_events start list_subject_tree) refl, refl)
 
 -- A property list in a collection, in Turtle: `S P ( [ P S ] 1 ) .`.
 abbrev pub list_in_collection_tokens : List Token
@@ -231,12 +226,7 @@ list_in_collection_quads =
 
 pub list_in_collection_is : documents Turtle start list_in_collection_tokens list_in_collection_quads
 unfolding reference_in name_in resolved is_full has
-list_in_collection_is = record {
-  tree = list_in_collection_tree;
-  tokens = refl;
-  bound = named_bound (document_events start list_in_collection_tree) refl;
-  quads = refl;
-}
+list_in_collection_is = (list_in_collection_tree, refl, named_bound (document_events start list_in_collection_tree) refl, refl)
 
 -- One label in and outside of a block: `<http://g/> { _:x P S . } _:x P S .`.
 abbrev pub one_label_tokens : List Token
@@ -262,7 +252,7 @@ one_label_quads =
 
 pub one_label_is : documents TriG start one_label_tokens one_label_quads
 unfolding reference_in name_in resolved is_full has
-one_label_is = record { tree = one_label_tree; tokens = refl; bound = named_bound (document_events start one_label_tree) refl; quads = refl }
+one_label_is = (one_label_tree, refl, named_bound (document_events start one_label_tree) refl, refl)
 
 -- A block after GRAPH: `GRAPH <http://g/> { [ P S ] . S P ( ) }`.
 abbrev pub word_and_label_tokens : List Token
@@ -289,7 +279,7 @@ word_and_label_quads =
 
 pub word_and_label_is : documents TriG start word_and_label_tokens word_and_label_quads
 unfolding reference_in name_in resolved is_full has
-word_and_label_is = record { tree = word_and_label_tree; tokens = refl; bound = named_bound (document_events start word_and_label_tree) refl; quads = refl }
+word_and_label_is = (word_and_label_tree, refl, named_bound (document_events start word_and_label_tree) refl, refl)
 
 -- A base, and a second one that is resolved against it, in Turtle: `BASE <http://h/b/> <s> a <t> . @base <c/> . <s> a <t> .`.
 abbrev pub bases_tokens : List Token
@@ -321,7 +311,7 @@ bases_quads =
 
 pub bases_is : documents Turtle start bases_tokens bases_quads
 unfolding reference_in name_in resolved is_full has parts_of remove_dots finish step
-bases_is = record { tree = bases_tree; tokens = refl; bound = named_bound (document_events start bases_tree) refl; quads = refl }
+bases_is = (bases_tree, refl, named_bound (document_events start bases_tree) refl, refl)
 
 -- A prefix that is bound anew: `PREFIX x: <http://x/> x:s x:p x:o . PREFIX x: <http://y/> x:s x:p x:o .`.
 abbrev pub rebound_tokens : List Token
@@ -349,7 +339,7 @@ rebound_quads =
 
 pub rebound_is : documents TriG start rebound_tokens rebound_quads
 unfolding reference_in name_in resolved is_full has
-rebound_is = record { tree = rebound_tree; tokens = refl; bound = named_bound (document_events start rebound_tree) refl; quads = refl }
+rebound_is = (rebound_tree, refl, named_bound (document_events start rebound_tree) refl, refl)
 
 -- Strings with tags and with a type, in Turtle: `S P "A"@base , "b"@en , "c"^^<a:t> .`.
 abbrev pub strings_tokens : List Token
@@ -379,7 +369,7 @@ strings_quads =
 
 pub strings_is : documents Turtle start strings_tokens strings_quads
 unfolding reference_in name_in resolved is_full has
-strings_is = record { tree = strings_tree; tokens = refl; bound = named_bound (document_events start strings_tree) refl; quads = refl }
+strings_is = (strings_tree, refl, named_bound (document_events start strings_tree) refl, refl)
 
 -- What is owed in `S P [ P ( ) ] .`: after the parenthesis that opens, subject and verb of the statement and the verb of the property list; after the
 -- bracket that closes, those of the statement; after the dot nothing.
@@ -425,7 +415,7 @@ owed_alone size o =
     let settled = held_is_settled (λ s. 0) TriG start (take 5 open_tokens) (
       drop 5 open_tokens,
       event_quads 0 (document_events start open_tree),
-      record { tree = open_tree; tokens = refl; bound = open_bound; quads = refl },
+      (open_tree, refl, open_bound, refl),
     ) in
     settled.2 size o ∙ sym (settled.2 30 owed_inside)
 

@@ -192,7 +192,7 @@ marks_rise = subst (Rises 0) inner_are (never_fall TriG start inner_collection_t
 
 pub booleans_settled : (qs : List Marked) → trees TriG start booleans_tokens qs → qs ≡ booleans_quads
 unfolding reference_in resolved has
-booleans_settled qs t = same_quads TriG start booleans_tokens qs booleans_quads t record { tree = booleans_tree; tokens = refl; quads = booleans_told }
+booleans_settled qs t = same_quads TriG start booleans_tokens qs booleans_quads t (booleans_tree, refl, booleans_told)
 
 -- After the second boolean the collection's own quad and the first item's are due.
 abbrev due_quads : List Quad

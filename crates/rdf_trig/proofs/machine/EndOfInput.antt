@@ -74,5 +74,5 @@ pub document_complete : (form : DocForm) (start : InForce) (limit : ℕ) (bytes 
     documents form start (tokens_of turtle limit bytes e).tokens qs →
     (tokens_of turtle limit bytes e).outcome ≡ complete
 document_complete form start limit bytes e qs d =
-    let h = document_end d.tree in
-    end_complete turtle limit bytes e h.0 [] h.1 (d.tokens ∙ (document_told d.tree start ∙ h.3)) h.2
+    let h = document_end d.0 in
+    end_complete turtle limit bytes e h.0 [] h.1 (d.1 ∙ (document_told d.0 start ∙ h.3)) h.2

@@ -16,10 +16,10 @@ pub due_in : (form : DocForm) (start : InForce) (ts more : List Token) (s : Stat
     accept_all form (at_start start) ts ≡ ran s qs → documents form start (ts ++ more) all →
     items_below (length ts) all ≡ qs
 due_in form start ts more s qs all e d =
-    let told : tokens (document_events start d.tree) ≡ ts ++ more = sym d.tokens in
-    ap (items_below (length ts)) (sym d.quads)
-    ∙ before_due (document_events start d.tree) (length ts) 0 (length ts) (omega arith)
-    ∙ sym (lag form ts more start d.tree told)
+    let told : tokens (document_events start d.0) ≡ ts ++ more = sym d.1 in
+    ap (items_below (length ts)) (sym d.3)
+    ∙ before_due (document_events start d.0) (length ts) 0 (length ts) (omega arith)
+    ∙ sym (lag form ts more start d.0 told)
     ∙ sym (ran_tokens form ts (at_start start) s qs e).given
 
 -- what was given out is due in some document that begins so
@@ -33,11 +33,11 @@ due_ran form start ts s qs e =
 due_of : (form : DocForm) (start : InForce) (ts : List Token) (qs : List Quad) → Due (documents form start) ts qs →
     qs ≡ emits form (in_default start) Start [] ts
 due_of form start ts qs (more, all, d, e) =
-    let told : tokens (document_events start d.tree) ≡ ts ++ more = sym d.tokens in
+    let told : tokens (document_events start d.0) ≡ ts ++ more = sym d.1 in
     sym e
-    ∙ ap (items_below (length ts)) (sym d.quads)
-    ∙ before_due (document_events start d.tree) (length ts) 0 (length ts) (omega arith)
-    ∙ sym (lag form ts more start d.tree told)
+    ∙ ap (items_below (length ts)) (sym d.3)
+    ∙ before_due (document_events start d.0) (length ts) 0 (length ts) (omega arith)
+    ∙ sym (lag form ts more start d.0 told)
 
 -- what is due is settled by the tokens: no document that begins so gives anything else
 pub same_due : (form : DocForm) (start : InForce) (ts : List Token) (qs rs : List Quad) → Due (documents form start) ts qs → Due (documents form start) ts rs →
@@ -56,7 +56,7 @@ tree_events form start d e h =
 -- the tokens settle the quads and their marks
 pub same_quads : (form : DocForm) (start : InForce) (ts : List Token) (qs rs : List Marked) → trees form start ts qs → trees form start ts rs → qs ≡ rs
 same_quads form start ts qs rs a b =
-    sym a.quads ∙ ap (event_quads 0) (tree_events form start a.tree b.tree (sym a.tokens ∙ b.tokens)) ∙ b.quads
+    sym a.2 ∙ ap (event_quads 0) (tree_events form start a.0 b.0 (sym a.1 ∙ b.1)) ∙ b.2
 
 -- all quads of some events
 abbrev quads : List Event → List Quad
@@ -129,7 +129,7 @@ accepted_document form start ts s qs e o =
     let runs : run form (in_default start) Start ts ≡ Some a.events = ap (run form (in_default start) Start) (sym (append-nil ts)) ∙ a.runs in
     let f = read_found form ts (in_default start) a.events runs in (
       event_quads 0 (document_events start f.0),
-      record { tree = f.0; tokens = sym f.2; bound = passing_bound (document_events start f.0) (rw f.1 at a.bound); quads = refl },
+      (f.0, sym f.2, passing_bound (document_events start f.0) (rw f.1 at a.bound), refl),
       sym (document_due form start ts f.0 f.2) ∙ sym r.given,
     )
 
@@ -179,7 +179,7 @@ viable_front form start ts us (more, qs, d) = (us ++ more, qs, subst (λ x. docu
 -- A token that is refused is in no document after those before it, or passes a limit there.
 pub not_both : (form : DocForm) (start : InForce) (ts : List Token) (t : Token) (x : Reason) → Blamed form start x ts t →
     Viable (documents form start) (ts ++ t ∷ []) → (Passes form start ts t → ⊥) → ⊥
-not_both form start ts t Unexpected r v p = let d = v.2 in r (v.0, v.1, record { tree = d.tree; tokens = d.tokens; quads = d.quads })
+not_both form start ts t Unexpected r v p = let d = v.2 in r (v.0, v.1, (d.0, d.1, d.3))
 not_both form start ts t Unbound r v p = Excluded.excluded r.0 v
 not_both form start ts t NoBase r v p = Excluded.excluded r.0 v
 not_both form start ts t TooDeep r v p = p (r.0, r.1, inl r.2)
@@ -232,12 +232,12 @@ document_accepted form start ts ms d p =
     let v : Viable (documents form start) ts = ([], ms, subst (λ x. documents form start x ms) (sym (append-nil ts)) d) in
     let g = viable_goes form start ts v p in
     let r = ran_tokens form ts (at_start start) g.0 g.1 g.2 in
-    let told : tokens (document_events start d.tree) ≡ ts = sym d.tokens in
-    let given : g.1 ≡ unmarked ms = r.given ∙ document_due form start ts d.tree told ∙ ap unmarked d.quads in (
+    let told : tokens (document_events start d.0) ≡ ts = sym d.1 in
+    let given : g.1 ≡ unmarked ms = r.given ∙ document_due form start ts d.0 told ∙ ap unmarked d.3 in (
       g.0,
       g.2 ∙ ap (ran g.0) given,
-      run_over true form ts (in_default start) Start (document_events start d.tree) (place g.0)
-          (run_tree true form d.tree start ts told) r.reached,
+      run_over true form ts (in_default start) Start (document_events start d.0) (place g.0)
+          (run_tree true form d.0 start ts told) r.reached,
     )
 
 -- Tokens that are accepted up to one that is refused are the front of the whole.

@@ -447,6 +447,6 @@ pub held_is_settled : (out : InForce → ℕ) (form : DocForm) (start : InForce)
 held_is_settled out form start ts v =
     let s = viable_reached form start ts v in
     let d = v.2 in
-    let size = held_after (out start) ts (document_held out start d.tree) in
-    let o : HasToHold out form start ts size = record { tree = d.tree; more = v.0; tokens = d.tokens; bound = d.bound; held = refl } in
+    let size = held_after (out start) ts (document_held out start d.0) in
+    let o : HasToHold out form start ts size = record { tree = d.0; more = v.0; tokens = d.1; bound = d.2; held = refl } in
     (size, o, λ other p. held_in_mode out form start ts s.0 other s.1 p ∙ sym (held_in_mode out form start ts s.0 size s.1 o))

@@ -1,5 +1,5 @@
 -- The machine takes some tokens one by one exactly if some document begins with them; names aside, exactly if some tree does.
-use Rattle.rdf_trig.proofs.Prelude.{◌≡◌, Bool, true, false, List, [], ◌∷◌, ◌++◌, Option, Some, None, refl, sym, ap, ◌∙◌, Viable, Shaped, Quad, Token, InForce, leaf_of, DocForm, Document, Setting, in_default, Use, itself, stands, binds, Event, Took, Gave, give, document_events, event_quads, HasIri, Bound, Start, Reply, No, Go, start, waiting, fronted, put, go_on, run, documents, trees}
+use Rattle.rdf_trig.proofs.Prelude.{◌≡◌, Bool, true, false, List, [], ◌∷◌, ◌++◌, Option, Some, None, refl, sym, ap, ◌∙◌, Viable, Quad, Token, InForce, leaf_of, DocForm, Document, Setting, in_default, Use, itself, stands, binds, Event, Took, Gave, give, document_events, event_quads, HasIri, Bound, Start, Reply, No, Go, start, waiting, fronted, put, go_on, run, documents, trees}
 use Rattle.rdf_trig.specs.Events.{tokens}
 use Rattle.rdf_trig.specs.Machine.{Mode, step}
 use Rattle.rdf_trig.proofs.machine.Completeness.{document_good}
@@ -130,19 +130,19 @@ any_passing (Gave q ∷ es) = any_passing es
 -- tokens that begin a run of names that are bound begin a document
 pub begins_viable : (form : DocForm) (start : InForce) (ts : List Token) → Begins true form start ts → Viable (documents form start) ts
 begins_viable form start ts (d, us, e, b) =
-    (us, event_quads 0 (document_events start d), record { tree = d; tokens = sym e; bound = passing_bound (document_events start d) b; quads = refl })
+    (us, event_quads 0 (document_events start d), (d, sym e, passing_bound (document_events start d) b, refl))
 
 -- tokens that begin a document begin a run of names that are bound
 pub viable_begins : (form : DocForm) (start : InForce) (ts : List Token) → Viable (documents form start) ts → Begins true form start ts
-viable_begins form start ts v = let d = v.2 in (d.tree, v.0, sym d.tokens, bound_passing (document_events start d.tree) d.bound)
+viable_begins form start ts v = let d = v.2 in (d.0, v.0, sym d.1, bound_passing (document_events start d.0) d.2)
 
 -- tokens that begin a run begin a tree
-pub begins_shaped : (form : DocForm) (start : InForce) (ts : List Token) → Begins false form start ts → Shaped (trees form start) ts
-begins_shaped form start ts (d, us, e, b) = (us, event_quads 0 (document_events start d), record { tree = d; tokens = sym e; quads = refl })
+pub begins_shaped : (form : DocForm) (start : InForce) (ts : List Token) → Begins false form start ts → Viable (trees form start) ts
+begins_shaped form start ts (d, us, e, b) = (us, event_quads 0 (document_events start d), (d, sym e, refl))
 
 -- tokens that begin a tree begin a run, names aside
-pub shaped_begins : (form : DocForm) (start : InForce) (ts : List Token) → Shaped (trees form start) ts → Begins false form start ts
-shaped_begins form start ts v = let d = v.2 in (d.tree, v.0, sym d.tokens, any_passing (document_events start d.tree))
+pub shaped_begins : (form : DocForm) (start : InForce) (ts : List Token) → Viable (trees form start) ts → Begins false form start ts
+shaped_begins form start ts v = let d = v.2 in (d.0, v.0, sym d.1, any_passing (document_events start d.0))
 
 -- tokens that the machine takes begin a document
 pub reached_viable : (form : DocForm) (start : InForce) (ts : List Token) (s : Stand) → reach true form (in_default start) Start ts ≡ Some s →
@@ -156,11 +156,11 @@ viable_reached form start ts v = begins_reached true form ts start (viable_begin
 
 -- tokens that it takes, names aside, begin a tree
 pub reached_shaped : (form : DocForm) (start : InForce) (ts : List Token) (s : Stand) → reach false form (in_default start) Start ts ≡ Some s →
-    Shaped (trees form start) ts
+    Viable (trees form start) ts
 reached_shaped form start ts s e = begins_shaped form start ts (reached_begins false form ts start s e)
 
 -- tokens that begin a tree are taken, names aside
-pub shaped_reached : (form : DocForm) (start : InForce) (ts : List Token) → Shaped (trees form start) ts →
+pub shaped_reached : (form : DocForm) (start : InForce) (ts : List Token) → Viable (trees form start) ts →
     (s : Stand) × (reach false form (in_default start) Start ts ≡ Some s)
 shaped_reached form start ts v = begins_reached false form ts start (shaped_begins form start ts v)
 
@@ -226,13 +226,13 @@ not_viable form ts t start s e n v = not_begins true form ts t start s e n (viab
 -- a token that the grammar refuses begins no tree
 pub not_shaped : (form : DocForm) (ts : List Token) (t : Token) (start : InForce) (s : Stand) → reach false form (in_default start) Start ts ≡ Some s →
     step_on false form s t ≡ None →
-    Shaped (trees form start) (ts ++ t ∷ []) → ⊥
+    Viable (trees form start) (ts ++ t ∷ []) → ⊥
 not_shaped form ts t start s e n v = not_begins false form ts t start s e n (shaped_begins form start (ts ++ t ∷ []) v)
 
 -- A token that no state takes here begins no tree with those before it.
 pub unexpected : (form : DocForm) (start : InForce) (ts : List Token) (t : Token) (s : Stand) → reach true form (in_default start) Start ts ≡ Some s →
     step form s.setting s.mode t.kind (leaf_of t) ≡ No →
-    Viable (documents form start) ts × (Shaped (trees form start) (ts ++ t ∷ []) → ⊥)
+    Viable (documents form start) ts × (Viable (trees form start) (ts ++ t ∷ []) → ⊥)
 unexpected form start ts t s e n = (
   reached_viable form start ts s e,
   not_shaped form ts t start s (lax form ts (in_default start) Start s e)
@@ -243,7 +243,7 @@ unexpected form start ts t s e n = (
 pub nameless : (form : DocForm) (start : InForce) (ts : List Token) (t : Token) (s : Stand) (u : Use) (early now : Option Quad) (c : Setting) (m : Mode) →
     reach true form (in_default start) Start ts ≡ Some s →
     step form s.setting s.mode t.kind (leaf_of t) ≡ Go u early now c m → has_iri u ≡ false →
-    Viable (documents form start) ts × Shaped (trees form start) (ts ++ t ∷ []) × (Viable (documents form start) (ts ++ t ∷ []) → ⊥)
+    Viable (documents form start) ts × Viable (trees form start) (ts ++ t ∷ []) × (Viable (documents form start) (ts ++ t ∷ []) → ⊥)
 nameless form start ts t s u early now c m e n h = (
   reached_viable form start ts s e,
   reached_shaped form start (ts ++ t ∷ []) (stand c m)

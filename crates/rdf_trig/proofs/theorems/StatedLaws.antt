@@ -60,7 +60,7 @@ pub due_front : (form : DocForm) (start : InForce) (ts more : List Token) (qs : 
     documents form start (ts ++ more) all →
     (rest : List Quad) × (unmarked all ≡ qs ++ rest)
 due_front form start ts more qs all w d =
-    let r = subst (Rises 0) d.quads (never_fall form start d.tree) in
+    let r = subst (Rises 0) d.3 (never_fall form start d.0) in
     let f = front_below all 0 (length ts) r in
     let e : items_below (length ts) all ≡ qs = same_due form start ts (items_below (length ts) all) qs (more, all, d, refl) w in
     (f.0, f.1 ∙ ap (λ x. x ++ f.0) e)

@@ -69,7 +69,7 @@ bound_reached form (t ∷ ts) us c m es r b = by (step form c m t.kind (leaf_of 
 -- the law of viable tokens, for all tokens at once
 pub viable_bound : (form : DocForm) (start : InForce) (ts : List Token) → ViableWhereBound form start ts
 viable_bound form start ts = record {
-  bound = λ v. let d = v.2 in record { tree = d.tree; more = v.0; tokens = d.tokens; bound = every v d.tree v.0 d.tokens };
+  bound = λ v. let d = v.2 in record { tree = d.0; more = v.0; tokens = d.1; bound = every v d.0 v.0 d.1 };
   viable = λ b.
       let r = run_tree true form b.tree start (ts ++ b.more) (sym b.tokens) in
       let s = bound_reached form ts b.more (in_default start) Start (document_events start b.tree) r b.bound in

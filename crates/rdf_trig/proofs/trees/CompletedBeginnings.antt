@@ -1,5 +1,5 @@
 -- What begins a document is completed to one by a few fixed tokens.
-use Rattle.rdf_trig.proofs.Prelude.{◌≡◌, Bool, true, false, List, [], ◌∷◌, ◌++◌, Some, refl, sym, All, Viable, Shaped, Token, InForce, DocForm, Document, in_default, document_events, event_quads, Top, InBlock, Listed, InCollection, Around, Statement, InPropertyList, Up, At, Dotted, Sparql, Start, Over, WantPrefix, WantPrefixIri, WantBaseIri, WantDot, AfterLabel, GraphWord, GraphBracket, WantBrace, Inside, Want, After, AfterText, WantType, PropertyListStart, CollectionStart, WantVerb, AfterSemicolon, AfterPropertyList, start, documents, trees, IsClosing, CompletedBy}
+use Rattle.rdf_trig.proofs.Prelude.{◌≡◌, Bool, true, false, List, [], ◌∷◌, ◌++◌, Some, refl, sym, All, Viable, Token, InForce, DocForm, Document, in_default, document_events, event_quads, Top, InBlock, Listed, InCollection, Around, Statement, InPropertyList, Up, At, Dotted, Sparql, Start, Over, WantPrefix, WantPrefixIri, WantBaseIri, WantDot, AfterLabel, GraphWord, GraphBracket, WantBrace, Inside, Want, After, AfterText, WantType, PropertyListStart, CollectionStart, WantVerb, AfterSemicolon, AfterPropertyList, start, documents, trees, IsClosing, CompletedBy}
 use Rattle.std.proofs.lemmas.List.Elements.{All-nil, All-cons}
 use Rattle.rdf_trig.specs.Events.{tokens}
 use Rattle.rdf_trig.specs.Machine.{Level, Place, Subject, Spelling, Mode}
@@ -97,7 +97,7 @@ whole strict form start ts s e =
 
 -- the law of completed beginnings, for documents and for trees
 pub completed : (form : DocForm) (start : InForce) (ts : List Token) →
-    (Viable (documents form start) ts → CompletedBy (documents form start) ts) × (Shaped (trees form start) ts → CompletedBy (trees form start) ts)
+    (Viable (documents form start) ts → CompletedBy (documents form start) ts) × (Viable (trees form start) ts → CompletedBy (trees form start) ts)
 completed form start ts = (by_document, by_tree)
   where
     by_document : Viable (documents form start) ts → CompletedBy (documents form start) ts
@@ -107,15 +107,15 @@ completed form start ts = (by_document, by_tree)
           close (Stand.mode s.0),
           event_quads 0 (document_events start w.tree),
           all_closing (close (Stand.mode s.0)) (closing (Stand.mode s.0)),
-          record { tree = w.tree; tokens = sym w.told; bound = passing_bound (document_events start w.tree) w.passing; quads = refl },
+          (w.tree, sym w.told, passing_bound (document_events start w.tree) w.passing, refl),
         )
 
-    by_tree : Shaped (trees form start) ts → CompletedBy (trees form start) ts
+    by_tree : Viable (trees form start) ts → CompletedBy (trees form start) ts
     by_tree v =
         let s = shaped_reached form start ts v in
         let w = whole false form start ts s.0 s.1 in (
           close (Stand.mode s.0),
           event_quads 0 (document_events start w.tree),
           all_closing (close (Stand.mode s.0)) (closing (Stand.mode s.0)),
-          record { tree = w.tree; tokens = sym w.told; quads = refl },
+          (w.tree, sym w.told, refl),
         )

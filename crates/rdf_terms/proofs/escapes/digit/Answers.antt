@@ -1,5 +1,5 @@
 use Rattle.rdf_terms.proofs.Prelude.{subst, sym, ◌≤◌}
-use Rattle.rdf_terms.proofs.FourDigits.{digit_most, table_digit}
+use Rattle.rdf_terms.proofs.CodeTables.{digit_most, table_digit}
 use Rattle.rdf_terms.proofs.escapes.digit.Goals as goal
 
 pub returns-clause-value : goal.returns-clause-value

@@ -1,5 +1,5 @@
 use Rattle.rdf_terms.proofs.Prelude.{◌+◌, get_or, arith}
-use Rattle.rdf_terms.proofs.FourDigits.{digit_told, digit_value}
+use Rattle.rdf_terms.proofs.CodeTables.{digit_told, digit_value}
 use Rattle.rdf_terms.proofs.UcharLemmas.{four_pass, four_written}
 use Rattle.rdf_terms.proofs.escapes.four_digits.Goals as goal
 

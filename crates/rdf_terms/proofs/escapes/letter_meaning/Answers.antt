@@ -1,4 +1,4 @@
-use Rattle.rdf_terms.proofs.FourDigits.{letter_told}
+use Rattle.rdf_terms.proofs.CodeTables.{letter_told}
 use Rattle.rdf_terms.proofs.escapes.letter_meaning.Goals as goal
 
 pub returns-else-meaning-eq0-clause-is : goal.returns-else-meaning-eq0-clause-is
