@@ -8,12 +8,12 @@ use Rattle.clap.specs.Words.{Text}
 use Rattle.rdf_command.specs.Words.{IsBase}
 
 -- a byte that an address has as it is: an unreserved character of RFC 3986 section 2.3, or the slash
-abbrev pub is_plain : ℕ → Bool
-is_plain byte = is_ascii_alphanumeric byte || byte == code "-" || byte == code "." || byte == code "_" || byte == code "~" || byte == code "/"
+abbrev pub is_path_byte : ℕ → Bool
+is_path_byte byte = is_ascii_alphanumeric byte || byte == code "-" || byte == code "." || byte == code "_" || byte == code "~" || byte == code "/"
 
 -- a byte of a path as an address has it: as it is, or as a percent sign and two hex digits in capitals
 abbrev pub in_address : ℕ → List ℕ
-in_address byte = cond (is_plain byte) (byte ∷ []) (code "%" ∷ digit_glyph true (byte / 16) ∷ digit_glyph true (byte % 16) ∷ [])
+in_address byte = cond (is_path_byte byte) (byte ∷ []) (code "%" ∷ digit_glyph true (byte / 16) ∷ digit_glyph true (byte % 16) ∷ [])
 
 -- whether a name begins with a slash
 abbrev pub is_absolute : Text → Bool

@@ -5,7 +5,7 @@ ghost use Rattle.std.specs.Fmt.{digit_glyph};
 ghost use Rattle.std.specs.Result.{IsErrOf};
 ghost use Rattle.rdf_iri.specs.Texts.{byte_len};
 ghost use Rattle.rdf_command.specs.Addresses.{HasNoAddress, IsAddress, address_of, in_address, in_folder, is_absolute};
-ghost use Rattle.rdf_command.specs.Addresses.{is_plain, path_of};
+ghost use Rattle.rdf_command.specs.Addresses.{is_path_byte, path_of};
 
 use crate::commands::iri_within;
 use rdf_stream::{Iri, TermFault};
@@ -94,7 +94,7 @@ fn put_path(path: &str, text: &mut String) -> Result<(), AllocError>
 fn put_byte(byte: u8, text: &mut String) -> Result<(), AllocError>
     ensures { OnOk result (string_bytes text.new ≡ string_bytes text.old ++ in_address byte) }
 {
-    if is_plain(byte) {
+    if is_path_byte(byte) {
         return text.push(byte as char);
     }
     text.push('%')?;
@@ -102,8 +102,8 @@ fn put_byte(byte: u8, text: &mut String) -> Result<(), AllocError>
     text.push(hex_digit(byte % 16))
 }
 
-fn is_plain(byte: u8) -> bool
-    ensures value { result ≡ is_plain byte }
+fn is_path_byte(byte: u8) -> bool
+    ensures value { result ≡ is_path_byte byte }
     ensures ascii { result ≡ true → byte < 128 }
 {
     byte.is_ascii_alphanumeric() || matches!(byte, b'-' | b'.' | b'_' | b'~' | b'/')

@@ -89,9 +89,9 @@ no_mark mark bytes l u e = by (after mark (chars bytes)) (e ∙ (ap (after mark)
     by (Some w) e = absurd (cc)
 
 -- a text that is cut at its space into a name and an IRI is in the form of these files
-pub is_plain : (bytes name prefix iri : List ℕ) → IsUtf8 bytes → name ≡ before 32 bytes → Some iri ≡ after 32 bytes → name ≡ prefix ++ 58 ∷ [] →
+pub line_is_plain : (bytes name prefix iri : List ℕ) → IsUtf8 bytes → name ≡ before 32 bytes → Some iri ≡ after 32 bytes → name ≡ prefix ++ 58 ∷ [] →
     Shape Turtle PnameNs (chars name) → IsIri (chars iri) → IsIn IsPlain (chars bytes) (chars prefix) (chars iri)
-is_plain bytes name prefix iri u e f g m i =
+line_is_plain bytes name prefix iri u e f g m i =
     let a = at_mark 32 bytes name iri (omega arith) u e f in
     let b = before_last name prefix 58 utf8_colon chars_colon a.utf8.0 g in
     record {

@@ -3,7 +3,7 @@ use Rattle.rdf_tokens.proofs.Prelude.{◌≡◌, ℕ, zero, suc, ◌+◌, ◌-�
 use Rattle.rdf_terms.specs.Classes.{is_letter}
 use Rattle.rdf_terms.specs.Terms.{all_have}
 use Rattle.rdf_terms.proofs.EscapesLemmas.{slice_passes}
-use Rattle.rdf_tokens.specs.Peek.{is_plain}
+use Rattle.rdf_tokens.specs.Peek.{is_running}
 use Rattle.rdf_tokens.specs.Quick.{IsToken}
 use Rattle.rdf_tokens.specs.Scans.{left}
 use Rattle.rdf_tokens.specs.Tokens.{step}
@@ -138,7 +138,7 @@ record IsPlain (v : Unread) : Type 0 where
   running : v.stopped ≡ false
   outside : v.comment ≡ false
 
-plain_is : (v : Unread) → is_plain v ≡ true → IsPlain v
+plain_is : (v : Unread) → is_running v ≡ true → IsPlain v
 plain_is v e =
     let p = and_parts (is_turtle v.dialect) _ e in
     let q = and_parts v.begun _ p.1 in
@@ -261,11 +261,11 @@ module _ (v mid : Unread) (p : Peeked) (s : IsPeeked v p) (h : MovesBytes v p.bl
       }
 
 -- where tokens are given, the document has begun
-pub plain_begun : (v : Unread) → is_plain v ≡ true → v.begun ≡ true
+pub plain_begun : (v : Unread) → is_running v ≡ true → v.begun ≡ true
 plain_begun v p = (plain_is v p).begun
 
 -- what may be seen, by the bytes of the text
-pub may_see : (v : Unread) (bs : List ℕ) → IsUtf8 bs → chars bs ≡ v.text → BeginsChar v.pending → is_plain v ≡ true → length bs ≤ v.limit → MayPeek v
+pub may_see : (v : Unread) (bs : List ℕ) → IsUtf8 bs → chars bs ≡ v.text → BeginsChar v.pending → is_running v ≡ true → length bs ≤ v.limit → MayPeek v
 may_see v bs u e b p l =
     record { plain = p; begins = b; short = subst (λ n. n ≤ v.limit) (ap length (sym (encodes-chars bs u)) ∙ ap (λ w. length (encode_utf8_all w)) e) l }
 

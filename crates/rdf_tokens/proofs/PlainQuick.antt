@@ -7,7 +7,7 @@ use Rattle.rdf_tokens.specs.declared.states.label.Label.TheVariants as label
 use Rattle.rdf_tokens.specs.declared.states.text.Text.TheVariants as text
 use Rattle.rdf_tokens.specs.declared.states.text.Quote.TheVariants.{Double}
 use Rattle.rdf_tokens.specs.Machine.{step, kind_at}
-use Rattle.rdf_tokens.specs.Quick.{IsToken, is_plain}
+use Rattle.rdf_tokens.specs.Quick.{IsToken, is_short_ascii}
 use Rattle.rdf_tokens.proofs.ByteLemmas.{at-start, ascii_first}
 use Rattle.rdf_tokens.proofs.FitEscapes.{fits_byte, fits_iri_run, fits_none, fits_run, fits-more, fits-value, short_slash}
 use Rattle.rdf_tokens.proofs.NoNamesLemmas.{implied, no_long, one_on}
@@ -127,7 +127,7 @@ no_string-state s e = absurd (false≢true e)
 
 -- each byte of ASCII: one that stands in strings leads into the string after its quote
 abbrev string_tests : Dialect → Quote → ℕ → Bool
-string_tests d q c = not (is_plain q c) || at_short q (step d (Text (text.Opened q)) c)
+string_tests d q c = not (is_short_ascii q c) || at_short q (step d (Text (text.Opened q)) c)
 
 -- and one that is not the quote leads out of the empty string
 abbrev empty_tests : Dialect → Quote → ℕ → Bool
@@ -141,8 +141,8 @@ string_all Turtle Double = (refl, refl)
 string_all Turtle Single = (refl, refl)
 
 -- the step of a byte that stands in strings
-string-first : (d : Dialect) (q : Quote) (c : ℕ) → c < 128 → is_plain q c ≡ true → step d (Text (text.Opened q)) c ≡ Text (text.Short q)
-string-first d q c l e = short-state q _ (implied (is_plain q c) _ (agree_below_at (string_tests d q) (λ c. true) 128 c (string_all d q).0 l) e)
+string-first : (d : Dialect) (q : Quote) (c : ℕ) → c < 128 → is_short_ascii q c ≡ true → step d (Text (text.Opened q)) c ≡ Text (text.Short q)
+string-first d q c l e = short-state q _ (implied (is_short_ascii q c) _ (agree_below_at (string_tests d q) (λ c. true) 128 c (string_all d q).0 l) e)
 
 -- that of a byte after two quotes that is not a third
 empty-last : (d : Dialect) (q : Quote) (c : ℕ) → c < 128 → (c == quote_byte q) ≡ false → step d (Text (text.Empty q)) c ≡ Text text.Dead
@@ -179,18 +179,18 @@ low_quote Double = omega arith
 low_quote Single = omega arith
 
 -- a byte of ASCII that stands in strings in this quote is ASCII, no backslash, and not the quote
-plain_byte : (c : ℕ) (q : Quote) → is_plain q c ≡ true → (c < 128) × (is_unescaped c ≡ true) × ((c == quote_byte q) ≡ false)
+plain_byte : (c : ℕ) (q : Quote) → is_short_ascii q c ≡ true → (c < 128) × (is_unescaped c ≡ true) × ((c == quote_byte q) ≡ false)
 plain_byte c q e = (low q c e, no_slash q c e, no_quote q c e)
   where
-    low : (q : Quote) (c : ℕ) → is_plain q c ≡ true → c < 128
+    low : (q : Quote) (c : ℕ) → is_short_ascii q c ≡ true → c < 128
     low Double c e = grind (arith, nat_tests)
     low Single c e = grind (arith, nat_tests)
 
-    no_slash : (q : Quote) (c : ℕ) → is_plain q c ≡ true → is_unescaped c ≡ true
+    no_slash : (q : Quote) (c : ℕ) → is_short_ascii q c ≡ true → is_unescaped c ≡ true
     no_slash Double c e = grind (arith, nat_tests)
     no_slash Single c e = grind (arith, nat_tests)
 
-    no_quote : (q : Quote) (c : ℕ) → is_plain q c ≡ true → (c == quote_byte q) ≡ false
+    no_quote : (q : Quote) (c : ℕ) → is_short_ascii q c ≡ true → (c == quote_byte q) ≡ false
     no_quote Double c e = grind (arith, nat_tests)
     no_quote Single c e = grind (arith, nat_tests)
 

@@ -98,10 +98,10 @@ goes_on d Dead = false
 goes_on d s = true
 
 -- the sorts of which a run leaves the state as it is, within a prefix and within a local name
-abbrev pub is_plain : Sort → Bool
-is_plain sort.Digit = true
-is_plain sort.HexLetter = true
-is_plain sort.Letter = true
-is_plain sort.Underscore = true
-is_plain sort.Hyphen = true
-is_plain x = false
+abbrev pub is_name_sort : Sort → Bool
+is_name_sort sort.Digit = true
+is_name_sort sort.HexLetter = true
+is_name_sort sort.Letter = true
+is_name_sort sort.Underscore = true
+is_name_sort sort.Hyphen = true
+is_name_sort x = false

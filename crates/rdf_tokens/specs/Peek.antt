@@ -64,12 +64,12 @@ pub record IsSeen (bs : List ℕ) (p : Peeked) : Type 0 where
   pub colon : KnowsColon (take p.len (drop p.blank bs)) p.colon
 
 -- tokens of Turtle are given, and no comment is open
-abbrev pub is_plain : Unread → Bool
-is_plain v = is_turtle v.dialect && (v.begun && (not v.stopped && not v.comment))
+abbrev pub is_running : Unread → Bool
+is_running v = is_turtle v.dialect && (v.begun && (not v.stopped && not v.comment))
 
 -- It is so, the bytes after the text begin a character, or are none, and no token of the text is longer than the limit.
 pub record MayPeek (v : Unread) : Type 0 where
-  pub plain : is_plain v ≡ true
+  pub plain : is_running v ≡ true
   pub begins : BeginsChar v.pending
   pub short : length (encode_utf8_all v.text) ≤ v.limit
 

@@ -191,12 +191,12 @@ long_run Double = LongQuoteText
 long_run Single = LongSingleQuoteText
 
 -- a byte of ASCII that stands in strings in this quote as it is
-abbrev pub is_plain : Quote → ℕ → Bool
-is_plain q b = is_short_byte (quote_byte q) b && is_ascii_byte b
+abbrev pub is_short_ascii : Quote → ℕ → Bool
+is_short_ascii q b = is_short_byte (quote_byte q) b && is_ascii_byte b
 
 -- such a byte comes second
 abbrev pub begins_string : Quote → List ℕ → Bool
-begins_string q bs = nat_lt 1 (length bs) && is_plain q (get_or bs 1 0)
+begins_string q bs = nat_lt 1 (length bs) && is_short_ascii q (get_or bs 1 0)
 
 -- the quote comes second too, and another byte of ASCII third
 abbrev pub is_empty_string : Quote → List ℕ → Bool

@@ -147,7 +147,7 @@ fn seen(blank: usize, text: &str, no_names: &Option<NoNames>) -> Option<Peeked>
         b'(' => seen_byte(blank, text, Kind::OpenParen),
         b')' => seen_byte(blank, text, Kind::CloseParen),
         b'}' => seen_byte(blank, text, Kind::CloseBrace),
-        b'<' => seen_as(Kind::IriRef, blank, iri_len(text)),
+        b'<' => seen_as(Kind::IriRef, blank, seen_iri_len(text)),
         b'_' => seen_as(Kind::LabelNode, blank, label_len(text)),
         b'"' => seen_string(blank, text),
         b'0'..=b'9' => seen_number(blank, text),
@@ -343,7 +343,7 @@ fn seen_string(blank: usize, text: &str) -> Option<Peeked>
     requires { opens_with Turtle Double text.now ≡ true }
     ensures { Sees text.now blank result }
 {
-    match string_len(text) {
+    match seen_string_len(text) {
         Some(len) => seen_as(Kind::ShortString, blank, Some(len)),
         None => seen_as(Kind::LongString, blank, long_len(text)),
     }
@@ -379,7 +379,7 @@ fn seen_plain(kind: Kind, blank: usize, len: usize) -> Option<Peeked>
 // inlined. A number goes back in a register.
 
 /// The length of a reference in angle brackets without an escape.
-fn iri_len(text: &str) -> Option<usize>
+fn seen_iri_len(text: &str) -> Option<usize>
     requires { begins_iri text.now ≡ true }
     ensures { IfSome result (λ n. IsToken Turtle text.now n IriRef) }
 {
@@ -406,7 +406,7 @@ fn label_len(text: &str) -> Option<usize>
 }
 
 /// The length of a string in double quotes that is not empty.
-fn string_len(text: &str) -> Option<usize>
+fn seen_string_len(text: &str) -> Option<usize>
     requires { opens_with Turtle Double text.now ≡ true }
     ensures { IfSome result (λ n. IsToken Turtle text.now n ShortString) }
 {

@@ -17,7 +17,7 @@ ghost use Rattle.rdf_tokens.specs.Quick.{begins_label, begins_label_name};
 ghost use Rattle.rdf_tokens.specs.Quick.{begins_tag, begins_directive, is_part_byte, is_tag_end, IsLaterPart, IsTagTo};
 ghost use Rattle.rdf_tokens.specs.Quick.{are_carets};
 ghost use Rattle.rdf_tokens.specs.Escapes.{FitsInString};
-ghost use Rattle.rdf_tokens.specs.Quick.{is_over, is_last, ends_local, RestsInLong, is_plain, long_run, stands_thrice};
+ghost use Rattle.rdf_tokens.specs.Quick.{is_over, is_last, ends_local, RestsInLong, is_short_ascii, long_run, stands_thrice};
 ghost use Rattle.rdf_terms.specs.Runs.{IsRun, is_name_byte};
 
 use crate::escapes::{escape_end, short_run};
@@ -176,7 +176,7 @@ pub(crate) fn opens_with(dialect: Dialect, quote: Quote, bytes: &[u8]) -> bool
 pub(crate) fn begins_string(quote: Quote, bytes: &[u8]) -> bool
     ensures { result ≡ begins_string quote bytes.now }
 {
-    bytes.len() > 1 && is_plain(quote, bytes[1])
+    bytes.len() > 1 && is_short_ascii(quote, bytes[1])
 }
 
 /// Whether the same quote comes second, and another byte of ASCII third.
@@ -189,8 +189,8 @@ fn is_empty_string(quote: Quote, bytes: &[u8]) -> bool
 }
 
 #[inline(always)]
-fn is_plain(quote: Quote, byte: u8) -> bool
-    ensures { result ≡ is_plain quote byte }
+fn is_short_ascii(quote: Quote, byte: u8) -> bool
+    ensures { result ≡ is_short_ascii quote byte }
 {
     byte < 128 && byte != quote_byte(quote) && !matches!(byte, b'\\' | b'\n' | b'\r')
 }

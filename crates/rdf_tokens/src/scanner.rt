@@ -18,7 +18,7 @@ ghost use Rattle.rdf_tokens.specs.Moves.{closed, grown, good_bytes, is_broken, r
 ghost use Rattle.rdf_tokens.specs.Moves.{fault_place, is_flat, GivesEnd, GivesWithColon, Moves, MovesBytes, Stands};
 ghost use Rattle.rdf_tokens.specs.Passing.{is_idle, passed};
 ghost use Rattle.rdf_tokens.specs.Front.{bytes_of};
-ghost use Rattle.rdf_tokens.specs.Peek.{IsPeeked, MayPeek, TakesSeen, is_plain};
+ghost use Rattle.rdf_tokens.specs.Peek.{IsPeeked, MayPeek, TakesSeen, is_running};
 
 use crate::blank::{blank_run, indented, is_in_comment, is_one};
 use crate::front::{NoNames, Walk};
@@ -210,7 +210,7 @@ impl<A: Allocator + Copy> Scanner<A> {
     pub fn may_peek(&self) -> bool
         ensures { result ≡ true → MayPeek self.now }
     {
-        if !self.is_plain() {
+        if !self.is_running() {
             return false;
         }
         self.walk.is_none() && self.rest().len() as u64 <= self.limit
@@ -308,8 +308,8 @@ impl<A: Allocator + Copy> Scanner<A> {
 
     // Whether tokens of Turtle are given, and no comment is open.
     #[inline(always)]
-    fn is_plain(&self) -> bool
-        ensures { result ≡ is_plain self.now }
+    fn is_running(&self) -> bool
+        ensures { result ≡ is_running self.now }
     {
         self.dialect == Dialect::Turtle && self.begun && !self.stopped && !self.comment
     }
@@ -356,10 +356,10 @@ impl<A: Allocator + Copy> Scanner<A> {
     fn is_idle(&self) -> bool
         ensures { result ≡ is_idle self.now }
     {
-        !self.is_held() && self.begun && self.has_no_text() && self.pending.is_empty()
+        !self.is_closed() && self.begun && self.has_no_text() && self.pending.is_empty()
     }
 
-    fn is_held(&self) -> bool
+    fn is_closed(&self) -> bool
         ensures { result ≡ (self.now.stopped || self.now.ended || self.now.broken || self.now.comment) }
     {
         self.stopped || self.ended || self.broken || self.comment

@@ -16,7 +16,7 @@ use crate::form::{Style, WrittenForm};
 use crate::writer::characters::place_characters;
 use crate::writer::digits::place_digits;
 use crate::writer::room::{FEW_ROOM, are_few};
-use crate::writer::term::is_plain;
+use crate::writer::term::is_xsd_string;
 use rdf_terms::place::{place_byte, place_text, place_two};
 use rdf_terms::{
     IriView, LabelView, LiteralRef, NodeRef, QuadRef, SubjectRef, TagView, TailRef, TermRef,
@@ -318,7 +318,12 @@ pub fn place_tail(slot: &mut [u8], at: usize, tail: TailRef<'_>) -> usize
 {
     match tail {
         TailRef::Lang(tag) => place_tag(slot, at, tag),
-        TailRef::Typed(datatype) => place_type(slot, at, is_plain(datatype.as_bytes()), datatype),
+        TailRef::Typed(datatype) => place_type(
+            slot,
+            at,
+            is_xsd_string(datatype.as_bytes()),
+            datatype,
+        ),
     }
 }
 

@@ -145,13 +145,18 @@ fn put_tail<A: Allocator + Copy>(
 {
     match tail {
         TailRef::Lang(tag) => put_two("@", tag.as_str(), out),
-        TailRef::Typed(datatype) => put_type(is_plain(datatype.as_bytes()), datatype, escapes, out),
+        TailRef::Typed(datatype) => put_type(
+            is_xsd_string(datatype.as_bytes()),
+            datatype,
+            escapes,
+            out,
+        ),
     }
 }
 
 /// Whether a datatype is xsd:string, which is not written.
 #[inline(always)]
-pub fn is_plain(datatype: &[u8]) -> bool
+pub fn is_xsd_string(datatype: &[u8]) -> bool
     ensures { result ≡ bytes_eq datatype.now xsd_string }
 {
     if datatype.len() != STRING_LEN {

@@ -1,6 +1,6 @@
 -- A line is in the form of these files exactly where it has a prefix with its colon, a space and an absolute IRI.
 use Rattle.rdf_iri.proofs.Prelude.{◌∙◌, ap, sym, false≢true, text_of}
-use Rattle.rdf_iri.proofs.BindingLemmas.{is_plain, no_plain_without_space, plain_name, plain_iri}
+use Rattle.rdf_iri.proofs.BindingLemmas.{line_is_plain, no_plain_without_space, plain_name, plain_iri}
 use Rattle.rdf_iri.proofs.binding_lines.plain.Goals as goal
 use Rattle.rdf_iri.proofs.binding_lines.plain.Goals.{else-is_pname_ns-via-then-is_pname_ns+then-iri_text+else-has_scheme, else-is_pname_ns-via-then-is_pname_ns+else-iri_text, else-is_pname_ns-via-else-is_pname_ns}
 
@@ -9,7 +9,7 @@ without_colon-requires c = c.is_pname_ns.ensures.0 c.if-is_pname_ns.true
 
 pub returns-then-has_scheme : goal.returns-then-has_scheme
 returns-then-has_scheme c =
-    is_plain c.args.text.now c.cut.result.0.now c.without_colon.result.now c.in-Some.iri.now c.utf8.text c.cut.ensures.front
+    line_is_plain c.args.text.now c.cut.result.0.now c.without_colon.result.now c.in-Some.iri.now c.utf8.text c.cut.ensures.front
     (sym (ap text_of c.in-Some.is) ∙ c.cut.ensures.rest)
     c.without_colon.ensures (c.is_pname_ns.ensures.0 c.if-is_pname_ns.true)
     (record { characters = sym c.iri_text.ensures ∙ c.if-iri_text.true; scheme = sym c.has_scheme.ensures ∙ c.if-has_scheme.true })

@@ -12,7 +12,7 @@ pub returns-in-Typed-clause-written : goal.returns-in-Typed-clause-written
 returns-in-Typed-clause-written g c =
     let e = c.args.escapes in
     let text = c.in-Typed.datatype.text.now in
-    let plain : c.is_plain.result ≡ bytes_eq (chars text) xsd_string =
-    c.is_plain.ensures ∙ (ap (λ x. bytes_eq x xsd_string) c.as_bytes.ensures ∙ sym (same_type text (IsUtf8-had _ c.in-Typed.datatype.utf8))) in
+    let plain : c.is_xsd_string.result ≡ bytes_eq (chars text) xsd_string =
+    c.is_xsd_string.ensures ∙ (ap (λ x. bytes_eq x xsd_string) c.as_bytes.ensures ∙ sym (same_type text (IsUtf8-had _ c.in-Typed.datatype.utf8))) in
     let same = ap (λ b. encode_utf8_all (type_text e b (chars text))) plain in
     on_ok c.put_type.result (λ h. h ∙ ap (λ x. c.args.out.now.items ++ x) (same ∙ sym (ap (tail_bytes e) c.in-Typed.is))) c.put_type.ensures.written

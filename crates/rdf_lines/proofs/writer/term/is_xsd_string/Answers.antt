@@ -1,7 +1,7 @@
 -- The three parts are all of it.
 use Rattle.rdf_lines.proofs.Prelude.{◌≡◌, ◌&&◌, ◌∙◌, length, take, drop, ap, arith, bytes_eq, xsd_string}
 use Rattle.rdf_lines.proofs.PlainTypeLemmas.{string_by}
-use Rattle.rdf_lines.proofs.writer.term.is_plain.Goals as goal
+use Rattle.rdf_lines.proofs.writer.term.is_xsd_string.Goals as goal
 
 pub returns : goal.returns
 returns c =

@@ -2,7 +2,7 @@
 use Rattle.rdf_tokens.proofs.Prelude.{◌≡◌, ◌+◌, ◌∙◌, true, sym, subst, IsUtf8, Turtle, IriRef, begins_iri}
 use Rattle.rdf_tokens.specs.Quick.{IsToken}
 use Rattle.rdf_tokens.proofs.PlainQuick.{quick_iri}
-use Rattle.rdf_tokens.proofs.peek.iri_len.Goals as goal
+use Rattle.rdf_tokens.proofs.peek.seen_iri_len.Goals as goal
 
 pub returns-then-stands_at : goal.returns-then-stands_at
 returns-then-stands_at c =

@@ -3,7 +3,7 @@ use Rattle.rdf_tokens.proofs.Prelude.{◌≡◌, ◌+◌, ◌∙◌, true, sym, 
 use Rattle.rdf_tokens.specs.declared.states.text.Quote.TheVariants.{Double}
 use Rattle.rdf_tokens.specs.Quick.{IsToken}
 use Rattle.rdf_tokens.proofs.StringLemmas.{run_string}
-use Rattle.rdf_tokens.proofs.peek.string_len.Goals as goal
+use Rattle.rdf_tokens.proofs.peek.seen_string_len.Goals as goal
 
 pub returns-then-stands_at : goal.returns-then-stands_at
 returns-then-stands_at c =
