@@ -112,7 +112,7 @@ class Definitions:
         return None
 
     def reason(self, token, use, limits, ahead):
-        """Why the token is refused that stands for this, the last of some tokens (`IsUnbound`, `IsBaseless`, `IsDeep`, `IsLong`, `IsOneMore`)."""
+        """Why the token is refused that stands for this, the last of some tokens (`Blamed`, `IsDeep`, `IsLong`, `IsOneMore`)."""
         if use.args and use.args[-1] == NONE:
             return 'no base' if token['kind'].name == 'IriRef' else 'unbound prefix'
         if self.opens(token['kind']) == 1 and limits['depth'] < self.open_in(ahead):
