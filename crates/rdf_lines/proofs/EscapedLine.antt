@@ -1,7 +1,8 @@
 -- Lines whose strings and IRIs may have any escapes are read.
-use Rattle.rdf_lines.proofs.Prelude.{◌≡◌, ℕ, ◌+◌, ◌≤◌, true, false, List, [], ◌∷◌, ◌++◌, refl, sym, ap, ◌∙◌, subst, Option, Some, None, length, is_some, arith, length-append, option_map, unwrap_or, encode_utf8_all, chars, chars-encodes, length-le-encodes, scalars-chars, encodes, scalars, Lines, Kind, IriRef, LabelNode, ShortString, LangTag, Carets, Dot, Matches, any_shape, kinds, is_live, is_fit, iri_value, string_value, IsSubject, IsTail, IsTerm, IsGraph, Label, Anon, Cell, Lang, Typed, Subject, Blank, Term, Resource, Literal, Quad, xsd_string, has_scheme, IsIri, IsLabel, IsTag, IsQuad, live-matches, cases_Bool, ⊎_elim, inl, inr, drop, Place, Token, past, tokens, with_tokens, Leaf, iri_of, Driven, LeadsBack, LineForm, NTriples, NQuads, LineEnding, Lf, CrLf, Kept, Rules, LineAt, line_words, end_text, end_count, is_clear, IriSpelled, StringSpelled, NamedIri, NameStands, LabelSpelled, SubjectSpelled, Spaced, TagSpelled, TypeSpelled, TailSpelled, LiteralSpelled, TermSpelled, GraphSpelled, LineSpelled, Stands, IrisWithin, SubjectWithin, TailWithin, TermWithin, GraphWithin, Name, Ref, Lab, Object, Named, WithType, WithTag, Statement, name_tokens, object_tokens, graph_tokens, statement_tokens, string_of, subject_of, term_of, graph_fits, name_bound, object_bound, graph_bound, GoodStatement, Begin, ran, with_quad, run, is_taken, CanWrite, CanWriteSubject, CanWriteTerm, CanWriteGraph}
+use Rattle.rdf_lines.proofs.Prelude.{◌≡◌, ℕ, ◌+◌, ◌≤◌, all_have, and_from, true, false, List, [], ◌∷◌, ◌++◌, refl, sym, ap, ◌∙◌, subst, Option, Some, None, length, is_some, arith, length-append, option_map, unwrap_or, encode_utf8_all, chars, chars-encodes, length-le-encodes, scalars-chars, encodes, scalars, Lines, Kind, IriRef, LabelNode, ShortString, LangTag, Carets, Dot, Matches, any_shape, kinds, is_live, is_fit, iri_value, string_value, IsSubject, IsTail, IsTerm, IsGraph, Label, Anon, Cell, Lang, Typed, Subject, Blank, Term, Resource, Literal, Quad, xsd_string, has_scheme, IsIri, IsLabel, IsTag, IsQuad, live-matches, cases_Bool, ⊎_elim, inl, inr, drop, Place, Token, past, tokens, with_tokens, Leaf, iri_of, Driven, LeadsBack, LineForm, NTriples, NQuads, LineEnding, Lf, CrLf, Kept, Rules, LineAt, line_words, end_text, end_count, is_clear, IriSpelled, StringSpelled, NamedIri, NameStands, LabelSpelled, SubjectSpelled, Spaced, GapStands, TagSpelled, TypeSpelled, TailSpelled, LiteralSpelled, TermSpelled, GraphSpelled, LineSpelled, Stands, IrisWithin, SubjectWithin, TailWithin, TermWithin, GraphWithin, Name, Ref, Lab, Object, Named, WithType, WithTag, Statement, name_tokens, object_tokens, graph_tokens, statement_tokens, string_of, subject_of, term_of, graph_fits, name_bound, object_bound, graph_bound, GoodStatement, Begin, ran, with_quad, run, is_taken, CanWrite, CanWriteSubject, CanWriteTerm, CanWriteGraph}
 use Rattle.rdf_terms.specs.Terms.{Tail, Iri}
 use Rattle.rdf_tokens.specs.Leaves.{token}
+use Rattle.rdf_tokens.specs.Tokens.{is_space}
 use Rattle.rdf_lines.specs.declared.form.Escapes.TheVariants.{Plain}
 use Rattle.rdf_lines.specs.Lines as L
 use Rattle.rdf_lines.specs.Lines.{Plain as PlainString, quad_of}
@@ -9,11 +10,12 @@ use Rattle.rdf_lines.proofs.AcceptedLemmas.{statement_taken}
 use Rattle.rdf_lines.proofs.CanonicalLines.{end_tokens, end_counted, end_ran, end_short, spells_end}
 use Rattle.rdf_lines.proofs.Complete.{run_statement}
 use Rattle.rdf_lines.proofs.EncodedLine.{xsd}
+use Rattle.rdf_lines.proofs.EscapedParts.{blanks_scalars, blanks_stand}
 use Rattle.rdf_lines.proofs.EscapedTokens.{clear_chars, clear_ends, iri_shaped, string_shaped}
 use Rattle.rdf_lines.proofs.FrontsLemmas.{stands_then, stands_byte, stands_text, end_stands, xsd_iri}
 use Rattle.rdf_lines.proofs.NextToken.{cut_by_other, cut_by_shape, kind_at, shape_at}
 use Rattle.rdf_lines.proofs.Runs.{with_quads, then, run_append}
-use Rattle.rdf_lines.proofs.SpelledLine.{AllShort, Spells, same_quad, leaf, iri_space, label_fit, label_shape, label_space, tag_fit, tag_shape, tag_space, total, total_short, short_both, spells_alone, spells_before_space, spells_carets, spells_dot, spells_nothing, spells_space, spells_then}
+use Rattle.rdf_lines.proofs.SpelledLine.{AllShort, Spells, same_quad, leaf, iri_blank, label_fit, label_shape, label_blank, tag_fit, tag_shape, tag_blank, total, total_short, short_both, spells_alone, spells_before_blanks, spells_blanks, spells_carets, spells_dot, spells_nothing, spells_then}
 use Rattle.rdf_lines.proofs.WritingLemmas.{begins_iri, begins_label, begins_string, begins_tag, inside_one}
 use Rattle.rdf_lines.proofs.WrittenText.{scalars_append}
 
@@ -91,22 +93,32 @@ string_fits : (w v : List ℕ) → string_value w ≡ Some v → is_fit ShortStr
 unfolding is_fit
 string_fits w v e = ap (λ x. is_some (string_value x)) (inside_one 34 34 w) ∙ ap is_some e
 
--- an IRI and a space
+-- what parts two tokens
+abbrev gap_text : (a b : List ℕ) → GapStands a b → List ℕ
+gap_text a b g = g.first.blank ∷ g.more.blanks
+
+gap_blank : (a b : List ℕ) (g : GapStands a b) → all_have (is_space Lines) (gap_text a b g) ≡ true
+gap_blank a b g = and_from (is_space Lines g.first.blank) (all_have (is_space Lines) g.more.blanks) g.first.is g.more.are
+
+gap_stands : (a b : List ℕ) (g : GapStands a b) → Stands (gap_text a b g) a b
+gap_stands a b g = blanks_stand (gap_text a b g) a b (gap_blank a b g) (g.first.stands ∙ ap (λ x. g.first.blank ∷ x) g.more.stands)
+
+-- an IRI, and spaces or tabs after it
 reads_iri : (iri : ℕ) (i a b : List ℕ) → Spaced (NamedIri iri i) a b → Reads (token_of IriRef) (λ l. iri_of l ≡ i) 1 a b
 reads_iri iri i a b h = record {
-  w = text ++ 32 ∷ [];
-  good = scalars_append text (32 ∷ []) (scalars_append (60 ∷ raw) (62 ∷ []) (scalars-chars s.part s.utf8) refl) refl;
+  w = text ++ gap;
+  good = scalars_append text gap (scalars_append (60 ∷ raw) (62 ∷ []) (scalars-chars s.part s.utf8) refl) (blanks_scalars gap blank);
   stands =
-      stands_then text (32 ∷ []) a h.mid b
+      stands_then text gap a h.mid b
       (stands_then (60 ∷ raw) (62 ∷ []) a (62 ∷ h.mid) h.mid
       (stands_then (60 ∷ []) raw a n.inner (62 ∷ h.mid) (stands_byte 60 a n.inner (omega arith) n.opens)
       (stands_text s.part n.inner (62 ∷ h.mid) s.utf8 s.stands))
       (stands_byte 62 (62 ∷ h.mid) h.mid (omega arith) refl))
-      (stands_byte 32 h.mid b (omega arith) h.space);
+      (gap_stands h.mid b h.gap);
   tree = λ p. leaf text p;
   spells = λ limit.
-      spells_before_space limit 60 (raw ++ 62 ∷ []) IriRef (λ v. refl) (kind_at 60 IriRef begins_iri (raw ++ 62 ∷ []) (iri_shaped raw i s.value)) fit
-      (λ v. cut_by_other 60 IriRef begins_iri (raw ++ 62 ∷ []) 32 v iri_space);
+      spells_before_blanks limit 60 (raw ++ 62 ∷ []) IriRef h.gap.first.blank h.gap.more.blanks blank (λ v. refl) (kind_at 60 IriRef begins_iri (raw ++ 62 ∷ []) (iri_shaped raw i s.value)) fit
+      (λ v. cut_by_other 60 IriRef begins_iri (raw ++ 62 ∷ []) h.gap.first.blank v (iri_blank h.gap.first.blank h.gap.first.is));
   means = λ p. ap (λ x. unwrap_or (iri_value x) []) (inside_one 60 62 raw) ∙ ap (λ x. unwrap_or x []) s.value;
   counted = λ p. refl;
 }
@@ -126,23 +138,29 @@ reads_iri iri i a b h = record {
     fit : is_fit IriRef text ≡ true
     fit = iri_fits raw i s.value
 
--- a label and a space
+    gap : List ℕ
+    gap = gap_text h.mid b h.gap
+
+    blank : all_have (is_space Lines) gap ≡ true
+    blank = gap_blank h.mid b h.gap
+
+-- a label, and what parts it from the next token
 reads_label : (x a b : List ℕ) → Spaced (LabelSpelled x) a b → Reads (token_of LabelNode) (λ l. L.subject_of (Lab l) ≡ Blank (Label x)) 1 a b
 reads_label x a b h = record {
-  w = text ++ 32 ∷ [];
-  good = scalars_append text (32 ∷ []) (subst (λ y. scalars (95 ∷ 58 ∷ y) ≡ true) s.named (scalars-chars s.part s.utf8)) refl;
+  w = text ++ gap;
+  good = scalars_append text gap (subst (λ y. scalars (95 ∷ 58 ∷ y) ≡ true) s.named (scalars-chars s.part s.utf8)) (blanks_scalars gap blank);
   stands =
-      stands_then text (32 ∷ []) a h.mid b
+      stands_then text gap a h.mid b
       (stands_then (95 ∷ 58 ∷ []) x a n.inner h.mid
       (stands_then (95 ∷ []) (58 ∷ []) a (58 ∷ n.inner) n.inner (stands_byte 95 a (58 ∷ n.inner) (omega arith) n.opens)
       (stands_byte 58 (58 ∷ n.inner) n.inner (omega arith) refl))
       (subst (λ y. Stands y n.inner h.mid) s.named (stands_text s.part n.inner h.mid s.utf8 s.stands)))
-      (stands_byte 32 h.mid b (omega arith) h.space);
+      (gap_stands h.mid b h.gap);
   tree = λ p. leaf text p;
   spells = λ limit.
-      spells_before_space limit 95 (58 ∷ x) LabelNode (λ v. refl)
+      spells_before_blanks limit 95 (58 ∷ x) LabelNode h.gap.first.blank h.gap.more.blanks blank (λ v. refl)
       (kind_at 95 LabelNode begins_label (58 ∷ x) (label_shape Plain x s.is_name)) (label_fit Plain text)
-      (λ v. cut_by_other 95 LabelNode begins_label (58 ∷ x) 32 v label_space);
+      (λ v. cut_by_other 95 LabelNode begins_label (58 ∷ x) h.gap.first.blank v (label_blank h.gap.first.blank h.gap.first.is));
   means = λ p. refl;
   counted = λ p. refl;
 }
@@ -156,20 +174,26 @@ reads_label x a b h = record {
     text : List ℕ
     text = 95 ∷ 58 ∷ x
 
--- a language tag and a space
+    gap : List ℕ
+    gap = gap_text h.mid b h.gap
+
+    blank : all_have (is_space Lines) gap ≡ true
+    blank = gap_blank h.mid b h.gap
+
+-- a language tag, and the same
 reads_tag : (t a b : List ℕ) → Spaced (TagSpelled t) a b → Reads (token_of LangTag) (λ l. Lang (drop 1 l.text) ≡ Lang t) 1 a b
 reads_tag t a b h = record {
-  w = text ++ 32 ∷ [];
-  good = scalars_append text (32 ∷ []) (subst (λ y. scalars (64 ∷ y) ≡ true) s.named (scalars-chars s.part s.utf8)) refl;
+  w = text ++ gap;
+  good = scalars_append text gap (subst (λ y. scalars (64 ∷ y) ≡ true) s.named (scalars-chars s.part s.utf8)) (blanks_scalars gap blank);
   stands =
-      stands_then text (32 ∷ []) a h.mid b
+      stands_then text gap a h.mid b
       (stands_then (64 ∷ []) t a n.inner h.mid (stands_byte 64 a n.inner (omega arith) n.opens)
       (subst (λ y. Stands y n.inner h.mid) s.named (stands_text s.part n.inner h.mid s.utf8 s.stands)))
-      (stands_byte 32 h.mid b (omega arith) h.space);
+      (gap_stands h.mid b h.gap);
   tree = λ p. leaf text p;
   spells = λ limit.
-      spells_before_space limit 64 t LangTag (λ v. refl) (kind_at 64 LangTag begins_tag t (tag_shape Plain t s.is_name)) (tag_fit Plain text)
-      (λ v. cut_by_other 64 LangTag begins_tag t 32 v tag_space);
+      spells_before_blanks limit 64 t LangTag h.gap.first.blank h.gap.more.blanks blank (λ v. refl) (kind_at 64 LangTag begins_tag t (tag_shape Plain t s.is_name)) (tag_fit Plain text)
+      (λ v. cut_by_other 64 LangTag begins_tag t h.gap.first.blank v (tag_blank h.gap.first.blank h.gap.first.is));
   means = λ p. refl;
   counted = λ p. refl;
 }
@@ -182,6 +206,12 @@ reads_tag t a b h = record {
 
     text : List ℕ
     text = 64 ∷ t
+
+    gap : List ℕ
+    gap = gap_text h.mid b h.gap
+
+    blank : all_have (is_space Lines) gap ≡ true
+    blank = gap_blank h.mid b h.gap
 
 -- a string
 reads_string : (v a b c : List ℕ) → a ≡ 34 ∷ b → StringSpelled v b c → Reads (token_of ShortString) (λ l. string_of l ≡ v) 1 a c
@@ -222,14 +252,14 @@ reads_string v a b c e s = record {
         longer : (x : ℕ) × (u : List ℕ) × Matches (any_shape Lines kinds) (text ++ x ∷ u) → ⊥
         longer m = clear_ends raw clear m.0 m.1 (shape_at 34 ShortString begins_string _ m.2)
 
--- a space
-reads_space : (a b : List ℕ) → a ≡ 32 ∷ b → Reads {T = Unit {0}} (λ u. []) (λ u. Unit) 0 a b
-reads_space a b e = record {
-  w = 32 ∷ [];
-  good = refl;
-  stands = stands_byte 32 a b (omega arith) e;
+-- what parts two tokens is none
+reads_gap : (a b : List ℕ) → GapStands a b → Reads {T = Unit {0}} (λ u. []) (λ u. Unit) 0 a b
+reads_gap a b g = record {
+  w = gap_text a b g;
+  good = blanks_scalars (gap_text a b g) (gap_blank a b g);
+  stands = gap_stands a b g;
   tree = λ p. tt;
-  spells = spells_space;
+  spells = λ limit. spells_blanks limit (gap_text a b g) (gap_blank a b g);
   means = λ p. tt;
   counted = λ p. refl;
 }
@@ -263,17 +293,17 @@ module _ (iri : ℕ) where
   abbrev NameMeans : Subject → Name → Type 0
   NameMeans s n = (subject_of n ≡ s) × name_bound has_scheme n
 
-  -- an IRI or a label, and a space
+  -- an IRI or a label
   reads_subject : (s : Subject) (a b : List ℕ) → Spaced (SubjectSpelled iri s) a b → Reads name_tokens (NameMeans s) 1 a b
   reads_subject (Iri i) a b h =
       let k : NamedIri iri i a h.mid = h.spelled in
       reads_as (token_of IriRef) name_tokens (λ l. iri_of l ≡ i) (NameMeans (Iri i)) Ref (λ l. refl)
       (λ l e. (ap Iri e, ap has_scheme e ∙ k.spelled.is.scheme)) 1 a b
-      (reads_iri iri i a b (record { mid = h.mid; spelled = k; space = h.space }))
+      (reads_iri iri i a b (record { mid = h.mid; spelled = k; gap = h.gap }))
   reads_subject (Blank (Label x)) a b h =
       let k : LabelSpelled x a h.mid = h.spelled in
       reads_as (token_of LabelNode) name_tokens (λ l. subject_of (Lab l) ≡ Blank (Label x)) (NameMeans (Blank (Label x))) Lab (λ l. refl) (λ l e. (e, tt)) 1 a b
-      (reads_label x a b (record { mid = h.mid; spelled = k; space = h.space }))
+      (reads_label x a b (record { mid = h.mid; spelled = k; gap = h.gap }))
   reads_subject (Blank (Anon n)) a b h = absurd h.spelled
   reads_subject (Blank (Cell n)) a b h = absurd h.spelled
 
@@ -281,7 +311,7 @@ module _ (iri : ℕ) where
   abbrev ObjectMeans : Term → Object → Type 0
   ObjectMeans t o = (term_of o ≡ t) × object_bound has_scheme o
 
-  -- a datatype with its carets, and a space
+  -- a datatype with its carets, and what parts it from the next token
   abbrev type_tokens : Leaf × Leaf → List Token
   type_tokens x = token Carets x.0 ∷ token IriRef x.1 ∷ []
 
@@ -290,9 +320,9 @@ module _ (iri : ℕ) where
       let k : TypeSpelled iri i a h.mid = h.spelled in
       reads_both (token_of Carets) (token_of IriRef) type_tokens (λ l. Unit) (λ l. iri_of l ≡ i) (λ x. iri_of x.1 ≡ i) (λ c l. (c, l))
       (λ c l. refl) (λ c l u e. e) 1 1 a k.inner b
-      (reads_carets a k.inner k.opens) (reads_iri iri i k.inner b (record { mid = h.mid; spelled = k.spelled; space = h.space }))
+      (reads_carets a k.inner k.opens) (reads_iri iri i k.inner b (record { mid = h.mid; spelled = k.spelled; gap = h.gap }))
 
-  -- a string and what follows it, and a space
+  -- a string and what follows it, and the same
   reads_literal : (n : ℕ) (w : List ℕ) (t : Tail) (a b : List ℕ) → Spaced (LiteralSpelled iri n w t) a b → Reads object_tokens (ObjectMeans (Literal w t)) n a b
   reads_literal n w t a b h = subst (λ m. Reads object_tokens (ObjectMeans (Literal w t)) m a b) (let e = k.count in omega (arith, e)) (by t k.tail)
     where
@@ -308,12 +338,12 @@ module _ (iri : ℕ) where
           (reads_both (token_of ShortString) (token_of LangTag) object_tokens (λ l. string_of l ≡ w) (λ l. Lang (drop 1 l.text) ≡ Lang tag)
           (ObjectMeans (Literal w (Lang tag))) WithTag (λ x y. refl)
           (λ x y e f. (ap (λ v. Literal v (Lang (drop 1 y.text))) e ∙ ap (Literal w) f, tt)) 1 1 a k.after b string
-          (reads_tag tag k.after b (record { mid = h.mid; spelled = s.1; space = h.space })))
+          (reads_tag tag k.after b (record { mid = h.mid; spelled = s.1; gap = h.gap })))
       by (Typed i) (inl s) =
           let plain = reads_both (token_of ShortString) (λ (u : Unit {0}). []) object_tokens (λ l. string_of l ≡ w) (λ u. Unit)
           (ObjectMeans (Literal w (Typed xsd_string))) (λ x y. PlainString x) (λ x y. refl)
           (λ x y e f. (ap (λ v. Literal v (Typed xsd_string)) e, tt)) 1 0 a k.after b string
-          (reads_space k.after b (s.3 ∙ h.space)) in
+          (reads_gap k.after b (subst (λ x. GapStands x b) (sym s.3) h.gap)) in
           subst (λ m. Reads object_tokens (ObjectMeans (Literal w (Typed i))) (1 + m) a b) (sym s.0)
           (subst (λ j. Reads object_tokens (ObjectMeans (Literal w (Typed j))) 1 a b) (sym s.1) plain)
       by (Typed i) (inr s) =
@@ -326,22 +356,22 @@ module _ (iri : ℕ) where
             ap has_scheme f
                 ∙ d.spelled.spelled.is.scheme,
           )) 1 2 a k.after b string
-          (reads_type i k.after b (record { mid = h.mid; spelled = d; space = h.space })))
+          (reads_type i k.after b (record { mid = h.mid; spelled = d; gap = h.gap })))
 
-  -- an object and a space
+  -- an object
   reads_object : (n : ℕ) (t : Term) (a b : List ℕ) → Spaced (TermSpelled iri n t) a b → Reads object_tokens (ObjectMeans t) n a b
   reads_object n (Resource s) a b h =
       let k : (n ≡ 1) × SubjectSpelled iri s a h.mid = h.spelled in
       subst (λ m. Reads object_tokens (ObjectMeans (Resource s)) m a b) (sym k.0)
       (reads_as name_tokens object_tokens (NameMeans s) (ObjectMeans (Resource s)) Named (λ x. refl) (λ x m. (ap Resource m.0, m.1)) 1 a b
-      (reads_subject s a b (record { mid = h.mid; spelled = k.1; space = h.space })))
-  reads_object n (Literal w t) a b h = reads_literal n w t a b (record { mid = h.mid; spelled = h.spelled; space = h.space })
+      (reads_subject s a b (record { mid = h.mid; spelled = k.1; gap = h.gap })))
+  reads_object n (Literal w t) a b h = reads_literal n w t a b (record { mid = h.mid; spelled = h.spelled; gap = h.gap })
 
   -- what a graph label means that is read
   abbrev GraphMeans : LineForm → Option Subject → Option Name → Type 0
   GraphMeans form g x = (option_map subject_of x ≡ g) × graph_bound has_scheme x × graph_fits form x
 
-  -- a graph label and a space, or none
+  -- a graph label, or none
   reads_graph : (form : LineForm) (n : ℕ) (g : Option Subject) (a b : List ℕ) → GraphSpelled form iri n g a b → Reads graph_tokens (GraphMeans form g) n a b
   reads_graph form n None a b h =
       record { w = []; good = refl; stands = h.1; tree = λ p. None; spells = spells_nothing; means = λ p. (refl, tt, none form); counted = λ p. sym h.0 }

@@ -1,12 +1,16 @@
 -- What the code finds in lines whose strings and IRIs may have any escapes.
-use Rattle.rdf_lines.proofs.Prelude.{◌≡◌, ℕ, zero, suc, ◌+◌, ◌-◌, ◌<◌, ◌≤◌, Bool, true, false, ◌==◌, List, [], ◌∷◌, ◌++◌, refl, sym, ap, ◌∙◌, subst, ⊎_elim, append_assoc, Some, length, take, drop, get_or, arith, length-take, chars, IsUtf8, encodes, cases_Bool, cond-true, cond-false, false≢true, and_parts, and_from, encodes-append, encodes-chars, scalars-chars, iri_char, all_have, has_scheme, IsRun, is_short_byte, iri_value, string_value, is_clear, IriSpelled, StringSpelled, IriStands}
+use Rattle.rdf_lines.proofs.Prelude.{◌≡◌, ℕ, zero, suc, ◌+◌, ◌-◌, ◌<◌, ◌≤◌, Bool, true, false, ◌==◌, List, [], ◌∷◌, ◌++◌, refl, sym, ap, ◌∙◌, subst, ⊎_elim, append_assoc, Some, length, take, drop, get_or, arith, length-take, chars, IsUtf8, encodes, cases_Bool, cond-true, cond-false, false≢true, and_parts, and_from, encodes-append, encodes-chars, scalars-chars, iri_char, all_have, has_scheme, IsRun, is_short_byte, iri_value, string_value, is_clear, IriSpelled, StringSpelled, IriStands, BlankStands, BlanksStand, Stands, Lines, scalars, escaped, flat_map}
 use Rattle.rdf_terms.specs.Classes.{has}
 use Rattle.rdf_lines.specs.declared.form.Escapes.TheVariants.{Plain}
 use Rattle.rdf_lines.proofs.EncodedLine.{low}
-use Rattle.rdf_lines.proofs.EscapedRuns.{each}
+use Rattle.rdf_lines.proofs.EscapedRuns.{each, all_stand, run_front}
 use Rattle.rdf_lines.proofs.EscapedTokens.{plain_step}
-use Rattle.rdf_lines.proofs.FrontsLemmas.{all_scalar}
-use Rattle.rdf_lines.proofs.WritingLemmas.{iri_meant}
+use Rattle.rdf_lines.proofs.FrontsLemmas.{all_scalar, have_both, stands_byte, stands_then}
+use Rattle.rdf_lines.proofs.NextToken.{of_blank}
+use Rattle.rdf_lines.proofs.PassedLemmas.{past_text}
+use Rattle.std.proofs.Math.Utf8.{scalar as utf8_scalar}
+use Rattle.rdf_tokens.specs.Tokens.{is_space}
+use Rattle.rdf_lines.proofs.WritingLemmas.{iri_meant, string_meant}
 
 -- two clear texts in a row
 clear_then : (s : Bool) (u v : List ℕ) → is_clear s u ≡ true → is_clear false v ≡ true → is_clear s (u ++ v) ≡ true
@@ -126,3 +130,52 @@ take_shorter (c ∷ w) (suc m) (suc n) l = ap (λ x. c ∷ x) (take_shorter w m 
 -- what is clear in a front of some bytes is clear in them
 pub near_clear : (w : List ℕ) (m k : ℕ) → m ≤ length (take k w) → is_clear false (take m (take k w)) ≡ true → is_clear false (take m w) ≡ true
 near_clear w m k l h = ap (is_clear false) (sym (take_shorter w m k (let a = length-take k w in omega (arith, a, l)))) ∙ h
+
+-- a string that a run goes over stands as it is
+pub plain_string : (part a b : List ℕ) (end : ℕ) → IsUtf8 part → part ≡ take end a → IsRun (is_short_byte 34) a 0 end → a ≡ take end a ++ 34 ∷ b →
+    StringSpelled (chars part) a b
+plain_string part a b end u e r s =
+    let w = chars part in
+    let same : flat_map (escaped Plain) w ≡ w =
+    all_stand Plain w (subst (λ x. all_have (is_short_byte 34) x ≡ true) (sym (encodes-chars part u ∙ e)) (run_front Plain a end r)) in
+    let are = all_scalar w (scalars-chars part u) in
+    record {
+      part = part;
+      utf8 = u;
+      value = ap string_value (sym same) ∙ string_meant Plain w are;
+      are = are;
+      clear = ap (is_clear false) e ∙ run_clear a 0 end refl r;
+      stands = s ∙ ap (λ x. x ++ 34 ∷ b) (sym e);
+    }
+
+-- no blanks stand before a text
+pub no_blanks : (a : List ℕ) → BlanksStand a a
+no_blanks a = record { blanks = []; are = refl; stands = refl }
+
+-- one blank more
+pub blanks_on : (a b c : List ℕ) → BlanksStand a b → BlankStands 0 b c → BlanksStand a c
+blanks_on a b c f g = record {
+  blanks = f.blanks ++ g.blank ∷ [];
+  are = have_both (is_space Lines) f.blanks (g.blank ∷ []) f.are (and_from (is_space Lines g.blank) true g.is refl);
+  stands = f.stands ∙ (ap (λ x. f.blanks ++ x) g.stands ∙ sym (append_assoc f.blanks (g.blank ∷ []) c));
+}
+
+-- spaces and tabs are characters of one byte
+pub blanks_scalars : (bs : List ℕ) → all_have (is_space Lines) bs ≡ true → scalars bs ≡ true
+blanks_scalars [] h = refl
+blanks_scalars (c ∷ bs) h =
+    let q = and_parts (is_space Lines c) (all_have (is_space Lines) bs) h in
+    and_from (utf8_scalar c) (scalars bs) (of_blank (λ x. utf8_scalar x ≡ true) refl refl c q.0) (blanks_scalars bs q.1)
+
+-- they are their bytes
+pub blanks_stand : (bs a b : List ℕ) → all_have (is_space Lines) bs ≡ true → a ≡ bs ++ b → Stands bs a b
+blanks_stand [] a b h e = e
+blanks_stand (c ∷ bs) a b h e =
+    let q = and_parts (is_space Lines c) (all_have (is_space Lines) bs) h in
+    stands_then (c ∷ []) bs a (bs ++ b) b
+    (stands_byte c a (bs ++ b) (of_blank (λ x. x < 128) (omega arith) (omega arith) c q.0) e)
+    (blanks_stand bs (bs ++ b) b q.1 refl)
+
+-- what they stand in front of is text
+pub blanks_text : (a b : List ℕ) → IsUtf8 a → BlanksStand a b → IsUtf8 b
+blanks_text a b u h = past_text h.blanks a b u (blanks_stand h.blanks a b h.are h.stands)

@@ -66,7 +66,7 @@ each_stands p f one (c ∷ cs) h =
     ap (λ x. x ++ flat_map f cs) (one c a) ∙ ap (λ x. c ∷ x) (each_stands p f one cs b)
 
 -- and a text of such characters too
-all_stand : (e : Escapes) (cs : List ℕ) → all_have (passes e) (encodes cs) ≡ true → flat_map (escaped e) cs ≡ cs
+pub all_stand : (e : Escapes) (cs : List ℕ) → all_have (passes e) (encodes cs) ≡ true → flat_map (escaped e) cs ≡ cs
 all_stand e cs h = each_stands (passes e) (escaped e) (stands e) cs h
 
 -- a text that a run goes over is written as it is
@@ -83,7 +83,7 @@ front_passes p (c ∷ w) (suc n) h l =
     and_from (p c) (all_have p (take n w)) (h 0 (omega arith)) (front_passes p w n (λ k m. h (suc k) (omega arith)) (omega arith))
 
 -- the front that a run went over passes its test
-run_front : (e : Escapes) (w : List ℕ) (n : ℕ) → IsRun (goes_over (run_of e)) w 0 n → all_have (passes e) (take n w) ≡ true
+pub run_front : (e : Escapes) (w : List ℕ) (n : ℕ) → IsRun (goes_over (run_of e)) w 0 n → all_have (passes e) (take n w) ≡ true
 run_front e w n r = front_passes (passes e) w n (λ k l. r.pass k (omega arith) l) r.within
 
 -- the text may be cut where a run ends

@@ -1,6 +1,6 @@
 -- When a text is the next token, whatever comes after it.
-use Rattle.rdf_lines.proofs.Prelude.{◌≡◌, ℕ, zero, suc, ◌+◌, ◌-◌, ◌<◌, ◌≤◌, true, false, ◌||◌, ⊎_elim, is_some, List, [], ◌∷◌, ◌++◌, refl, sym, ap, ◌∙◌, subst, Option, Some, None, length, take, drop, arith, length-append, append_assoc, cond-true, cond-false, false≢true, le-ltb, and_left, and_right, cases_lt, cases_Bool, append-nil, take_all, take_at, drop_at, Lines, Matches, after, possible, Kind, kinds, shape, any_shape, first_kind, kind_of, is_live, is_fit, Place, past, over, chosen, decided, by_tail, longest, with_length, step, tokens, rest_of, place_of, with_token, goes_on, ended, broken, matches-after, matches-possible, first_kind-matches, matches-first_kind, live-matches, matches-live, none_longer, at_token, tokens-step, uses, not_used}
-use Rattle.rdf_tokens.specs.Tokens.{Tail, blank}
+use Rattle.rdf_lines.proofs.Prelude.{◌≡◌, ℕ, zero, suc, ◌+◌, ◌-◌, ◌<◌, ◌≤◌, true, false, ◌||◌, ⊎_elim, is_some, List, [], ◌∷◌, ◌++◌, refl, sym, ap, ◌∙◌, subst, Option, Some, None, length, take, drop, arith, length-append, append_assoc, cond-true, cond-false, false≢true, le-ltb, and_left, and_right, and_parts, or_cases, eqb-true, all_have, ◌==◌, cases_lt, cases_Bool, append-nil, take_all, take_at, drop_at, Lines, Matches, after, possible, Kind, kinds, shape, any_shape, first_kind, kind_of, is_live, is_fit, Place, past, over, chosen, decided, by_tail, longest, with_length, step, tokens, rest_of, place_of, with_token, goes_on, ended, broken, matches-after, matches-possible, first_kind-matches, matches-first_kind, live-matches, matches-live, none_longer, at_token, tokens-step, uses, not_used}
+use Rattle.rdf_tokens.specs.Tokens.{Tail, blank, is_space}
 use Rattle.rdf_tokens.specs.Tokens.Step.{token}
 
 -- In the Lines dialect a text's first character tells its kind.
@@ -142,10 +142,25 @@ next_token tail limit p c w v k z e f t dead l =
     ∙ (ap (λ x. with_token (record { kind = k; text = x; at = p }) (tokens Lines limit tail false (past p x) (drop n (rest_of Lines false W)))) a
     ∙ ap (λ x. with_token (record { kind = k; text = c ∷ w; at = p }) (tokens Lines limit tail false (past p (c ∷ w)) x)) d))
 
--- a space is taken off
-pub skip_space : (tail : Tail) (limit : ℕ) (p : Place) (v : List ℕ) →
-    tokens Lines limit tail false p (32 ∷ v) ≡ tokens Lines limit tail false (past p (32 ∷ [])) v
-skip_space tail limit p v = tokens-step Lines limit tail false p (32 ∷ v) ∙ sym (tokens-step Lines limit tail false (past p (32 ∷ [])) v)
+-- what holds of a space and a tab holds of each
+pub of_blank : (P : ℕ → Type 0) → P 32 → P 9 → (c : ℕ) → is_space Lines c ≡ true → P c
+of_blank P a b c h =
+    ⊎_elim (λ e. subst P (sym (eqb-true c 32 e)) a) (λ e. subst P (sym (eqb-true c 9 e)) b) (or_cases (c == 32) (c == 9) h)
+
+-- spaces and tabs are taken off
+pub skip_blanks : (tail : Tail) (limit : ℕ) (p : Place) (bs v : List ℕ) → all_have (is_space Lines) bs ≡ true →
+    tokens Lines limit tail false p (bs ++ v) ≡ tokens Lines limit tail false (past p bs) v
+skip_blanks tail limit p [] v h = refl
+skip_blanks tail limit p (c ∷ bs) v h =
+    let q = and_parts (is_space Lines c) (all_have (is_space Lines) bs) h in
+    of_blank (λ x. tokens Lines limit tail false p (x ∷ bs ++ v) ≡ tokens Lines limit tail false (past p (x ∷ [])) (bs ++ v)) space tab c q.0
+    ∙ skip_blanks tail limit (past p (c ∷ [])) bs v q.1
+  where
+    space : tokens Lines limit tail false p (32 ∷ bs ++ v) ≡ tokens Lines limit tail false (past p (32 ∷ [])) (bs ++ v)
+    space = tokens-step Lines limit tail false p (32 ∷ bs ++ v) ∙ sym (tokens-step Lines limit tail false (past p (32 ∷ [])) (bs ++ v))
+
+    tab : tokens Lines limit tail false p (9 ∷ bs ++ v) ≡ tokens Lines limit tail false (past p (9 ∷ [])) (bs ++ v)
+    tab = tokens-step Lines limit tail false p (9 ∷ bs ++ v) ∙ sym (tokens-step Lines limit tail false (past p (9 ∷ [])) (bs ++ v))
 
 -- No longer shape begins so at all.
 pub cut_by_dead : (w v : List ℕ) → is_live Lines w ≡ false → Cut w v

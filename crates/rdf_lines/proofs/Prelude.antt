@@ -8,7 +8,7 @@ pub use Rattle.rdf_iri.specs.Texts.{byte_len}
 pub use Rattle.rdf_lines.specs.Accepting.{line_words, LineAt, all_bytes}
 pub use Rattle.rdf_lines.specs.Canonical.{end_text, end_count, statement_text, ended_line, ended_lines, type_count, term_count, graph_count, quad_count, count, LabelFits, IsTaken, CanonicalLinesAreRead, PassesLines, without_crs, CanonicalLinesAreWritten}
 pub use Rattle.rdf_lines.specs.Documents.{in_lines, Passes, Blamed}
-pub use Rattle.rdf_lines.specs.Escaped.{is_clear, IriSpelled, StringSpelled, NamedIri, NameStands, LabelSpelled, SubjectSpelled, Spaced, TagSpelled, TypeSpelled, TailSpelled, LiteralSpelled, TermSpelled, GraphSpelled, LineSpelled, PassesInto}
+pub use Rattle.rdf_lines.specs.Escaped.{is_clear, IriSpelled, StringSpelled, NamedIri, NameStands, LabelSpelled, SubjectSpelled, Spaced, BlankStands, BlanksStand, GapStands, TagSpelled, TypeSpelled, TailSpelled, LiteralSpelled, TermSpelled, GraphSpelled, LineSpelled, PassesInto}
 pub use Rattle.rdf_lines.specs.Forms.{prefix_chars, form_of}
 pub use Rattle.rdf_lines.specs.Fronts.{Stands, IriStands, LabelStands, TagStands, StringStands, SubjectStands, PredicateStands, TailStands, ObjectStands, GraphStands, LineStands, LinesStand, AreLines, CharactersStand, EscapeStands}
 pub use Rattle.rdf_lines.specs.GoodTrees.{name_bound, object_bound, graph_bound, GoodStatement, GoodDocument, GoodLine}

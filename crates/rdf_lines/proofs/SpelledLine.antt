@@ -1,13 +1,13 @@
 -- What is written reads back as the same quads.
 use Rattle.rdf_lines.proofs.Prelude.{◌≡◌, ℕ, ◌+◌, ◌≤◌, Bool, true, false, List, [], ◌∷◌, ◌++◌, refl, sym, ap, ◌∙◌, subst, ⊎_elim, append_assoc, Option, Some, None, length, nat_lt, arith, length-append, zero-add, flat_map, option_map, unwrap_or, bytes_eq, AllByRecursion, cond-false, cases_Bool, le-ltb, and_left, append-nil, bytes_eq-Decides, Lines, Matches, Kind, kinds, any_shape, shape, kind_of, is_live, IriRef, LabelNode, ShortString, LangTag, Carets, Dot, LineEnd, End, is_fit, iri_value, string_value, Place, past, Token, tokens, step, over, with_tokens, ended, complete, stop, Label, Anon, Cell, Lang, Typed, Subject, Blank, Term, Resource, Literal, Quad, xsd_string, has_scheme, all_have, IsIri, IsLabel, IsTag, IsSubject, IsTerm, IsGraph, IsQuad, Leaf, iri_of, Name, Ref, Lab, Object, Named, WithType, WithTag, Statement, Document, last, next, name_tokens, object_tokens, graph_tokens, statement_tokens, document_tokens, string_of, subject_of, term_of, name_bound, object_bound, graph_bound, GoodStatement, GoodDocument, NQuads, Escapes, Kept, CanWrite, written, escaped, iri_text, node_text, subject_text, string_text, type_text, term_text, space, graph_text, quad_text, CanWriteSubject, CanWriteTerm, CanWriteGraph, TermShort, GraphShort, TokensWithin, at_stop, uses, live-matches}
 use Rattle.rdf_terms.specs.Classes.{has, scalar}
-use Rattle.rdf_tokens.specs.Tokens.{Tail as Behind, blank}
+use Rattle.rdf_tokens.specs.Tokens.{Tail as Behind, blank, is_space}
 use Rattle.rdf_terms.specs.Terms.{Iri}
 use Rattle.rdf_lines.specs.Lines as L
 use Rattle.rdf_tokens.specs.Leaves.{token}
 use Rattle.rdf_lines.specs.Lines.{Plain, quad_of}
 use Rattle.rdf_lines.proofs.PlainQuads.{plain_quads, IsPlain}
-use Rattle.rdf_lines.proofs.NextToken.{Cut, cut_dead, shape_at, kind_at, cut_by_other, cut_by_shape, cut_by_dead, next_token, skip_space}
+use Rattle.rdf_lines.proofs.NextToken.{Cut, cut_dead, shape_at, kind_at, cut_by_other, cut_by_shape, cut_by_dead, next_token, skip_blanks, of_blank}
 use Rattle.rdf_lines.proofs.WritingLemmas.{begins_iri, begins_label, begins_string, begins_tag, iri_shape, iri_fit, iri_meant, string_shape, string_ends, string_fit, string_meant, inside_one}
 use Rattle.rdf_lines.proofs.LineEnds.{past-append}
 
@@ -84,37 +84,42 @@ spells_alone limit c w k z e f t dead = record {
   reads = λ tail p v h. next_token tail limit p c w v k (z (w ++ v)) e f (t v) (cut_dead (c ∷ w) v (t v) (λ x. dead)) h.0;
 }
 
--- a space cuts it
-pub spells_before_space : (limit c : ℕ) (w : List ℕ) (k : Kind) → ((v : List ℕ) → blank Lines false (c ∷ v) ≡ 0) →
-    kind_of Lines (c ∷ w) ≡ Some k → is_fit k (c ∷ w) ≡ true →
-    ((v : List ℕ) → Cut (c ∷ w) (32 ∷ v)) → Spells limit (c ∷ w ++ space) (alone k (c ∷ w))
-spells_before_space limit c w k z e f t = record {
-  size = λ p. let s = length-append (c ∷ w) space in omega arith;
+-- a space or a tab cuts it, after which there may be more
+pub spells_before_blanks : (limit c : ℕ) (w : List ℕ) (k : Kind) (b : ℕ) (bs : List ℕ) → all_have (is_space Lines) (b ∷ bs) ≡ true →
+    ((v : List ℕ) → blank Lines false (c ∷ v) ≡ 0) → kind_of Lines (c ∷ w) ≡ Some k → is_fit k (c ∷ w) ≡ true →
+    ((v : List ℕ) → Cut (c ∷ w) (b ∷ v)) → Spells limit (c ∷ w ++ b ∷ bs) (alone k (c ∷ w))
+spells_before_blanks limit c w k b bs a z e f t = record {
+  size = λ p. let s = length-append (c ∷ w) (b ∷ bs) in omega (arith, s);
   reads = λ tail p v h.
-      ap (tokens Lines limit tail false p) (append_assoc (c ∷ w) space v)
-      ∙ (next_token tail limit p c w (32 ∷ v) k (z (w ++ 32 ∷ v)) e f (t v) (cut_dead (c ∷ w) (32 ∷ v) (t v) (λ x. absurd (let y : 32 ∷ v ≡ [] = x in cc))) h.0
-      ∙ ap (with_tokens (alone k (c ∷ w) p)) (skip_space tail limit (past p (c ∷ w)) v
-      ∙ ap (λ q. tokens Lines limit tail false q v) (sym (past-append (c ∷ w) space p))));
+      ap (tokens Lines limit tail false p) (append_assoc (c ∷ w) (b ∷ bs) v)
+      ∙ (next_token tail limit p c w (b ∷ bs ++ v) k (z (w ++ (b ∷ bs ++ v))) e f (t (bs ++ v))
+      (cut_dead (c ∷ w) (b ∷ bs ++ v) (t (bs ++ v)) (λ x. absurd (let y : b ∷ bs ++ v ≡ [] = x in cc))) h.0
+      ∙ ap (with_tokens (alone k (c ∷ w) p)) (skip_blanks tail limit (past p (c ∷ w)) (b ∷ bs) v a
+      ∙ ap (λ q. tokens Lines limit tail false q v) (sym (past-append (c ∷ w) (b ∷ bs) p))));
 }
 
--- a space is no token
-pub spells_space : (limit : ℕ) → Spells limit space (λ p. [])
-spells_space limit = record { size = λ p. omega arith; reads = λ tail p v h. skip_space tail limit p v }
+-- so does one space
+spells_before_space : (limit c : ℕ) (w : List ℕ) (k : Kind) → ((v : List ℕ) → blank Lines false (c ∷ v) ≡ 0) →
+    kind_of Lines (c ∷ w) ≡ Some k → is_fit k (c ∷ w) ≡ true →
+    ((v : List ℕ) → Cut (c ∷ w) (32 ∷ v)) → Spells limit (c ∷ w ++ space) (alone k (c ∷ w))
+spells_before_space limit c w k = spells_before_blanks limit c w k 32 [] refl
 
--- the parts of a line
-pub iri_space : uses (shape Lines IriRef) 32 ≡ false
-unfolding shape has
-iri_space = refl
+-- spaces and tabs are no tokens
+pub spells_blanks : (limit : ℕ) (bs : List ℕ) → all_have (is_space Lines) bs ≡ true → Spells limit bs (λ p. [])
+spells_blanks limit bs a = record { size = λ p. omega arith; reads = λ tail p v h. skip_blanks tail limit p bs v a }
 
--- a label has no space in it
-pub label_space : uses (shape Lines LabelNode) 32 ≡ false
+-- neither stands in an IRI, a label or a tag
+pub iri_blank : (c : ℕ) → is_space Lines c ≡ true → uses (shape Lines IriRef) c ≡ false
 unfolding shape has
-label_space = refl
+iri_blank = of_blank (λ c. uses (shape Lines IriRef) c ≡ false) refl refl
 
--- a tag has no space in it
-pub tag_space : uses (shape Lines LangTag) 32 ≡ false
+pub label_blank : (c : ℕ) → is_space Lines c ≡ true → uses (shape Lines LabelNode) c ≡ false
 unfolding shape has
-tag_space = refl
+label_blank = of_blank (λ c. uses (shape Lines LabelNode) c ≡ false) refl refl
+
+pub tag_blank : (c : ℕ) → is_space Lines c ≡ true → uses (shape Lines LangTag) c ≡ false
+unfolding shape has
+tag_blank = of_blank (λ c. uses (shape Lines LangTag) c ≡ false) refl refl
 
 abbrev pub Written : List Quad → Type 0
 Written qs = AllByRecursion (λ q. IsQuad q × CanWrite Kept q) qs
@@ -130,7 +135,7 @@ module _ (form : Escapes) where
   spells_iri limit i h =
       spells_before_space limit 60 (flat_map (written form) i ++ 62 ∷ []) IriRef (λ v. refl) (kind_at 60 IriRef begins_iri
       (flat_map (written form) i ++ 62 ∷ []) (iri_shape form i h.characters)) (iri_fit form i h.characters)
-      (λ v. cut_by_other 60 IriRef begins_iri (flat_map (written form) i ++ 62 ∷ []) 32 v iri_space)
+      (λ v. cut_by_other 60 IriRef begins_iri (flat_map (written form) i ++ 62 ∷ []) 32 v (iri_blank 32 refl))
 
   -- a label has the shape of its token
   pub label_shape : (x : List ℕ) → IsLabel x → Matches (shape Lines LabelNode) (95 ∷ 58 ∷ x)
@@ -146,7 +151,7 @@ module _ (form : Escapes) where
   spells_label : (limit : ℕ) (x : List ℕ) → IsLabel x → Spells limit (95 ∷ 58 ∷ x ++ space) (alone LabelNode (95 ∷ 58 ∷ x))
   spells_label limit x h =
       spells_before_space limit 95 (58 ∷ x) LabelNode (λ v. refl) (kind_at 95 LabelNode begins_label (58 ∷ x) (label_shape x h)) (label_fit (95 ∷ 58 ∷ x))
-      (λ v. cut_by_other 95 LabelNode begins_label (58 ∷ x) 32 v label_space)
+      (λ v. cut_by_other 95 LabelNode begins_label (58 ∷ x) 32 v (label_blank 32 refl))
 
   -- a language tag has the shape of its token
   pub tag_shape : (t : List ℕ) → IsTag t → Matches (shape Lines LangTag) (64 ∷ t)
@@ -162,7 +167,7 @@ module _ (form : Escapes) where
   spells_tag : (limit : ℕ) (t : List ℕ) → IsTag t → Spells limit (64 ∷ t ++ space) (alone LangTag (64 ∷ t))
   spells_tag limit t h =
       spells_before_space limit 64 t LangTag (λ v. refl) (kind_at 64 LangTag begins_tag t (tag_shape t h)) (tag_fit (64 ∷ t))
-      (λ v. cut_by_other 64 LangTag begins_tag t 32 v tag_space)
+      (λ v. cut_by_other 64 LangTag begins_tag t 32 v (tag_blank 32 refl))
 
   -- a written string begins nothing longer
   string_dead : (w : List ℕ) → all_have scalar w ≡ true → is_live Lines (string_text form w) ≡ false
@@ -256,7 +261,7 @@ module _ (form : Escapes) where
       Spells limit (string_text form w ++ type_text form b i ++ space) (λ p. object_tokens (typed_tree b p w i))
   spells_typed limit true w i a h =
       subst (λ x. Spells limit x (λ p. object_tokens (typed_tree true p w i))) (ap (λ x. x ++ space) (sym (append-nil (string_text form w))))
-      (spells_then limit (string_text form w) space (alone ShortString (string_text form w)) (λ p. []) (spells_string limit w a) (spells_space limit))
+      (spells_then limit (string_text form w) space (alone ShortString (string_text form w)) (λ p. []) (spells_string limit w a) (spells_blanks limit space refl))
   spells_typed limit false w i a h =
       subst (λ x. Spells limit x (λ p. object_tokens (typed_tree false p w i))) (sym (append_assoc (string_text form w) (94 ∷ 94 ∷ iri_text form i) space))
       (spells_then limit (string_text form w) (94 ∷ 94 ∷ iri_text form i ++ space) (alone ShortString (string_text form w))

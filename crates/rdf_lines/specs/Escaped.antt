@@ -1,8 +1,10 @@
 -- Lines whose strings and IRIs may have any escapes: what stands at the front of some bytes, and what it means.
-use Rattle.std.specs.Prelude.{◌≡◌, ◌≤◌, ◌+◌, ◌⊎◌, ℕ, Bool, true, false, cond, ◌&&◌, ◌==◌, List, [], ◌∷◌, ◌++◌, Option, Some, None, encode_utf8_all}
+use Rattle.std.specs.Prelude.{◌≡◌, ◌≤◌, ◌+◌, ◌⊎◌, ℕ, Bool, true, false, cond, ◌&&◌, ◌==◌, List, [], ◌∷◌, ◌++◌, take, Option, Some, None, encode_utf8_all}
 use Rattle.std.specs.Str.{chars, IsUtf8}
 use Rattle.rdf_terms.specs.Classes.{scalar}
 use Rattle.rdf_terms.specs.Runs.{is_short_byte}
+use Rattle.rdf_terms.specs.declared.kind.Dialect.TheVariants.{Lines}
+use Rattle.rdf_tokens.specs.Tokens.{is_space}
 use Rattle.rdf_terms.specs.Terms.{Tail, Lang, Typed, Label, Anon, Cell, Subject, Iri, Blank, Term, Resource, Literal, Quad, xsd_string, all_have, IsIri, IsLabel, IsTag}
 use Rattle.rdf_terms.specs.Values.{iri_value, string_value}
 use Rattle.rdf_iri.specs.Texts.{byte_len}
@@ -70,11 +72,29 @@ SubjectSpelled iri (Blank (Label x)) bytes rest = LabelSpelled x bytes rest
 SubjectSpelled iri (Blank (Anon n)) bytes rest = ⊥
 SubjectSpelled iri (Blank (Cell n)) bytes rest = ⊥
 
--- a part of a line and a space
+-- a space or a tab after n bytes
+pub record BlankStands (n : ℕ) (bytes rest : List ℕ) : Type 0 where
+  pub blank : ℕ
+  pub is : is_space Lines blank ≡ true
+  pub stands : bytes ≡ take n bytes ++ blank ∷ rest
+
+-- spaces and tabs, or none
+pub record BlanksStand (bytes rest : List ℕ) : Type 0 where
+  pub blanks : List ℕ
+  pub are : all_have (is_space Lines) blanks ≡ true
+  pub stands : bytes ≡ blanks ++ rest
+
+-- what parts two tokens: a space or a tab, and any more
+pub record GapStands (bytes rest : List ℕ) : Type 0 where
+  pub mid : List ℕ
+  pub first : BlankStands 0 bytes mid
+  pub more : BlanksStand mid rest
+
+-- a part of a line, and spaces or tabs after it
 pub record Spaced (part : List ℕ → List ℕ → Type 0) (bytes rest : List ℕ) : Type 0 where
   pub mid : List ℕ
   pub spelled : part bytes mid
-  pub space : mid ≡ 32 ∷ rest
+  pub gap : GapStands mid rest
 
 -- a language tag with its `@`
 pub record TagSpelled (tag bytes rest : List ℕ) : Type 0 where
@@ -108,7 +128,7 @@ abbrev pub TermSpelled : ℕ → ℕ → Term → List ℕ → List ℕ → Type
 TermSpelled iri n (Resource s) bytes rest = (n ≡ 1) × SubjectSpelled iri s bytes rest
 TermSpelled iri n (Literal w t) bytes rest = LiteralSpelled iri n w t bytes rest
 
--- a graph label of the form and a space, or none
+-- a graph label of the form and what parts it from the dot, or none
 abbrev pub GraphSpelled : LineForm → ℕ → ℕ → Option Subject → List ℕ → List ℕ → Type 0
 GraphSpelled form iri n None bytes rest = (n ≡ 0) × (bytes ≡ rest)
 GraphSpelled form iri n (Some g) bytes rest = (n ≡ 1) × (form ≡ NQuads) × Spaced (SubjectSpelled iri g) bytes rest

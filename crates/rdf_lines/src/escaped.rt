@@ -7,8 +7,8 @@ ghost use Rattle.rdf_lines.specs.Canonical.{end_text};
 ghost use Rattle.rdf_lines.specs.Fronts.{IriStands};
 ghost use Rattle.rdf_terms.specs.Terms.{IsLabel, IsTag, Resource};
 ghost use Rattle.rdf_terms.specs.Views.{quad_of, subject_by, term_by, tail_by};
-ghost use Rattle.rdf_lines.specs.Escaped.{is_clear, GraphSpelled, IriSpelled, LineSpelled, NameStands, PassesInto};
-ghost use Rattle.rdf_lines.specs.Escaped.{StringSpelled, SubjectSpelled, TailSpelled, TermSpelled};
+ghost use Rattle.rdf_lines.specs.Escaped.{is_clear, BlankStands, BlanksStand, GapStands, GraphSpelled};
+ghost use Rattle.rdf_lines.specs.Escaped.{IriSpelled, LineSpelled, NameStands, PassesInto, StringSpelled, SubjectSpelled, TailSpelled, TermSpelled};
 
 use crate::buffer::LineBuffer;
 use crate::canonical::{IriPart, after_byte, after_byte_at, after_end, iri};
@@ -19,7 +19,7 @@ use rdf_driver::Reader;
 use rdf_terms::runs::{Run, run_end};
 use rdf_terms::{
     IriView, Known, LabelView, LiteralRef, NodeRef, QuadRef, SubjectRef, TagView, TailRef, TermRef,
-    ValueFault, has_scheme, is_label, is_tag, known, set_iri_value, string_value,
+    ValueFault, has_scheme, is_label, is_tag, known, set_iri_value, set_string_value,
 };
 use std::alloc::{AllocError, Allocator, Global};
 
@@ -30,7 +30,6 @@ const LONGEST: usize = 2048;
 /// memory is used again from line to line.
 #[derive(Drop)]
 pub(crate) struct Values<A: Allocator = Global> {
-    alloc: A,
     subject: String<A>,
     predicate: String<A>,
     object: String<A>,
@@ -118,7 +117,6 @@ impl<A: Allocator + Copy> Values<A> {
     /// Before the first line. It takes no memory.
     pub(crate) fn new(alloc: A) -> Values<A> {
         Values {
-            alloc,
             subject: String::new(alloc),
             predicate: String::new(alloc),
             object: String::new(alloc),
@@ -127,11 +125,10 @@ impl<A: Allocator + Copy> Values<A> {
     }
 }
 
-/// Passes lines at the front of the text that end so and whose parts stand with one space after each, where the
+/// Passes lines at the front of the text that end so and whose parts stand with spaces or tabs after each, where the
 /// reader stands between two lines, and appends what is written for their quads with the labels kept. Strings and
-/// IRIs may have any escapes. Answers how many bytes they have. After a line that has as many bytes as what is
-/// written for it, it passes no more. It passes none with limits below 64, and none of a text that is longer than a
-/// token may be. Where memory for what a line means or for what is written is refused, some lines may have been
+/// IRIs may have any escapes. Answers how many bytes they have. After a line that stands as it is written, it passes
+/// no more. It passes none with limits below 64, and none of a text that is longer than a token may be. Where memory for what a line means or for what is written is refused, some lines may have been
 /// passed, and that one was not.
 pub fn pass_escaped<A: Allocator + Copy>(
     reader: &mut Reader<LineGrammar<A>, A>,
@@ -146,21 +143,24 @@ pub fn pass_escaped<A: Allocator + Copy>(
     let mut at = 0;
     'lines: loop {
         let len = out.len();
-        let passed = out.pass_line(reader, text_from(text, at), ending)?;
+        let line = text_from(text, at);
+        let passed = out.pass_line(reader, line, ending)?;
         if passed == 0 {
             return Ok(at);
         }
         at += passed;
-        let stands = stands_as_written(len, out.len(), passed);
+        let stands = stands_as_written(len, out, &line.as_bytes()[..passed]);
         if stands {
             return Ok(at);
         }
     }
 }
 
-// Whether so many bytes were appended as were passed, so that lines come that `pass_lines` may pass, which is faster.
-fn stands_as_written(old: usize, new: usize, passed: usize) -> bool {
-    new >= old && new - old == passed
+// Whether just this line was appended after so many bytes, so that lines come that `pass_lines` may pass, which is
+// faster.
+fn stands_as_written<A: Allocator + Copy>(old: usize, out: &LineBuffer<A>, line: &[u8]) -> bool {
+    let new = out.len();
+    new >= old && new - old == line.len() && out.as_slice().ends_with(line)
 }
 
 // The text from a place on, if a character begins there, or else none of it.
@@ -173,7 +173,7 @@ fn text_from(text: &str, at: usize) -> &str
     }
 }
 
-/// The line that the text begins with, if its parts stand with one space after each and it ends so.
+/// The line that the text begins with, if its parts stand with spaces or tabs after each and it ends so.
 pub(crate) fn escaped_line<'a, A: Allocator + Copy>(
     text: &'a str,
     ending: LineEnding,
@@ -185,17 +185,11 @@ pub(crate) fn escaped_line<'a, A: Allocator + Copy>(
         LineSpelled ending rules.form rules.iri l.tokens (quad_of l.quad) text.now l.rest.now) }
     ensures few { IfOk result (λ l. l.tokens ≤ 7) }
 {
-    let alloc = values.alloc;
     let subject = subject(text, rules.iri, &mut values.subject)?;
-    let after = skip_byte(subject.rest, b' ')?;
+    let after = skip_blanks(subject.rest)?;
     let predicate = any_iri(skip_byte(after, b'<')?, rules.iri, &mut values.predicate)?;
-    let object = object(
-        skip_byte(predicate.rest, b' ')?,
-        rules.iri,
-        alloc,
-        &mut values.object,
-    )?;
-    let graph = graph(skip_byte(object.rest, b' ')?, rules, &mut values.graph)?;
+    let object = object(skip_blanks(predicate.rest)?, rules.iri, &mut values.object)?;
+    let graph = graph(skip_blanks(object.rest)?, rules, &mut values.graph)?;
     Ok(EscapedLine {
         quad: QuadRef {
             subject: subject.subject,
@@ -239,7 +233,7 @@ fn label(text: &str) -> Result<NamePart<'_>, Unpassed>
     ensures { IfOk result (λ p. NameStands IsLabel (chars p.name.now) text.now p.rest.now) }
 {
     let end = run_end(Run::Iri, text.as_bytes(), 0);
-    skip_byte_at(text, end, b' ')?;
+    skip_blank_at(text, end)?;
     let name = &text[..end];
     if !is_label(name) {
         return Err(Unpassed::Other);
@@ -300,7 +294,6 @@ fn iri_end(bytes: &[u8]) -> usize
 fn object<'a, A: Allocator + Copy>(
     text: &'a str,
     limit: u64,
-    alloc: A,
     value: &'a mut String<A>,
 ) -> Result<ObjectPart<'a>, Unpassed>
     requires iri { 64 ≤ limit }
@@ -309,7 +302,7 @@ fn object<'a, A: Allocator + Copy>(
 {
     match after_byte(text, b'"') {
         Some(text) => {
-            let string = string(text, alloc, value)?;
+            let string = string(text, value)?;
             let tail = tail(string.rest, limit)?;
             Ok(ObjectPart {
                 object: TermRef::Literal(LiteralRef::new(string.lexical, tail.tail)),
@@ -340,14 +333,30 @@ fn term_of(subject: SubjectRef<'_>) -> TermRef<'_>
 // A string, whose opening quote came before.
 fn string<'a, A: Allocator + Copy>(
     text: &'a str,
-    alloc: A,
+    value: &'a mut String<A>,
+) -> Result<StringPart<'a>, Unpassed>
+    ensures { IfOk result (λ p. StringSpelled (chars p.lexical.now) text.now p.rest.now) }
+{
+    let end = run_end(Run::QuoteText, text.as_bytes(), 0);
+    match after_byte_at(text, end, b'"') {
+        Some(rest) => Ok(StringPart {
+            lexical: &text[..end],
+            rest,
+        }),
+        None => escaped_string(text, value),
+    }
+}
+
+// One with escapes stands where its value was put.
+fn escaped_string<'a, A: Allocator + Copy>(
+    text: &'a str,
     value: &'a mut String<A>,
 ) -> Result<StringPart<'a>, Unpassed>
     ensures { IfOk result (λ p. StringSpelled (chars p.lexical.now) text.now p.rest.now) }
 {
     let end = string_end(text.as_bytes());
     let rest = skip_byte_at(text, end, b'"')?;
-    *value = string_value(alloc, &text[..end])?;
+    set_string_value(value, &text[..end])?;
     Ok(StringPart {
         lexical: value.as_str(),
         rest,
@@ -420,7 +429,7 @@ fn tag(text: &str) -> Result<NamePart<'_>, Unpassed>
     ensures { IfOk result (λ p. NameStands IsTag (chars p.name.now) text.now p.rest.now) }
 {
     let end = run_end(Run::Name, text.as_bytes(), 0);
-    skip_byte_at(text, end, b' ')?;
+    skip_blank_at(text, end)?;
     let name = &text[..end];
     if !is_tag(name) {
         return Err(Unpassed::Other);
@@ -452,7 +461,7 @@ fn graph<'a, A: Allocator>(
             Ok(GraphPart {
                 graph: Some(part.subject),
                 tokens: 1,
-                rest: skip_byte(part.rest, b' ')?,
+                rest: skip_blanks(part.rest)?,
             })
         }
     }
@@ -466,6 +475,44 @@ fn datatype(text: &str, limit: u64) -> Result<IriPart<'_>, Unpassed>
     match iri(text, limit) {
         Some(part) => Ok(part),
         None => Err(Unpassed::Other),
+    }
+}
+
+// The text after the spaces and tabs that it begins with, of which there is one at least.
+#[inline(always)]
+fn skip_blanks(text: &str) -> Result<&str, Unpassed>
+    ensures { IfOk result (λ rest. GapStands text.now rest.now) }
+{
+    let rest = skip_blank_at(text, 0)?;
+    match rest.as_bytes().first() {
+        Some(next) if *next <= b' ' => Ok(after_blanks(rest)),
+        _ => Ok(rest),
+    }
+}
+
+// The text after the spaces and tabs that it begins with, if there are any.
+#[inline(never)]
+fn after_blanks(text: &str) -> &str
+    ensures { BlanksStand text.now result.now }
+{
+    let mut rest = text;
+    'blanks: loop {
+        match skip_blank_at(rest, 0) {
+            Ok(more) => rest = more,
+            Err(_) => return rest,
+        }
+    }
+}
+
+// The text after a space or a tab at a place.
+#[inline(always)]
+fn skip_blank_at(text: &str, at: usize) -> Result<&str, Unpassed>
+    requires within { at ≤ length text.now }
+    ensures { IfOk result (λ rest. BlankStands at text.now rest.now) }
+{
+    match after_byte_at(text, at, b' ') {
+        Some(rest) => Ok(rest),
+        None => skip_byte_at(text, at, b'\t'),
     }
 }
 

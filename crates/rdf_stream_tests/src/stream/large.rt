@@ -165,17 +165,23 @@ static ESCAPED: &str = "<a:b> <a:c> \"x\" .\n\
     <a:\\u00E9> <a:\\U0001F600> \"\\t\\b\\f\\'\\\"\\\\\\n\\r\\u0416\\u000A\"@ru <a:g\\u0067> .\n\
     _:x <a:p> <a:\\u0070> .\n\
     _:x <a:p> \"\\u0041\"^^<a:\\u0074> .\n\
-    _:x <a:p> \"\\t\"^^<a:t> .\n";
+    _:x <a:p> \"\\t\"^^<a:t> .\n\
+    _:x\t<a:p>\t\"a\tb\"@en\t<a:g>\t.\n\
+    <a:s> \t <a:p>  _:y\t\t<a:g> .\n\
+    <a:s>\t<a:p>\t\"\\u0041\"\t.\n";
 
 static WRITTEN: &str = "<a:b> <a:c> \"x\" .\n\
     <a:é> <a:😀> \"\t\u{8}\u{C}'\\\"\\\\\\n\\rЖ\\n\"@ru <a:gg> .\n\
     _:x <a:p> <a:p> .\n\
     _:x <a:p> \"A\"^^<a:t> .\n\
-    _:x <a:p> \"\t\"^^<a:t> .\n";
+    _:x <a:p> \"\t\"^^<a:t> .\n\
+    _:x <a:p> \"a\tb\"@en <a:g> .\n\
+    <a:s> <a:p> _:y <a:g> .\n\
+    <a:s> <a:p> \"A\" .\n";
 
-/// Lines with escapes are written by what they mean, whether they are read or passed, as all but the first can be.
+/// Lines with escapes or with tabs are written by what they mean, whether they are read or passed, as all but the first can be.
 #[test]
-fn lines_with_escapes_are_written_anew(rt: HostRuntime) {
+fn lines_with_escapes_or_tabs_are_written_anew(rt: HostRuntime) {
     let asked = Asked::of(Task::Convert, Form::NQuads, ESCAPED.as_bytes());
     assert!(rt; has_text(rt.alloc(), &asked, WRITTEN.as_bytes()));
 }
