@@ -1,5 +1,5 @@
 -- What stands at the front of some bytes, put together from its parts.
-use Rattle.rdf_lines.proofs.Prelude.{◌≡◌, ℕ, ◌+◌, ◌<◌, ◌≤◌, ◌⊎◌, Bool, true, false, List, [], ◌∷◌, ◌++◌, refl, sym, ap, ◌∙◌, subst, ⊎_elim, length, take, get_or, append_assoc, Option, Some, None, arith, length-append, flat_map, IfSome, bytes_eq, encode_utf8_all, chars, IsUtf8, AllByRecursion, append-nil, length-take-le, get_or-take, flat_map-append, and_parts, and_from, eq-eqb, nat_tests, bytes_eq-Decides, IsUtf8-take, encodes-append, encodes-chars, length-le-encodes, scalars-chars, scalars, iri_char, Label, Lang, Typed, Subject, Blank, Term, Resource, Literal, Quad, xsd_string, all_have, has_scheme, IsIri, IsLabel, IsTag, LineForm, NTriples, NQuads, LineEnding, Lf, CrLf, end_text, end_count, statement_text, ended_line, ended_lines, type_count, term_count, graph_count, quad_count, count, LabelFits, IsTaken, Stands, IriStands, LabelStands, TagStands, StringStands, SubjectStands, PredicateStands, TailStands, ObjectStands, GraphStands, LineStands, LinesStand, CharactersStand, EscapeStands, TermShort, TailShort, GraphShort, TokensWithin, written, escaped, iri_text, subject_text, string_text, type_text, tail_text, term_text, space, graph_text, iri_byte, is_short_byte, IsRun}
+use Rattle.rdf_lines.proofs.Prelude.{◌≡◌, ℕ, ◌+◌, ◌<◌, ◌≤◌, ◌⊎◌, Bool, true, false, List, [], ◌∷◌, ◌++◌, refl, sym, ap, ◌∙◌, subst, ⊎_elim, length, take, get_or, append_assoc, Option, Some, None, arith, length-append, flat_map, IfSome, bytes_eq, encode_utf8_all, chars, IsUtf8, AllByRecursion, append-nil, length-take-le, get_or-take, flat_map-append, and_parts, and_from, eq-eqb, nat_tests, bytes_eq-Decides, IsUtf8-take, encodes-append, encodes-chars, length-le-encodes, scalars-chars, scalars, iri_char, Label, Lang, Typed, Subject, Blank, Term, Resource, Literal, Quad, xsd_string, all_have, has_scheme, IsIri, IsLabel, IsTag, LineForm, NTriples, NQuads, LineEnding, Lf, CrLf, end_text, end_count, statement_text, ended_line, ended_lines, type_count, term_count, graph_count, quad_count, count, LabelFits, IsTaken, Stands, IriStands, NameStands, StringStands, SubjectStands, PredicateStands, TailStands, ObjectStands, GraphStands, LineStands, LinesStand, CharactersStand, EscapeStands, TermShort, TailShort, GraphShort, TokensWithin, written, escaped, iri_text, subject_text, string_text, type_text, tail_text, term_text, space, graph_text, iri_byte, is_short_byte, IsRun}
 use Rattle.std.proofs.Math.Utf8 as Utf8
 use Rattle.rdf_terms.specs.Classes.{has, scalar}
 use Rattle.rdf_terms.specs.Terms.{Tail, Iri}
@@ -58,13 +58,13 @@ iri_stands limit part a b u h s l e = record {
       (stands_then (chars part) (62 ∷ []) a (62 ∷ b) b (stands_text part a (62 ∷ b) u e) (stands_byte 62 (62 ∷ b) b (omega arith) refl));
 }
 
--- bytes that are a label's, at the front
-pub label_stands : (part a b : List ℕ) → IsUtf8 part → IsLabel (chars part) → a ≡ part ++ b → LabelStands a b
-label_stands part a b u h e = record { label = chars part; is = h; stands = stands_text part a b u e }
+-- bytes that are a label or a tag, at the front
+pub name_stands : (is : List ℕ → Type 0) (part a b : List ℕ) → IsUtf8 part → is (chars part) → a ≡ part ++ b → NameStands is (chars part) a b
+name_stands is part a b u h e = record { part = part; utf8 = u; named = refl; is_name = h; stands = e }
 
--- bytes that are a language tag's, at the front
-pub tag_stands : (part a b : List ℕ) → IsUtf8 part → IsTag (chars part) → a ≡ part ++ b → TagStands a b
-tag_stands part a b u h e = record { tag = chars part; is = h; stands = stands_text part a b u e }
+-- they are its characters
+name_text : (is : List ℕ → Type 0) (x a b : List ℕ) → NameStands is x a b → Stands x a b
+name_text is x a b h = subst (λ y. Stands y a b) h.named (stands_text h.part a b h.utf8 h.stands)
 
 -- a scalar value of UTF-8 is one of a string's characters
 scalar_same : (c : ℕ) → Utf8.scalar c ≡ true → scalar c ≡ true
@@ -145,15 +145,15 @@ module _ (limit : ℕ) where
   }
 
   -- so is a label after its two characters, with a space
-  pub label_subject : (a b c d r : List ℕ) → a ≡ 95 ∷ b → b ≡ 58 ∷ c → LabelStands c d → d ≡ 32 ∷ r → SubjectStands limit a r
-  label_subject a b c d r e f h g =
+  pub label_subject : (x a b c d r : List ℕ) → a ≡ 95 ∷ b → b ≡ 58 ∷ c → NameStands IsLabel x c d → d ≡ 32 ∷ r → SubjectStands limit a r
+  label_subject x a b c d r e f h g =
       let mark : Stands (95 ∷ 58 ∷ []) a c = stands_then (95 ∷ []) (58 ∷ []) a b c (stands_byte 95 a b (omega arith) e) (stands_byte 58 b c (omega arith) f) in
       record {
-        subject = Blank (Label h.label);
-        is = h.is;
+        subject = Blank (Label x);
+        is = h.is_name;
         labels = tt;
         within = tt;
-        stands = spaced (95 ∷ 58 ∷ h.label) a d r (stands_then (95 ∷ 58 ∷ []) h.label a c d mark h.stands) g;
+        stands = spaced (95 ∷ 58 ∷ x) a d r (stands_then (95 ∷ 58 ∷ []) x a c d mark (name_text IsLabel x c d h)) g;
       }
 
   -- an IRI and a space, as a predicate
@@ -197,13 +197,13 @@ module _ (limit : ℕ) where
   }
 
   -- a language tag and a space
-  pub tagged_tail : (a b c d : List ℕ) → a ≡ 64 ∷ b → TagStands b c → c ≡ 32 ∷ d → TailStands limit 1 a d
-  tagged_tail a b c d e h f = record {
-    tail = Lang h.tag;
-    is = h.is;
+  pub tagged_tail : (t a b c d : List ℕ) → a ≡ 64 ∷ b → NameStands IsTag t b c → c ≡ 32 ∷ d → TailStands limit 1 a d
+  tagged_tail t a b c d e h f = record {
+    tail = Lang t;
+    is = h.is_name;
     within = tt;
     count = refl;
-    stands = spaced (64 ∷ h.tag) a c d (stands_then (64 ∷ []) h.tag a b c (stands_byte 64 a b (omega arith) e) h.stands) f;
+    stands = spaced (64 ∷ t) a c d (stands_then (64 ∷ []) t a b c (stands_byte 64 a b (omega arith) e) (name_text IsTag t b c h)) f;
   }
 
   -- two carets, an IRI that is not that of xsd:string, and a space

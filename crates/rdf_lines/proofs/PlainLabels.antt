@@ -1,10 +1,10 @@
 -- A run of ASCII letters, digits, `_` and `-` is a label, if it is not empty and does not begin with `-`.
-use Rattle.rdf_lines.proofs.Prelude.{◌≡◌, ◌≢◌, ℕ, zero, suc, ◌<◌, Bool, true, false, not, ◌||◌, ◌==◌, List, [], ◌∷◌, ◌++◌, length, take, drop, get_or, refl, sym, ap, ◌∙◌, subst, arith, IsAscii, agree_below, agree_below_at, and_parts, and_from, cond-true, ne_eqb, nat_tests, take-append-drop, length-take-le, get_or-take, chars-IsAscii, IsUtf8-from_ascii, Lines, pn_char, is_name_byte, IsRun, all_have, IsLabel, LabelStands}
+use Rattle.rdf_lines.proofs.Prelude.{◌≡◌, ◌≢◌, IsUtf8, chars, ℕ, zero, suc, ◌<◌, Bool, true, false, not, ◌||◌, ◌==◌, List, [], ◌∷◌, ◌++◌, length, take, drop, get_or, refl, sym, ap, ◌∙◌, subst, arith, IsAscii, agree_below, agree_below_at, and_parts, and_from, cond-true, ne_eqb, nat_tests, take-append-drop, length-take-le, get_or-take, chars-IsAscii, Lines, pn_char, is_name_byte, IsRun, all_have, IsLabel, NameStands}
 use Rattle.rdf_terms.specs.Classes.{has}
 use Rattle.rdf_terms.specs.Names.{begins_label, name_goes_on}
 use Rattle.rdf_terms.proofs.NamesLemmas.{name_goes_on-IsLabel}
 use Rattle.rdf_tokens.proofs.NoNamesLemmas.{implied}
-use Rattle.rdf_lines.proofs.FrontsLemmas.{run_taken, label_stands}
+use Rattle.rdf_lines.proofs.FrontsLemmas.{run_taken, name_stands}
 
 -- each of these is ASCII
 low : (b : ℕ) → is_name_byte b ≡ true → b < 128
@@ -43,11 +43,11 @@ plain (b ∷ w) h some first =
     (name_goes_on-IsLabel true b w (sym (and_from _ _ (begins b p.0 first) (all_go_on w p.1)))).0 refl
 
 -- a run of them stands at the front
-pub plain_stands : (bs rest : List ℕ) (end : ℕ) → IsRun is_name_byte bs 0 end → 0 < end → get_or bs 0 0 ≢ 45 → rest ≡ drop end bs → LabelStands bs rest
-plain_stands bs rest end run some first left =
+pub plain_stands : (bs part rest : List ℕ) (end : ℕ) → IsUtf8 part → part ≡ take end bs → rest ≡ drop end bs → IsRun is_name_byte bs 0 end → 0 < end →
+    get_or bs 0 0 ≢ 45 → NameStands IsLabel (chars part) bs rest
+plain_stands bs part rest end u e left run some first =
     let w = take end bs in
     let h = run_taken is_name_byte bs end run in
-    let a = ascii w h in
     let is = plain w h (omega (arith, length-take-le end bs run.within)) (ap (λ b. b == 45) (get_or-take end bs 0 0 some) ∙ ne_eqb _ 45 first) in
-    label_stands w bs rest (IsUtf8-from_ascii w a) (subst IsLabel (sym (chars-IsAscii w a)) is)
-    (sym (take-append-drop end bs) ∙ ap (λ x. w ++ x) (sym left))
+    name_stands IsLabel part bs rest u (subst IsLabel (sym (ap chars e ∙ chars-IsAscii w (ascii w h))) is)
+    (sym (take-append-drop end bs) ∙ (ap (λ x. w ++ x) (sym left) ∙ ap (λ x. x ++ rest) (sym e)))

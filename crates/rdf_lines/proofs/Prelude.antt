@@ -8,9 +8,9 @@ pub use Rattle.rdf_iri.specs.Texts.{byte_len}
 pub use Rattle.rdf_lines.specs.Accepting.{line_words, LineAt, all_bytes}
 pub use Rattle.rdf_lines.specs.Canonical.{end_text, end_count, statement_text, ended_line, ended_lines, type_count, term_count, graph_count, quad_count, count, LabelFits, IsTaken, CanonicalLinesAreRead, PassesLines, without_crs, CanonicalLinesAreWritten}
 pub use Rattle.rdf_lines.specs.Documents.{in_lines, Passes, Blamed}
-pub use Rattle.rdf_lines.specs.Escaped.{is_clear, IriSpelled, StringSpelled, NamedIri, NameStands, LabelSpelled, SubjectSpelled, Spaced, BlankStands, BlanksStand, GapStands, TagSpelled, TypeSpelled, TailSpelled, LiteralSpelled, TermSpelled, GraphSpelled, LineSpelled, PassesInto}
+pub use Rattle.rdf_lines.specs.Escaped.{is_clear, IriSpelled, StringSpelled, NamedIri, LabelSpelled, SubjectSpelled, Spaced, BlanksStand, GapStands, TagSpelled, TypeSpelled, TailSpelled, LiteralSpelled, TermSpelled, GraphSpelled, LineSpelled, PassesInto}
 pub use Rattle.rdf_lines.specs.Forms.{prefix_chars, form_of}
-pub use Rattle.rdf_lines.specs.Fronts.{Stands, IriStands, LabelStands, TagStands, StringStands, SubjectStands, PredicateStands, TailStands, ObjectStands, GraphStands, LineStands, LinesStand, AreLines, CharactersStand, EscapeStands}
+pub use Rattle.rdf_lines.specs.Fronts.{Stands, IriStands, NameStands, BlankStands, StringStands, SubjectStands, PredicateStands, TailStands, ObjectStands, GraphStands, LineStands, LinesStand, AreLines, CharactersStand, EscapeStands}
 pub use Rattle.rdf_lines.specs.GoodTrees.{name_bound, object_bound, graph_bound, GoodStatement, GoodDocument, GoodLine}
 pub use Rattle.rdf_lines.specs.Laws.{ReadQuadsAreDue, DocumentsAreRead, RefusedIsNoDocument, TokensWithin, SubjectWithin, TermWithin, GraphWithin, IrisWithin, MarksNeverFall, TailWithin, TailShort, TermShort, GraphShort, WrittenTextReadsBack, WrittenTextIsRead, AsciiIsWritten, JoinedTextsReadBack, FormsAgreeOnAscii, ReadsBack, NamesStayApart, PrefixesKeepApart, NoPrefixIsNoChange, TokensSettleTheQuads, TokensSettleWhatIsDue, DueBeginsTheQuads, IsClosing, BeginningsAreCompleted, DocumentIsWritable, string_width, iri_width, WrittenDocumentIsRead}
 pub use Rattle.rdf_lines.specs.Lines.{Name, Ref, Lab, Object, Named, WithType, WithTag, Statement, last, next, subject_of, term_of, documents, statement_tokens, name_tokens, object_tokens, graph_tokens, graph_fits, Line, Document, line_tokens, document_tokens, string_of, head_tokens, line_quads, document_quads, iri_passes, trees, IsDocument, any_iri}

@@ -1,5 +1,5 @@
 -- Lines whose strings and IRIs may have any escapes: what stands at the front of some bytes, and what it means.
-use Rattle.std.specs.Prelude.{◌≡◌, ◌≤◌, ◌+◌, ◌⊎◌, ℕ, Bool, true, false, cond, ◌&&◌, ◌==◌, List, [], ◌∷◌, ◌++◌, take, Option, Some, None, encode_utf8_all}
+use Rattle.std.specs.Prelude.{◌≡◌, ◌≤◌, ◌+◌, ◌⊎◌, ℕ, Bool, true, false, cond, ◌&&◌, ◌==◌, List, [], ◌∷◌, ◌++◌, Option, Some, None, encode_utf8_all}
 use Rattle.std.specs.Str.{chars, IsUtf8}
 use Rattle.rdf_terms.specs.Classes.{scalar}
 use Rattle.rdf_terms.specs.Runs.{is_short_byte}
@@ -16,6 +16,7 @@ use Rattle.rdf_lines.specs.declared.form.Style.TheVariants.{Kept}
 use Rattle.rdf_lines.specs.declared.rules.Rules.{Rules}
 use Rattle.rdf_lines.specs.Accepting.{LineAt, line_words}
 use Rattle.rdf_lines.specs.Canonical.{end_text}
+use Rattle.rdf_lines.specs.Fronts.{BlankStands, NameStands}
 use Rattle.rdf_lines.specs.declared.form.Escapes.TheVariants.{Plain}
 use Rattle.rdf_lines.specs.Writing.{Writable, text}
 
@@ -51,14 +52,6 @@ pub record NamedIri (iri : ℕ) (i bytes rest : List ℕ) : Type 0 where
   pub opens : bytes ≡ 60 ∷ inner
   pub spelled : IriSpelled iri i inner rest
 
--- a label or a tag, and what follows it
-pub record NameStands (is : List ℕ → Type 0) (name bytes rest : List ℕ) : Type 0 where
-  pub part : List ℕ
-  pub utf8 : IsUtf8 part
-  pub named : chars part ≡ name
-  pub is_name : is name
-  pub stands : bytes ≡ part ++ rest
-
 -- a label with its `_:`
 pub record LabelSpelled (name bytes rest : List ℕ) : Type 0 where
   pub inner : List ℕ
@@ -71,12 +64,6 @@ SubjectSpelled iri (Iri i) bytes rest = NamedIri iri i bytes rest
 SubjectSpelled iri (Blank (Label x)) bytes rest = LabelSpelled x bytes rest
 SubjectSpelled iri (Blank (Anon n)) bytes rest = ⊥
 SubjectSpelled iri (Blank (Cell n)) bytes rest = ⊥
-
--- a space or a tab after n bytes
-pub record BlankStands (n : ℕ) (bytes rest : List ℕ) : Type 0 where
-  pub blank : ℕ
-  pub is : is_space Lines blank ≡ true
-  pub stands : bytes ≡ take n bytes ++ blank ∷ rest
 
 -- spaces and tabs, or none
 pub record BlanksStand (bytes rest : List ℕ) : Type 0 where

@@ -1,8 +1,11 @@
 -- What stands at the front of some bytes, as it is written in a line.
-use Rattle.std.specs.Prelude.{◌≡◌, ◌≤◌, ℕ, true, List, [], ◌∷◌, ◌++◌, flat_map, encode_utf8_all, length, Option}
+use Rattle.std.specs.Prelude.{◌≡◌, ◌≤◌, ℕ, true, List, [], ◌∷◌, ◌++◌, flat_map, encode_utf8_all, length, take, Option}
+use Rattle.std.specs.Str.{chars, IsUtf8}
+use Rattle.rdf_terms.specs.declared.kind.Dialect.TheVariants.{Lines}
+use Rattle.rdf_tokens.specs.Tokens.{is_space}
 use Rattle.std.specs.List.{AllByRecursion}
 use Rattle.rdf_terms.specs.Classes.{scalar}
-use Rattle.rdf_terms.specs.Terms.{Tail, Subject, Term, Quad, all_have, IsIri, IsLabel, IsTag, IsSubject, IsTail, IsTerm, IsGraph}
+use Rattle.rdf_terms.specs.Terms.{Tail, Subject, Term, Quad, all_have, IsIri, IsSubject, IsTail, IsTerm, IsGraph}
 use Rattle.rdf_iri.specs.Texts.{byte_len}
 use Rattle.rdf_lines.specs.declared.form.LineForm.{LineForm}
 use Rattle.rdf_lines.specs.declared.form.LineEnding.{LineEnding}
@@ -23,17 +26,19 @@ pub record IriStands (iri : ℕ) (i bytes rest : List ℕ) : Type 0 where
   pub within : byte_len i ≤ iri
   pub stands : Stands (flat_map (written Plain) i ++ 62 ∷ []) bytes rest
 
--- a label
-pub record LabelStands (bytes rest : List ℕ) : Type 0 where
-  pub label : List ℕ
-  pub is : IsLabel label
-  pub stands : Stands label bytes rest
+-- a label or a tag, and what follows it
+pub record NameStands (is : List ℕ → Type 0) (name bytes rest : List ℕ) : Type 0 where
+  pub part : List ℕ
+  pub utf8 : IsUtf8 part
+  pub named : chars part ≡ name
+  pub is_name : is name
+  pub stands : bytes ≡ part ++ rest
 
--- a language tag
-pub record TagStands (bytes rest : List ℕ) : Type 0 where
-  pub tag : List ℕ
-  pub is : IsTag tag
-  pub stands : Stands tag bytes rest
+-- a space or a tab after n bytes
+pub record BlankStands (n : ℕ) (bytes rest : List ℕ) : Type 0 where
+  pub blank : ℕ
+  pub is : is_space Lines blank ≡ true
+  pub stands : bytes ≡ take n bytes ++ blank ∷ rest
 
 -- characters of a string
 pub record CharactersStand (bytes rest : List ℕ) : Type 0 where

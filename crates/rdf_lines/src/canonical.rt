@@ -5,7 +5,8 @@ ghost use Rattle.std.specs.Str.{chars, IsUtf8};
 ghost use Rattle.rdf_terms.specs.Runs.{is_short_byte, IsRun};
 ghost use Rattle.rdf_tokens.specs.Scans.{most_bytes};
 ghost use Rattle.rdf_lines.specs.Canonical.{PassesLines, end_count, end_text};
-ghost use Rattle.rdf_lines.specs.Fronts.{IriStands, LabelStands, TagStands, StringStands, SubjectStands};
+ghost use Rattle.rdf_lines.specs.Fronts.{IriStands, NameStands, BlankStands, StringStands, SubjectStands};
+ghost use Rattle.rdf_terms.specs.Terms.{IsLabel, IsTag};
 ghost use Rattle.rdf_lines.specs.Fronts.{PredicateStands, TailStands, ObjectStands, GraphStands, LineStandsByAnyLimit};
 ghost use Rattle.rdf_lines.specs.Fronts.{AreLines, CharactersStand, EscapeStands};
 
@@ -39,6 +40,13 @@ struct Part<'a> {
 #[derive(Clone, Copy)]
 pub(crate) struct IriPart<'a> {
     pub(crate) iri: &'a str,
+    pub(crate) rest: &'a str,
+}
+
+// A label or a tag, and what comes after it.
+#[derive(Clone, Copy)]
+pub(crate) struct NamePart<'a> {
+    pub(crate) name: &'a str,
     pub(crate) rest: &'a str,
 }
 
@@ -164,7 +172,10 @@ fn subject(text: &str, limit: u64) -> Option<&str>
 {
     match after_byte(text, b'<') {
         Some(text) => after_byte(iri(text, limit)?.rest, b' '),
-        None => after_byte(label(after_byte(after_byte(text, b'_')?, b':')?)?, b' '),
+        None => after_byte(
+            label(after_byte(after_byte(text, b'_')?, b':')?)?.rest,
+            b' ',
+        ),
     }
 }
 
@@ -206,7 +217,7 @@ fn tail(text: &str, limit: u64) -> Option<Part<'_>>
     if let Some(text) = after_byte(text, b'@') {
         return Some(Part {
             tokens: 1,
-            rest: after_byte(tag(text)?, b' ')?,
+            rest: after_byte(tag(text)?.rest, b' ')?,
         });
     }
     let text = after_byte(after_byte(after_byte(text, b'^')?, b'^')?, b'<')?;
@@ -252,50 +263,61 @@ pub(crate) fn iri(text: &str, limit: u64) -> Option<IriPart<'_>>
 }
 
 // A label, whose `_:` came before.
-fn label(text: &str) -> Option<&str>
-    ensures { IfSome result (λ rest. LabelStands text.now rest.now) }
+pub(crate) fn label(text: &str) -> Option<NamePart<'_>>
+    ensures { IfSome result (λ p. NameStands IsLabel (chars p.name.now) text.now p.rest.now) }
 {
     match plain_label(text) {
-        Some(rest) => Some(rest),
+        Some(part) => Some(part),
         None => any_label(text),
     }
 }
 
 // One of ASCII letters, digits, `_` and `-`.
-fn plain_label(text: &str) -> Option<&str>
-    ensures { IfSome result (λ rest. LabelStands text.now rest.now) }
+fn plain_label(text: &str) -> Option<NamePart<'_>>
+    ensures { IfSome result (λ p. NameStands IsLabel (chars p.name.now) text.now p.rest.now) }
 {
     let bytes = text.as_bytes();
     let end = run_end(Run::Name, bytes, 0);
-    after_byte_at(text, end, b' ')?;
+    after_blank_at(text, end)?;
     if end == 0 || bytes[0] == b'-' {
         return None;
     }
-    Some(&text[end..])
+    Some(NamePart {
+        name: &text[..end],
+        rest: &text[end..],
+    })
 }
 
 // Any label. Each of its characters may stand in an IRI, and a space may not.
-fn any_label(text: &str) -> Option<&str>
-    ensures { IfSome result (λ rest. LabelStands text.now rest.now) }
+fn any_label(text: &str) -> Option<NamePart<'_>>
+    ensures { IfSome result (λ p. NameStands IsLabel (chars p.name.now) text.now p.rest.now) }
 {
     let end = run_end(Run::Iri, text.as_bytes(), 0);
-    after_byte_at(text, end, b' ')?;
-    if !is_label(&text[..end]) {
+    after_blank_at(text, end)?;
+    let name = &text[..end];
+    if !is_label(name) {
         return None;
     }
-    Some(&text[end..])
+    Some(NamePart {
+        name,
+        rest: &text[end..],
+    })
 }
 
 // A language tag, whose `@` came before.
-fn tag(text: &str) -> Option<&str>
-    ensures { IfSome result (λ rest. TagStands text.now rest.now) }
+pub(crate) fn tag(text: &str) -> Option<NamePart<'_>>
+    ensures { IfSome result (λ p. NameStands IsTag (chars p.name.now) text.now p.rest.now) }
 {
     let end = run_end(Run::Name, text.as_bytes(), 0);
-    after_byte_at(text, end, b' ')?;
-    if !is_tag(&text[..end]) {
+    after_blank_at(text, end)?;
+    let name = &text[..end];
+    if !is_tag(name) {
         return None;
     }
-    Some(&text[end..])
+    Some(NamePart {
+        name,
+        rest: &text[end..],
+    })
 }
 
 // A string, whose opening quote came before.
@@ -331,6 +353,18 @@ fn after_letter(text: &str) -> Option<&str>
         return None;
     }
     after_byte(text, letter)
+}
+
+// The text after a space or a tab at a place.
+#[inline(always)]
+pub(crate) fn after_blank_at(text: &str, at: usize) -> Option<&str>
+    requires within { at ≤ length text.now }
+    ensures { IfSome result (λ rest. BlankStands at text.now rest.now) }
+{
+    match after_byte_at(text, at, b' ') {
+        Some(rest) => Some(rest),
+        None => Some(after_byte_at(text, at, b'\t')?),
+    }
 }
 
 // The text after an ASCII character that it begins with.

@@ -5,13 +5,15 @@ ghost use Rattle.std.specs.Prelude.{IfOk, OnErr};
 ghost use Rattle.std.specs.Str.{chars, IsUtf8};
 ghost use Rattle.rdf_lines.specs.Canonical.{end_text};
 ghost use Rattle.rdf_lines.specs.Fronts.{IriStands};
-ghost use Rattle.rdf_terms.specs.Terms.{IsLabel, IsTag, Resource};
+ghost use Rattle.rdf_terms.specs.Terms.{Resource};
 ghost use Rattle.rdf_terms.specs.Views.{quad_of, subject_by, term_by, tail_by};
-ghost use Rattle.rdf_lines.specs.Escaped.{is_clear, BlankStands, BlanksStand, GapStands, GraphSpelled};
-ghost use Rattle.rdf_lines.specs.Escaped.{IriSpelled, LineSpelled, NameStands, PassesInto, StringSpelled, SubjectSpelled, TailSpelled, TermSpelled};
+ghost use Rattle.rdf_lines.specs.Escaped.{is_clear, BlanksStand, GapStands, GraphSpelled};
+ghost use Rattle.rdf_lines.specs.Escaped.{IriSpelled, LineSpelled, PassesInto, StringSpelled, SubjectSpelled, TailSpelled, TermSpelled};
 
 use crate::buffer::LineBuffer;
-use crate::canonical::{IriPart, after_byte, after_byte_at, after_end, iri};
+use crate::canonical::{
+    IriPart, after_blank_at, after_byte, after_byte_at, after_end, iri, label, tag,
+};
 use crate::form::{LineEnding, LineForm};
 use crate::grammar::LineGrammar;
 use crate::rules::Rules;
@@ -19,7 +21,7 @@ use rdf_driver::Reader;
 use rdf_terms::runs::{Run, run_end};
 use rdf_terms::{
     IriView, Known, LabelView, LiteralRef, NodeRef, QuadRef, SubjectRef, TagView, TailRef, TermRef,
-    ValueFault, has_scheme, is_label, is_tag, known, set_iri_value, set_string_value,
+    ValueFault, has_scheme, known, set_iri_value, set_string_value,
 };
 use std::alloc::{AllocError, Allocator, Global};
 
@@ -72,13 +74,6 @@ pub(crate) struct EscapedLine<'a> {
 #[derive(Clone, Copy)]
 struct SubjectPart<'a> {
     subject: SubjectRef<'a>,
-    rest: &'a str,
-}
-
-// A label or a tag, and what comes after it.
-#[derive(Clone, Copy)]
-struct NamePart<'a> {
-    name: &'a str,
     rest: &'a str,
 }
 
@@ -218,30 +213,14 @@ fn subject<'a, A: Allocator>(
                 rest: part.rest,
             })
         }
-        None => {
-            let part = label(skip_byte(skip_byte(text, b'_')?, b':')?)?;
-            Ok(SubjectPart {
+        None => match label(skip_byte(skip_byte(text, b'_')?, b':')?) {
+            Some(part) => Ok(SubjectPart {
                 subject: SubjectRef::Node(NodeRef::Label(LabelView::new(part.name))),
                 rest: part.rest,
-            })
-        }
+            }),
+            None => Err(Unpassed::Other),
+        },
     }
-}
-
-// A label, whose `_:` came before.
-fn label(text: &str) -> Result<NamePart<'_>, Unpassed>
-    ensures { IfOk result (λ p. NameStands IsLabel (chars p.name.now) text.now p.rest.now) }
-{
-    let end = run_end(Run::Iri, text.as_bytes(), 0);
-    skip_blank_at(text, end)?;
-    let name = &text[..end];
-    if !is_label(name) {
-        return Err(Unpassed::Other);
-    }
-    Ok(NamePart {
-        name,
-        rest: &text[end..],
-    })
 }
 
 // An IRI, whose opening bracket came before. One without escapes stands in the text.
@@ -402,7 +381,9 @@ fn tail(text: &str, limit: u64) -> Result<TailPart<'_>, Unpassed>
     ensures few { IfOk result (λ p. p.tokens ≤ 2) }
 {
     if let Some(text) = after_byte(text, b'@') {
-        let part = tag(text)?;
+        let Some(part) = tag(text) else {
+            return Err(Unpassed::Other);
+        };
         return Ok(TailPart {
             tail: TailRef::Lang(TagView::new(part.name)),
             tokens: 1,
@@ -421,22 +402,6 @@ fn tail(text: &str, limit: u64) -> Result<TailPart<'_>, Unpassed>
         tail: TailRef::Typed(known(Known::XsdString)),
         tokens: 0,
         rest: text,
-    })
-}
-
-// A language tag, whose `@` came before.
-fn tag(text: &str) -> Result<NamePart<'_>, Unpassed>
-    ensures { IfOk result (λ p. NameStands IsTag (chars p.name.now) text.now p.rest.now) }
-{
-    let end = run_end(Run::Name, text.as_bytes(), 0);
-    skip_blank_at(text, end)?;
-    let name = &text[..end];
-    if !is_tag(name) {
-        return Err(Unpassed::Other);
-    }
-    Ok(NamePart {
-        name,
-        rest: &text[end..],
     })
 }
 
@@ -483,7 +448,9 @@ fn datatype(text: &str, limit: u64) -> Result<IriPart<'_>, Unpassed>
 fn skip_blanks(text: &str) -> Result<&str, Unpassed>
     ensures { IfOk result (λ rest. GapStands text.now rest.now) }
 {
-    let rest = skip_blank_at(text, 0)?;
+    let Some(rest) = after_blank_at(text, 0) else {
+        return Err(Unpassed::Other);
+    };
     match rest.as_bytes().first() {
         Some(next) if *next <= b' ' => Ok(after_blanks(rest)),
         _ => Ok(rest),
@@ -497,22 +464,10 @@ fn after_blanks(text: &str) -> &str
 {
     let mut rest = text;
     'blanks: loop {
-        match skip_blank_at(rest, 0) {
-            Ok(more) => rest = more,
-            Err(_) => return rest,
+        match after_blank_at(rest, 0) {
+            Some(more) => rest = more,
+            None => return rest,
         }
-    }
-}
-
-// The text after a space or a tab at a place.
-#[inline(always)]
-fn skip_blank_at(text: &str, at: usize) -> Result<&str, Unpassed>
-    requires within { at ≤ length text.now }
-    ensures { IfOk result (λ rest. BlankStands at text.now rest.now) }
-{
-    match after_byte_at(text, at, b' ') {
-        Some(rest) => Ok(rest),
-        None => skip_byte_at(text, at, b'\t'),
     }
 }
 

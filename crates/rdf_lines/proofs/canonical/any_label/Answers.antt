@@ -1,14 +1,14 @@
-use Rattle.rdf_lines.proofs.Prelude.{◌≡◌, ◌++◌, take, drop, ap, sym, ◌∙◌, take-append-drop}
-use Rattle.rdf_lines.proofs.FrontsLemmas.{front_slice, label_stands}
+use Rattle.rdf_lines.proofs.Prelude.{◌≡◌, ◌++◌, take, drop, ap, sym, ◌∙◌, take-append-drop, IsLabel}
+use Rattle.rdf_lines.proofs.FrontsLemmas.{front_slice, name_stands}
 use Rattle.rdf_lines.proofs.canonical.any_label.Goals as goal
 
 pub returns : goal.returns
 returns c =
     let text = c.args.text.now in
     let end = c.run_end-end.result in
-    let part = c.range.result.now in
+    let part = c.range-name.result.now in
     let rest = c.range_from.result.now in
-    let value : part ≡ take end text = c.range.ensures.value ∙ front_slice text end in
+    let value : part ≡ take end text = c.range-name.ensures.value ∙ front_slice text end in
     let whole : text ≡ part ++ rest = sym (take-append-drop end text)
     ∙ (ap (λ x. x ++ drop end text) (sym value) ∙ ap (λ x. part ++ x) (sym c.range_from.ensures.value)) in
-    label_stands part text rest c.range.utf8 (c.is_label.ensures.0 c.if-not-is_label.false) whole
+    name_stands IsLabel part text rest c.range-name.utf8 (c.is_label.ensures.0 c.if-not-is_label.false) whole

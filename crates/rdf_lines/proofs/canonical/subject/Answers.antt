@@ -17,7 +17,7 @@ returns-in_ok-label-in-None c =
     let text = c.args.text.now in
     let first = c.in_ok-after_byte-in-None.field-0.now in
     let second = c.in_ok-after_byte-in-None-2.field-0.now in
-    let after_name = c.in_ok-label-in-None.field-0.now in
-    if_some c.after_byte-in-None-3.result (λ rest. after_name ≡ 32 ∷ rest.now) (λ rest. SubjectStands limit text rest.now)
-    (λ rest e. label_subject limit text first second after_name rest.now c.in_ok-after_byte-in-None.ensures
+    let name = c.in_ok-label-in-None.field-0 in
+    if_some c.after_byte-in-None-3.result (λ rest. name.rest.now ≡ 32 ∷ rest.now) (λ rest. SubjectStands limit text rest.now)
+    (λ rest e. label_subject limit (chars name.name.now) text first second name.rest.now rest.now c.in_ok-after_byte-in-None.ensures
     c.in_ok-after_byte-in-None-2.ensures c.in_ok-label-in-None.ensures e) c.after_byte-in-None-3.ensures

@@ -1,4 +1,4 @@
-use Rattle.rdf_lines.proofs.Prelude.{sym, ◌∙◌, arith}
+use Rattle.rdf_lines.proofs.Prelude.{sym, ◌∙◌, arith, chars}
 use Rattle.rdf_lines.proofs.FrontsLemmas.{plain_tail, tagged_tail, typed_tail}
 use Rattle.rdf_lines.proofs.canonical.tail.Goals as goal
 
@@ -7,7 +7,7 @@ returns-in-Some-clause-stands c = let roomy = c.requires in plain_tail c.args.li
 
 pub returns-in-Some-after_byte-clause-stands : goal.returns-in-Some-after_byte-clause-stands
 returns-in-Some-after_byte-clause-stands c =
-    tagged_tail c.args.limit c.args.text.now c.in-Some-after_byte.text.now c.in_ok-tag.field-0.now c.in_ok-after_byte.field-0.now
+    tagged_tail c.args.limit (chars c.in_ok-tag.field-0.name.now) c.args.text.now c.in-Some-after_byte.text.now c.in_ok-tag.field-0.rest.now c.in_ok-after_byte.field-0.now
     c.in-Some-after_byte.ensures c.in_ok-tag.ensures c.in_ok-after_byte.ensures
 
 pub returns-clause-stands : goal.returns-clause-stands

@@ -5,12 +5,12 @@ use Rattle.rdf_lines.proofs.escaped.tail.Goals as goal
 
 pub returns-in-Some-clause-spelled : goal.returns-in-Some-clause-spelled
 returns-in-Some-clause-spelled c =
-    subst (λ t. TailSpelled c.args.limit 1 (Lang (chars t)) c.args.text.now c.in_ok-part.part.rest.now) (sym c.new.ensures)
-    (refl, record { inner = c.in-Some.text.now; opens = c.in-Some.ensures; spelled = c.in_ok-part.ensures })
+    subst (λ t. TailSpelled c.args.limit 1 (Lang (chars t)) c.args.text.now c.in-Some-tag.part.rest.now) (sym c.new.ensures)
+    (refl, record { inner = c.in-Some.text.now; opens = c.in-Some.ensures; spelled = c.in-Some-tag.ensures })
 
 pub returns-in-Some-after_byte-clause-spelled : goal.returns-in-Some-after_byte-clause-spelled
 returns-in-Some-after_byte-clause-spelled c =
-    let part = c.in_ok-part-2.part in
+    let part = c.in_ok-part.part in
     let carets = c.in-Some-after_byte.ensures ∙ ap (λ x. 94 ∷ x) c.in_ok-skip_byte.ensures in
     subst (λ t. TailSpelled c.args.limit 2 (Typed (chars t)) c.args.text.now part.rest.now) (sym c.new-in-Some-after_byte.ensures)
     (inr (
@@ -21,8 +21,8 @@ returns-in-Some-after_byte-clause-spelled c =
         spelled = record {
           inner = c.in_ok-skip_byte-2.field-0.now;
           opens = c.in_ok-skip_byte-2.ensures;
-          spelled = plain_spelled c.args.limit part.iri.now c.in_ok-skip_byte-2.field-0.now part.rest.now c.in_ok-part-2.ensures.utf8
-              c.in_ok-part-2.ensures.stands;
+          spelled = plain_spelled c.args.limit part.iri.now c.in_ok-skip_byte-2.field-0.now part.rest.now c.in_ok-part.ensures.utf8
+              c.in_ok-part.ensures.stands;
         };
       },
     ))
