@@ -21,7 +21,7 @@ use rdf_driver::Reader;
 use rdf_terms::runs::{Run, run_end};
 use rdf_terms::{
     IriView, Known, LabelView, LiteralRef, NodeRef, QuadRef, SubjectRef, TagView, TailRef, TermRef,
-    ValueFault, has_scheme, known, set_iri_value, set_string_value,
+    ValueFault, has_scheme, known, set_iri_value, string_value,
 };
 use std::alloc::{AllocError, Allocator, Global};
 
@@ -32,6 +32,7 @@ const LONGEST: usize = 2048;
 /// memory is used again from line to line.
 #[derive(Drop)]
 pub(crate) struct Values<A: Allocator = Global> {
+    alloc: A,
     subject: String<A>,
     predicate: String<A>,
     object: String<A>,
@@ -112,6 +113,7 @@ impl<A: Allocator + Copy> Values<A> {
     /// Before the first line. It takes no memory.
     pub(crate) fn new(alloc: A) -> Values<A> {
         Values {
+            alloc,
             subject: String::new(alloc),
             predicate: String::new(alloc),
             object: String::new(alloc),
@@ -123,8 +125,8 @@ impl<A: Allocator + Copy> Values<A> {
 /// Passes lines at the front of the text that end so and whose parts stand with spaces or tabs after each, where the
 /// reader stands between two lines, and appends what is written for their quads with the labels kept. Strings and
 /// IRIs may have any escapes. Answers how many bytes they have. After a line that stands as it is written, it passes
-/// no more. It passes none with limits below 64, and none of a text that is longer than a token may be. Where memory for what a line means or for what is written is refused, some lines may have been
-/// passed, and that one was not.
+/// no more. It passes none with limits below 64, and none of a text that is longer than a token may be. Where memory
+/// for what a line means or for what is written is refused, some lines may have been passed, and that one was not.
 pub fn pass_escaped<A: Allocator + Copy>(
     reader: &mut Reader<LineGrammar<A>, A>,
     text: &str,
@@ -180,10 +182,16 @@ pub(crate) fn escaped_line<'a, A: Allocator + Copy>(
         LineSpelled ending rules.form rules.iri l.tokens (quad_of l.quad) text.now l.rest.now) }
     ensures few { IfOk result (λ l. l.tokens ≤ 7) }
 {
+    let alloc = values.alloc;
     let subject = subject(text, rules.iri, &mut values.subject)?;
     let after = skip_blanks(subject.rest)?;
     let predicate = any_iri(skip_byte(after, b'<')?, rules.iri, &mut values.predicate)?;
-    let object = object(skip_blanks(predicate.rest)?, rules.iri, &mut values.object)?;
+    let object = object(
+        skip_blanks(predicate.rest)?,
+        rules.iri,
+        alloc,
+        &mut values.object,
+    )?;
     let graph = graph(skip_blanks(object.rest)?, rules, &mut values.graph)?;
     Ok(EscapedLine {
         quad: QuadRef {
@@ -273,6 +281,7 @@ fn iri_end(bytes: &[u8]) -> usize
 fn object<'a, A: Allocator + Copy>(
     text: &'a str,
     limit: u64,
+    alloc: A,
     value: &'a mut String<A>,
 ) -> Result<ObjectPart<'a>, Unpassed>
     requires iri { 64 ≤ limit }
@@ -281,7 +290,7 @@ fn object<'a, A: Allocator + Copy>(
 {
     match after_byte(text, b'"') {
         Some(text) => {
-            let string = string(text, value)?;
+            let string = string(text, alloc, value)?;
             let tail = tail(string.rest, limit)?;
             Ok(ObjectPart {
                 object: TermRef::Literal(LiteralRef::new(string.lexical, tail.tail)),
@@ -312,6 +321,7 @@ fn term_of(subject: SubjectRef<'_>) -> TermRef<'_>
 // A string, whose opening quote came before.
 fn string<'a, A: Allocator + Copy>(
     text: &'a str,
+    alloc: A,
     value: &'a mut String<A>,
 ) -> Result<StringPart<'a>, Unpassed>
     ensures { IfOk result (λ p. StringSpelled (chars p.lexical.now) text.now p.rest.now) }
@@ -322,20 +332,21 @@ fn string<'a, A: Allocator + Copy>(
             lexical: &text[..end],
             rest,
         }),
-        None => escaped_string(text, value),
+        None => escaped_string(text, alloc, value),
     }
 }
 
 // One with escapes stands where its value was put.
 fn escaped_string<'a, A: Allocator + Copy>(
     text: &'a str,
+    alloc: A,
     value: &'a mut String<A>,
 ) -> Result<StringPart<'a>, Unpassed>
     ensures { IfOk result (λ p. StringSpelled (chars p.lexical.now) text.now p.rest.now) }
 {
     let end = string_end(text.as_bytes());
     let rest = skip_byte_at(text, end, b'"')?;
-    set_string_value(value, &text[..end])?;
+    *value = string_value(alloc, &text[..end])?;
     Ok(StringPart {
         lexical: value.as_str(),
         rest,

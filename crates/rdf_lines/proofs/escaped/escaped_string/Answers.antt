@@ -12,5 +12,5 @@ returns g c =
     let value : part ≡ take end text = c.range.ensures.value ∙ front_slice text end in
     let clear : is_clear false (take end text) ≡ true =
     subst (λ x. is_clear false (take end x) ≡ true) c.as_bytes.ensures.value c.string_end-end.ensures.clear in
-    string_spelled part c.as_str.result.now _ text rest c.range.utf8 c.as_str.utf8 c.as_str.ensures.value c.in_ok-set_string_value.ensures.ok
+    string_spelled part c.as_str.result.now _ text rest c.range.utf8 c.as_str.utf8 c.as_str.ensures.value c.in_ok-value.ensures.ok
     (ap (is_clear false) value ∙ clear) (c.in_ok-rest.ensures ∙ ap (λ x. x ++ 34 ∷ rest) (sym value))
