@@ -263,6 +263,7 @@ pub(crate) fn iri(text: &str, limit: u64) -> Option<IriPart<'_>>
 }
 
 // A label, whose `_:` came before.
+#[inline(always)]
 pub(crate) fn label(text: &str) -> Option<NamePart<'_>>
     ensures { IfSome result (λ p. NameStands IsLabel (chars p.name.now) text.now p.rest.now) }
 {
@@ -305,6 +306,7 @@ fn any_label(text: &str) -> Option<NamePart<'_>>
 }
 
 // A language tag, whose `@` came before.
+#[inline(always)]
 pub(crate) fn tag(text: &str) -> Option<NamePart<'_>>
     ensures { IfSome result (λ p. NameStands IsTag (chars p.name.now) text.now p.rest.now) }
 {

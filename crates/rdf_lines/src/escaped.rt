@@ -25,7 +25,7 @@ use rdf_terms::{
 };
 use std::alloc::{AllocError, Allocator, Global};
 
-/// How many bytes are looked at for the end of a string.
+/// How many bytes are looked at for the end of a string with escapes.
 const LONGEST: usize = 2048;
 
 /// What the escapes of a line mean: the texts of its subject, its predicate, its object and its graph label. Their
@@ -332,19 +332,22 @@ fn string<'a, A: Allocator + Copy>(
             lexical: &text[..end],
             rest,
         }),
-        None => escaped_string(text, alloc, value),
+        None => escaped_string(text, end, alloc, value),
     }
 }
 
-// One with escapes stands where its value was put.
+// One with escapes, which is clear up to a place, stands where its value was put.
 fn escaped_string<'a, A: Allocator + Copy>(
     text: &'a str,
+    from: usize,
     alloc: A,
     value: &'a mut String<A>,
 ) -> Result<StringPart<'a>, Unpassed>
+    requires within { from ≤ length text.now }
+    requires clear { is_clear false (take from text.now) ≡ true }
     ensures { IfOk result (λ p. StringSpelled (chars p.lexical.now) text.now p.rest.now) }
 {
-    let end = string_end(text.as_bytes());
+    let end = string_end(text.as_bytes(), from);
     let rest = skip_byte_at(text, end, b'"')?;
     *value = string_value(alloc, &text[..end])?;
     Ok(StringPart {
@@ -353,20 +356,27 @@ fn escaped_string<'a, A: Allocator + Copy>(
     })
 }
 
-// Where the inside of a string ends, whatever its escapes are.
-fn string_end(bytes: &[u8]) -> usize
+// Where the inside of a string ends, whatever its escapes are, which is clear up to a place.
+fn string_end(bytes: &[u8], from: usize) -> usize
+    requires within { from ≤ length bytes.now }
+    requires clear { is_clear false (take from bytes.now) ≡ true }
     ensures within { result ≤ length bytes.now }
     ensures clear { is_clear false (take result bytes.now) ≡ true }
 {
-    clear_front(&bytes[..bytes.len().min(LONGEST)])
+    if from >= LONGEST {
+        return from;
+    }
+    clear_front(&bytes[..bytes.len().min(LONGEST)], from)
 }
 
-// How many bytes at the front of some are clear.
-fn clear_front(bytes: &[u8]) -> usize
+// How many bytes at the front of some are clear, where so many are.
+fn clear_front(bytes: &[u8], from: usize) -> usize
+    requires within { from ≤ length bytes.now }
+    requires clear { is_clear false (take from bytes.now) ≡ true }
     ensures within { result ≤ length bytes.now }
     ensures clear { is_clear false (take result bytes.now) ≡ true }
 {
-    let mut at = clear_end(bytes, 0);
+    let mut at = from;
     while bytes.len() - at >= 2 && bytes[at] == b'\\' {
         at = clear_end(bytes, at + 2);
     }
