@@ -73,6 +73,16 @@ def escaped(out):
     put_numbered(out, 1, lambda n: '<http://example.org/\\u00E9dition/%d> <http://example.org/terms/title> "%s %d\\n"@ru .\n' % (n, title, n))
 
 
+def tabs(out):
+    """Lines with a tab after each part, as some stores dump them."""
+    put_numbered(out, 1, lambda n: '<http://example.org/library/book-%d>\t<http://example.org/terms/title>\t"%s"@en\t.\n' % (n, TITLES[n % 2 * 2]))
+
+
+def wide_ends(out):
+    """Lines with three spaces before their dots, as crawls are dumped."""
+    put_numbered(out, 1, lambda n: '_:node%032x <http://example.org/terms/title> "%s"@en <http://example.org/page-%d>   .\n' % (n, TITLES[n % 2 * 2], n // 5))
+
+
 def carriage_returns(out):
     """Lines that end in CR and LF."""
     put_numbered(out, 1, lambda n: '<http://example.org/library/book-%d> <http://example.org/terms/title> "%s" .\r\n' % (n, TITLES[0]))
@@ -310,6 +320,8 @@ DOCUMENTS = {
     'literals': Document('Four literals', 'nt', ['--token', str(MOST_TOKEN)], literals),
     'plain': Document('Lines of IRIs', 'nt', [], plain),
     'escaped': Document('Lines of escapes', 'nt', [], escaped),
+    'tabs': Document('Lines with tabs', 'nt', [], tabs),
+    'wide': Document('Lines with spaces before the dot', 'nq', [], wide_ends),
     'crlf': Document('Lines with CR and LF', 'nt', [], carriage_returns),
     'short': Document('Short lines', 'nt', [], short_lines),
     'long': Document('Literals of 100 kB', 'nt', [], long_lines),
