@@ -27,7 +27,7 @@ TOP = os.path.dirname(os.path.dirname(os.path.abspath(__file__)))
 PROGRAM = os.path.join(TOP, 'crates', 'rdf_tool', 'out', 'rdf_tool')
 COPY = os.path.join(TOP, 'crates', 'utf8_copy', 'out', 'utf8_copy')
 LONG = {'nt': 'ntriples', 'nq': 'nquads', 'ttl': 'turtle', 'trig': 'trig'}
-KINDS = ['catalogue', 'vocabulary', 'nt', 'plain', 'escaped', 'crlf', 'short', 'long', 'nq', 'ttl', 'indented', 'trig', 'names', 'objects', 'collection', 'labels', 'small',
+KINDS = ['catalogue', 'vocabulary', 'nt', 'plain', 'escaped', 'tabs', 'wide', 'crlf', 'short', 'long', 'nq', 'ttl', 'indented', 'trig', 'names', 'objects', 'collection', 'labels', 'small',
          'blanks', 'comments', 'nested', 'prefixes', 'references', 'literal']
 
 
